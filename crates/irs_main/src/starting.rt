@@ -4,14 +4,19 @@ ghost use Rattle.std.specs.Prelude.{◌≡◌, ◌⊎◌, ◌<◌, IfErr};
 
 use crate::answering::{answer, explain};
 use crate::standard_error::StandardError;
+use irs_base::Line;
 use irs_cli::{RealFiles, RealSink, Status};
 use irs_plain::Kept;
 use std::env;
+use std::env::Env;
 use std::io::ErrorKind;
+
+/// The most bytes of a word: Linux gives a program no longer one.
+const LONGEST_WORD: usize = 131_072;
 
 /// Does what the words of the command line call for, and returns the exit status. It is that of
 /// `answer` where the words can be gathered. Else it is 7 where memory runs out, and 9 for a word
-/// that isn't text.
+/// that isn't text. The sentence for 9 says which word that is.
 pub fn status_of(rt: &HostRuntime) -> u8
     ensures { result < 10 }
 {
@@ -23,10 +28,37 @@ pub fn status_of(rt: &HostRuntime) -> u8
             answer(rt.alloc(), &words, &mut files, &mut out, &mut errors)
         }
         Err(status) => {
-            explain(&mut errors, &[], status, &[]);
+            let line = line_of(rt, status);
+            explain(&mut errors, &[], status, line.bytes());
             status
         }
     }
+}
+
+// What the sentence is made of where the words can't be gathered: for 9 it is `not text N`, where N is the
+// number of the word. Nothing of it is printed. Else it is empty.
+fn line_of(rt: &HostRuntime, status: u8) -> Line {
+    let mut line = Line::new();
+    if status == Status::NotText.number()
+        && let Some(number) = odd_word(rt)
+    {
+        line.push(b"not text ");
+        line.push_number(number);
+    }
+    line
+}
+
+// The number of the first word after the program's name that isn't text. `None` where there is none, as
+// where the name itself isn't text, or where memory ran out.
+fn odd_word(rt: &HostRuntime) -> Option<u32> {
+    let mut room = Vec::from_elem(rt.alloc(), 0, LONGEST_WORD).ok()?;
+    for number in 1..u32::MAX {
+        let length = rt.arg(number as usize, &mut room).ok()?;
+        if str::from_utf8(&room[..length]).is_err() {
+            return Some(number);
+        }
+    }
+    None
 }
 
 // The words after the program's name. Where they can't be had, the status is 7 where memory ran

@@ -3,3 +3,4 @@ pub mod KeptLemmas
 pub mod StatusLemmas
 pub mod CutLemmas
 pub mod ShownLaws
+pub mod SlipLemmas

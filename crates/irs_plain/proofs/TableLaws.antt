@@ -1,7 +1,8 @@
 -- The code's lists are those of the specification.
 use Rattle.irs_plain.specs.Rules.{codes_of, rows, texts_after, texts_before}
-use Rattle.irs_plain.specs.Usage.{commands}
+use Rattle.irs_plain.specs.Usage.{commands, parameters}
 use Rattle.irs_plain.specs.declared.help.TheConstants.{COMMANDS}
+use Rattle.irs_plain.specs.declared.usage.TheConstants.{PARAMETERS}
 use Rattle.irs_plain.specs.declared.table.TheConstants.{AFTER, BEFORE, RULES}
 use Rattle.std.proofs.Common.{◌≡◌, map, refl}
 
@@ -24,3 +25,8 @@ after_are = refl
 pub commands_are : map (λ n. n.now) COMMANDS ≡ commands
 unfolding commands
 commands_are = refl
+
+-- the code's parameters are those of the specification
+pub parameters_are : map (λ n. n.now) PARAMETERS ≡ parameters
+unfolding parameters
+parameters_are = refl

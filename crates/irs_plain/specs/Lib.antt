@@ -7,3 +7,5 @@ pub mod Sentences
 pub mod Kept
 pub mod Shown
 pub mod Usage
+pub mod Slips
+pub mod WrongWords

@@ -2,8 +2,8 @@
 use Rattle.irs_plain.specs.Cuts.{fifth, fourth, front, second, sixth, third}
 use Rattle.irs_plain.specs.Elements.{holder, name_words, possessive}
 use Rattle.irs_plain.specs.Lookup.{after, before}
-use Rattle.irs_plain.specs.Usage.{usage_of}
 use Rattle.irs_plain.specs.Words.{calendar_name, command, document_name, fixings_name, flows_name, named}
+use Rattle.irs_plain.specs.WrongWords.{is_help, unlisted}
 use Rattle.irs_plain.specs.declared.lines.Sentence.{Sentence}
 use Rattle.std.specs.Prelude.{ℕ, ◌==◌, ◌||◌, ◌&&◌, nat_eq, Bool, not, List, [], ◌∷◌, ◌++◌, map, codes, if◌then◌else◌}
 use Rattle.std.specs.List.{ends_with}
@@ -156,16 +156,20 @@ uncompared words line =
 abbrev pub done : List (List ℕ) → List ℕ → List (List ℕ)
 done words line = if lacks_fixings words line then uncompared words line else []
 
--- ---- words that are no listed command
+-- ---- a file that couldn't be read, and a word that isn't text
 
--- how the command is called, where it is listed
-abbrev pub called : List ℕ → List (List ℕ)
-called [] = codes "these words are no listed command: " ∷ codes "irs --help lists them" ∷ []
-called (b ∷ bs) = codes "these words don't fit the command: " ∷ (b ∷ bs) ∷ []
+-- what is added where the name of a file asks for help
+abbrev pub help_hint : List ℕ → List ℕ
+help_hint name = if is_help name then codes " (irs --help explains the commands)" else []
 
--- what is said of words that are no listed command
-abbrev pub unlisted : List (List ℕ) → List (List ℕ)
-unlisted words = called (usage_of (command words))
+-- the file at this place couldn't be read
+abbrev pub unreadable : List ℕ → List (List ℕ)
+unreadable name = codes "couldn't be read: " ∷ name ∷ help_hint name ∷ []
+
+-- which word isn't text, where its place is known
+abbrev pub no_text : List ℕ → List (List ℕ)
+no_text [] = codes "a word of the command line isn't text" ∷ []
+no_text (b ∷ bs) = codes "word " ∷ (b ∷ bs) ∷ codes " isn't text" ∷ []
 
 -- ---- every status
 
@@ -180,11 +184,11 @@ told words status line =
     else (if status == 2 then refused words line
     else (if status == 3 then bad_file words line
     else (if status == 4 then unlisted words
-    else (if status == 5 then codes "couldn't be read: " ∷ named words (third line) ∷ []
+    else (if status == 5 then unreadable (named words (third line))
     else (if status == 6 then codes "the text couldn't be written to standard output" ∷ []
     else (if status == 7 then codes "there wasn't enough memory" ∷ []
     else (if status == 8 then named words (third line) ∷ codes " has more than 4,194,304 bytes" ∷ []
-    else (if status == 9 then codes "a word of the command line isn't text" ∷ []
+    else (if status == 9 then no_text (third line)
     else (if status == 0 then done words line else [])))))))))
 
 -- the sentence for what the program wrote with a status

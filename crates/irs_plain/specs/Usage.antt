@@ -1,4 +1,4 @@
--- The listed commands, and how one of them is called.
+-- The listed commands, how one of them is called, and what their parameters have to be.
 use Rattle.irs_plain.specs.Cuts.{front}
 use Rattle.std.specs.Prelude.{ℕ, List, [], ◌∷◌, codes, if◌then◌else◌}
 use Rattle.std.specs.Str.{bytes_eq}
@@ -21,7 +21,25 @@ commands =
     ∷ codes "bulk N"
     ∷ []
 
--- the line of the command with this name, empty where there is none
+-- a line a parameter: its name in the lines above, and what it has to be
+unfoldable pub parameters : List (List ℕ)
+parameters =
+    codes "DOC a file"
+    ∷ codes "FIX a file or -"
+    ∷ codes "FLOWS a file"
+    ∷ codes "DAILY a file or -"
+    ∷ codes "DATE a date YYYY-MM-DD"
+    ∷ codes "FROM a date YYYY-MM-DD, or - for all"
+    ∷ codes "STREAM a number from 1 to 8"
+    ∷ codes "KIND plain or weighted"
+    ∷ codes "STEP a number of days or weeks, such as 1D"
+    ∷ codes "SIDE initial or final"
+    ∷ codes "LOW a period such as 1M"
+    ∷ codes "HIGH a period such as 3M"
+    ∷ codes "N a number from 1 to 500"
+    ∷ []
+
+-- the line with this name, empty where there is none
 abbrev pub line_of : List (List ℕ) → List ℕ → List ℕ
 line_of [] name = []
 line_of (line ∷ lines) name = if bytes_eq (front 32 line) name then line else line_of lines name

@@ -9,13 +9,16 @@ mod kept;
 mod lines;
 mod lookup;
 mod shown;
+mod slips;
 mod table;
 mod usage;
 mod words;
+mod wrong_words;
 
 pub use help::{COMMANDS, HELP, VERSION};
 pub use kept::Kept;
 pub use lines::{Sentence, is_silent, meaning};
 pub use shown::shown_words;
+pub use slips::slips_are_found;
 pub use table::rules_listed;
-pub use usage::commands_listed;
+pub use usage::{commands_listed, parameters_listed};

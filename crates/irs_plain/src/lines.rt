@@ -3,8 +3,8 @@ ghost use Rattle.irs_plain.specs.Sentences.{about as about_of, after_in as after
 ghost use Rattle.irs_plain.specs.Sentences.{bad_calendar as bad_calendar_of};
 ghost use Rattle.irs_plain.specs.Sentences.{bad_file as bad_file_of, bad_fixings as bad_fixings_of};
 ghost use Rattle.irs_plain.specs.Sentences.{bad_flows as bad_flows_of, broken as broken_of};
-ghost use Rattle.irs_plain.specs.Sentences.{calendar_fault as calendar_fault_of, called as called_of};
-ghost use Rattle.irs_plain.specs.Sentences.{not_agreed as not_agreed_of, unlisted as unlisted_of};
+ghost use Rattle.irs_plain.specs.Sentences.{calendar_fault as calendar_fault_of, help_hint as help_hint_of};
+ghost use Rattle.irs_plain.specs.Sentences.{no_text as no_text_of, not_agreed as not_agreed_of};
 ghost use Rattle.irs_plain.specs.Sentences.{departure as departure_of, done as done_of, ending as ending_of};
 ghost use Rattle.irs_plain.specs.Sentences.{fixing_fault as fixing_fault_of, is_of_field as is_of_field_of};
 ghost use Rattle.irs_plain.specs.Sentences.{is_silent as is_silent_of, joined, lacks_fixings as lacks_fixings_of};
@@ -12,6 +12,7 @@ ghost use Rattle.irs_plain.specs.Sentences.{number_told as number_told_of, of_fi
 ghost use Rattle.irs_plain.specs.Sentences.{refused as refused_of, said, sentence_of, stream_words as stream_words_of};
 ghost use Rattle.irs_plain.specs.Sentences.{told as told_of, unless_stream as unless_stream_of};
 ghost use Rattle.irs_plain.specs.Sentences.{uncompared as uncompared_of, unless_zero as unless_zero_of};
+ghost use Rattle.irs_plain.specs.Sentences.{unreadable as unreadable_of};
 ghost use Rattle.irs_plain.specs.Sentences.{verb as verb_of};
 ghost use Rattle.irs_plain.specs.Words.{texts};
 ghost use Rattle.std.specs.Prelude.{◌≡◌, [], ◌∷◌};
@@ -19,8 +20,8 @@ ghost use Rattle.std.specs.Prelude.{◌≡◌, [], ◌∷◌};
 use crate::cuts::{fifth, fourth, front, is, second, sixth, third};
 use crate::elements::{holder, name_words, possessive};
 use crate::lookup::{after, before};
-use crate::usage::usage;
 use crate::words::{calendar_name, command, document_name, fixings_name, flows_name, named};
+use crate::wrong_words::{is_help, unlisted};
 use irs_base::Status;
 
 /// The most parts of a sentence.
@@ -33,13 +34,30 @@ pub struct Sentence<'a> {
     pub parts: [&'a [u8]; PARTS],
 }
 
-// A sentence of three parts.
-fn short<'a>(first: &'a [u8], second: &'a [u8], third: &'a [u8]) -> Sentence<'a>
+/// A sentence of three parts.
+pub(crate) fn short<'a>(first: &'a [u8], second: &'a [u8], third: &'a [u8]) -> Sentence<'a>
     ensures { said result ≡ joined (first.now ∷ second.now ∷ third.now ∷ []) }
 {
     Sentence {
         parts: [
             first, second, third, b"", b"", b"", b"", b"", b"", b"", b"", b"", b"",
+        ],
+    }
+}
+
+/// A sentence of five parts.
+pub(crate) fn of_five<'a>(
+    first: &'a [u8],
+    second: &'a [u8],
+    third: &'a [u8],
+    fourth: &'a [u8],
+    fifth: &'a [u8],
+) -> Sentence<'a>
+    ensures { said result ≡ joined (first.now ∷ second.now ∷ third.now ∷ fourth.now ∷ fifth.now ∷ []) }
+{
+    Sentence {
+        parts: [
+            first, second, third, fourth, fifth, b"", b"", b"", b"", b"", b"", b"", b"",
         ],
     }
 }
@@ -379,28 +397,35 @@ fn done<'a>(words: &'a [String], line: &'a [u8]) -> Sentence<'a>
     }
 }
 
-// ---- words that are no listed command
+// ---- a file that couldn't be read, and a word that isn't text
 
-// How the command is called, where it is listed.
-fn called(usage: &[u8]) -> Sentence<'_>
-    ensures { said result ≡ joined (called_of usage.now) }
+// What is added where the name of a file asks for help.
+fn help_hint<'a>(name: &[u8]) -> &'a [u8]
+    ensures { result.now ≡ help_hint_of name.now }
 {
-    if usage.is_empty() {
-        short(
-            b"these words are no listed command: ",
-            b"irs --help lists them",
-            b"",
-        )
+    if is_help(name) {
+        b" (irs --help explains the commands)"
     } else {
-        short(b"these words don't fit the command: ", usage, b"")
+        b""
     }
 }
 
-// What is said of words that are no listed command.
-fn unlisted(words: &[String]) -> Sentence<'static>
-    ensures { said result ≡ joined (unlisted_of (texts words.now)) }
+// The file of this name couldn't be read.
+fn unreadable(name: &[u8]) -> Sentence<'_>
+    ensures { said result ≡ joined (unreadable_of name.now) }
 {
-    called(usage(command(words)))
+    short(b"couldn't be read: ", name, help_hint(name))
+}
+
+// Which word isn't text, where its place is known.
+fn no_text(place: &[u8]) -> Sentence<'_>
+    ensures { said result ≡ joined (no_text_of place.now) }
+{
+    if place.is_empty() {
+        short(b"a word of the command line isn't text", b"", b"")
+    } else {
+        short(b"word ", place, b" isn't text")
+    }
 }
 
 // ---- every status
@@ -415,7 +440,7 @@ fn told<'a>(words: &'a [String], status: u8, line: &'a [u8]) -> Sentence<'a>
         Some(Status::RuleBroken) => refused(words, line),
         Some(Status::BadFile) => bad_file(words, line),
         Some(Status::BadWords) => unlisted(words),
-        Some(Status::NoFile) => short(b"couldn't be read: ", named(words, third(line)), b""),
+        Some(Status::NoFile) => unreadable(named(words, third(line))),
         Some(Status::PutFailed) => short(
             b"the text couldn't be written to standard output",
             b"",
@@ -427,7 +452,7 @@ fn told<'a>(words: &'a [String], status: u8, line: &'a [u8]) -> Sentence<'a>
             b" has more than 4,194,304 bytes",
             b"",
         ),
-        Some(Status::NotText) => short(b"a word of the command line isn't text", b"", b""),
+        Some(Status::NotText) => no_text(third(line)),
         Some(Status::Done) => done(words, line),
         None => short(b"", b"", b""),
     }

@@ -15,8 +15,8 @@ ghost use Rattle.std.specs.Prelude.{◌≡◌, ◌≤◌};
 
 use crate::cuts::is;
 
-// The word at a place, where the command has place 0; empty past the last one.
-fn word_at(words: &[String], place: usize) -> &[u8]
+/// The word at a place, where the command has place 0; empty past the last one.
+pub(crate) fn word_at(words: &[String], place: usize) -> &[u8]
     ensures { result.now ≡ word_at_of (texts words.now) place }
 {
     match words.get(place) {
