@@ -39,7 +39,8 @@ uint8_t irs_run(const struct irs_bytes *words, size_t n_words,
 
 /* What the line of an answer means, in one plain sentence: the words of the command, and the status and
    the text that irs_run answered. Answers 0, or 7 where memory ran out, or 9 where a word isn't UTF-8. The
-   sentence goes to `out` and its length to `*needed` as the text of irs_run does; at status 0 it is empty,
+   sentence is one line: controls in a word are shown by their numbers, as the program does (docs/FORMATS.md). It
+   goes to `out` and its length to `*needed` as the text of irs_run does; at status 0 it is empty,
    but for an audit whose line says that amounts lack a fixing. */
 uint8_t irs_meaning(const struct irs_bytes *words, size_t n_words, uint8_t status,
                     const uint8_t *line, size_t line_len,

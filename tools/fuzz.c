@@ -199,7 +199,7 @@ static void look_at(const struct answer *is, const struct input *in) {
     }
 }
 
-/* The meaning of an answer is one line, and none where all is done; a character that isn't plain is one of the words. */
+/* The meaning of an answer is one line without controls, and none where all is done. */
 static void look_at_meaning(const struct answer *is, const struct input *in) {
     size_t length = 0, again = 0;
     uint8_t done = irs_meaning(in->words, in->n_words, is->status, is->text, is->length, (uint8_t *)"", 0, &length);
@@ -214,11 +214,8 @@ static void look_at_meaning(const struct answer *is, const struct input *in) {
     irs_meaning(in->words, in->n_words, is->status, is->text, is->length, text, length + 1, &again);
     if (again != length || text[length] != UNTOUCHED) broken("the second call means otherwise");
     if (memchr(text, '\n', length)) broken("a meaning of several lines");
-    for (size_t i = 0, known; i < length; i++) {
-        for (size_t w = known = 0; w < in->n_words && text[i] < ' '; w++)
-            known |= memchr(in->words[w].at, text[i], in->words[w].len) != NULL;
-        if (text[i] < ' ' && !known) broken("a control character in a meaning");
-    }
+    for (size_t i = 0; i < length; i++)
+        if (text[i] < ' ' || text[i] == 127) broken("a control character in a meaning");
     free(text);
 }
 

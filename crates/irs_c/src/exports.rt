@@ -6,12 +6,13 @@ ghost use Rattle.irs_cli.specs.Given.{TellsAll};
 ghost use Rattle.irs_c.specs.Given.{words_in, file_in, AreText, IsAbsent};
 ghost use Rattle.irs_c.specs.Shown.{Shown};
 ghost use Rattle.irs_plain.specs.Sentences.{joined as joined_of, sentence_of};
+ghost use Rattle.irs_plain.specs.Shown.{shown};
 
 use crate::given::{Bytes, File, GivenFiles};
 use crate::kept::Kept;
 use irs_base::Status;
 use irs_cli::run;
-use irs_plain::{VERSION, meaning};
+use irs_plain::{VERSION, meaning, shown_words};
 use std::alloc::Global;
 
 /// Runs a command of the program over lent words and files, and returns its status. 0: done. 1: the
@@ -70,8 +71,8 @@ pub extern "C" fn irs_run(
 /// `status` and `line` are what `irs_run` returned. It returns 0 when done, 7 where memory ran out,
 /// and 9 where a word isn't UTF-8.
 ///
-/// The sentence goes to `out` as far as it has room, and its length to `needed`, as the text of
-/// `irs_run` does. At 0 as `status` it is empty, but for an audit whose line
+/// The sentence has each word as `shown_words` of irs_plain shows it: one line, without controls. It
+/// goes to `out` as far as it has room, and its length to `needed`, as the text of `irs_run` does. At 0 as `status` it is empty, but for an audit whose line
 /// says that amounts lack a fixing.
 #[unsafe(no_mangle)]
 pub extern "C" fn irs_meaning(
@@ -88,7 +89,9 @@ pub extern "C" fn irs_meaning(
         × (needed.new ≡ 0) }
     // The sentence comes only where each word is UTF-8.
     ensures text { result ≡ 0 → AreText words.now }
-    ensures done { result ≡ 0 → Shown out.old out.new needed.new (sentence_of (words_in words.now) status line.now) }
+    // It is that of the words as they are shown.
+    ensures done { result ≡ 0 → Shown out.old out.new needed.new
+        (sentence_of (map shown (words_in words.now)) status line.now) }
     ensures listed { (result ≡ 0) ⊎ ((result ≡ 7) ⊎ (result ≡ 9)) }
 {
     match sentence(alloc, words, status, line) {
@@ -118,13 +121,27 @@ pub extern "C" fn irs_version(out: &mut [u8], needed: &mut usize)
 
 // The sentence, or 7 or 9 where there is none.
 fn sentence(alloc: Global, words: &[Bytes<'_>], status: u8, line: &[u8]) -> Result<Vec<u8>, u8>
-    ensures done { IfOk result (λ t. t.items ≡ sentence_of (words_in words.now) status line.now) }
+    ensures done { IfOk result (λ t. t.items ≡ sentence_of (map shown (words_in words.now)) status line.now) }
+    ensures text { IfOk result (λ _. AreText words.now) }
+    ensures not_text { IfErr result (λ s. s ≡ 9 → AreText words.now → ⊥) }
+    ensures err { IfErr result (λ s. (s ≡ 7) ⊎ (s ≡ 9)) }
+{
+    let words = shown_words_of(alloc, words)?;
+    joined(alloc, &meaning(&words, status, line).parts)
+}
+
+// The words as a sentence shows them, or 9 where one isn't UTF-8, or 7 where memory ran out.
+fn shown_words_of(alloc: Global, words: &[Bytes<'_>]) -> Result<Vec<String>, u8>
+    ensures ok { IfOk result (λ v. texts v.items ≡ map shown (words_in words.now)) }
     ensures text { IfOk result (λ _. AreText words.now) }
     ensures not_text { IfErr result (λ s. s ≡ 9 → AreText words.now → ⊥) }
     ensures err { IfErr result (λ s. (s ≡ 7) ⊎ (s ≡ 9)) }
 {
     let words = words_of(alloc, words)?;
-    joined(alloc, &meaning(&words, status, line).parts)
+    match shown_words(alloc, &words) {
+        Ok(all) => Ok(all),
+        Err(_) => Err(Status::NoMemory.number()),
+    }
 }
 
 // The parts of a sentence one after the other, or 7 where memory ran out.

@@ -1,5 +1,5 @@
--- Words that differ by one slip of the one who types: a letter left out, one too many, one in place of another, or
--- two neighbours exchanged. A letter is a byte.
+-- Words that differ by one slip of the one who types. A letter is left out, one is too many, one is in place of
+-- another, or two neighbours are exchanged. A letter is a byte.
 use Rattle.std.specs.Prelude.{◌≡◌, ◌⊎◌, ℕ, ◌==◌, ◌||◌, ◌&&◌, Bool, false, List, [], ◌∷◌, ◌++◌, if◌then◌else◌}
 use Rattle.std.specs.Str.{bytes_eq}
 

@@ -29,7 +29,7 @@ takes_calendars usage = ends_with nat_eq usage (codes " CAL..")
 abbrev pub most_words : List ℕ → ℕ
 most_words usage = if takes_calendars usage then fields usage - 1 + most_files else fields usage
 
--- ---- help that is asked for in other words than `--help` alone
+-- ---- words for help other than `--help` alone
 
 -- the word asks for help
 abbrev pub is_help : List ℕ → Bool
@@ -39,7 +39,7 @@ is_help word = bytes_eq word (codes "--help") || bytes_eq word (codes "-h")
 abbrev pub is_help_command : List ℕ → Bool
 is_help_command word = is_help word || bytes_eq word (codes "help")
 
--- what is said where help is asked for, with the line of the command if there is one
+-- what is said of words for help, with the line of the command if there is one
 abbrev pub helped : List ℕ → List (List ℕ)
 helped [] = codes "irs --help explains the commands" ∷ []
 helped (b ∷ bs) = codes "irs --help explains this command: " ∷ (b ∷ bs) ∷ []

@@ -71,7 +71,7 @@ fn most_words(usage: &[u8]) -> usize
     }
 }
 
-// ---- help that is asked for in other words than `--help` alone
+// ---- words for help other than `--help` alone
 
 /// Whether a word asks for help.
 pub(crate) fn is_help(word: &[u8]) -> bool
@@ -87,7 +87,7 @@ fn is_help_command(word: &[u8]) -> bool
     is_help(word) || is(word, "help")
 }
 
-// What is said where help is asked for, with the line of the command if there is one.
+// What is said of words for help, with the line of the command if there is one.
 fn helped(usage: &[u8]) -> Sentence<'_>
     ensures { said result ≡ joined (helped_of usage.now) }
 {
