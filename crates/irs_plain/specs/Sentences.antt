@@ -60,14 +60,14 @@ refused words line =
 -- what is wrong with a line of a calendar file
 abbrev pub calendar_fault : List ℕ → List ℕ
 calendar_fault fault =
-    if bytes_eq fault (codes "repeat") then codes "this centre stands already"
+    if bytes_eq fault (codes "repeat") then codes "this centre is there already"
     else (if bytes_eq fault (codes "toomany") then codes "a centre has at most 20,000 holidays" else codes
-    "this line can't stand here")
+    "this line isn't allowed here")
 
 -- what is wrong with a line of a fixing file
 abbrev pub fixing_fault : List ℕ → List ℕ
 fixing_fault fault =
-    if bytes_eq fault (codes "repeat") then codes "this date, tenor and index stand already" else codes
+    if bytes_eq fault (codes "repeat") then codes "this date, tenor and index are there already" else codes
     "this line isn't DATE RATE TENOR INDEX"
 
 -- `bad calendar FILE LINE FAULT`

@@ -159,11 +159,11 @@ fn calendar_fault<'a>(fault: &[u8]) -> &'a [u8]
     ensures { result.now ≡ calendar_fault_of fault.now }
 {
     if is(fault, "repeat") {
-        b"this centre stands already"
+        b"this centre is there already"
     } else if is(fault, "toomany") {
         b"a centre has at most 20,000 holidays"
     } else {
-        b"this line can't stand here"
+        b"this line isn't allowed here"
     }
 }
 
@@ -172,7 +172,7 @@ fn fixing_fault<'a>(fault: &[u8]) -> &'a [u8]
     ensures { result.now ≡ fixing_fault_of fault.now }
 {
     if is(fault, "repeat") {
-        b"this date, tenor and index stand already"
+        b"this date, tenor and index are there already"
     } else {
         b"this line isn't DATE RATE TENOR INDEX"
     }
