@@ -97,6 +97,7 @@ at : (typed meant typed_is meant_is : List ℕ) → typed ≡ typed_is → meant
 at typed meant typed_is meant_is one other h =
     ap (λ (x : List ℕ). is_slip x meant) one ∙ ap (λ (x : List ℕ). is_slip typed_is x) other ∙ h
 
+-- the test finds every slip
 pub found : (typed meant : List ℕ) → IsSlip typed meant → is_slip typed meant ≡ true
 found typed meant (inl s) =
     at typed meant _ _ s.is_text s.is_other
@@ -216,6 +217,7 @@ by_first t m typed meant true is after h =
 by_first t m typed meant false is after h =
     is_here t m typed meant (λ e. true≢false (sym ((Decides-eqb t m).1 e) ∙ is)) h
 
+-- the test finds only slips
 pub only : (typed meant : List ℕ) → is_slip typed meant ≡ true → IsSlip typed meant
 only [] [] h = absurd (true≢false (sym h))
 only [] (m ∷ meant) h = inl (lacks_one m [] meant (sym ((bytes_eq-Decides meant []).0 h)))

@@ -1,7 +1,6 @@
 //! Words that differ by one slip of the one who types.
 ghost use Rattle.irs_plain.specs.Slips.{IsSlip, is_exchanged as is_exchanged_of, is_slip as is_slip_of};
-ghost use Rattle.irs_plain.specs.Slips.{is_slip_here as is_slip_here_of};
-ghost use Rattle.std.specs.Prelude.{◌≡◌, ◌∷◌, ℕ, List, true};
+ghost use Rattle.std.specs.Prelude.{◌≡◌, ℕ, List, true};
 
 use crate::cuts::is;
 

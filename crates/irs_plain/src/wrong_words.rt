@@ -7,7 +7,7 @@ ghost use Rattle.irs_plain.specs.WrongWords.{field_at as field_at_of, fields as 
 ghost use Rattle.irs_plain.specs.WrongWords.{is_help as is_help_of, is_help_command as is_help_command_of};
 ghost use Rattle.irs_plain.specs.WrongWords.{is_lacking as is_lacking_of, lacking as lacking_of, misfit as misfit_of};
 ghost use Rattle.irs_plain.specs.WrongWords.{most_told as most_told_of, most_words as most_words_of};
-ghost use Rattle.irs_plain.specs.WrongWords.{nearest as nearest_of, needs_of, takes_calendars as takes_calendars_of};
+ghost use Rattle.irs_plain.specs.WrongWords.{nearest as nearest_of, takes_calendars as takes_calendars_of};
 ghost use Rattle.irs_plain.specs.WrongWords.{unknown as unknown_of, unlisted as unlisted_of, unlisted_as as unlisted_as_of};
 ghost use Rattle.std.specs.Prelude.{◌≡◌, ◌≤◌, ◌+◌, length};
 
