@@ -30,6 +30,12 @@ int main(void) {
     struct irs_bytes bad[] = { S("check"), S("\xff\xfe") };
     memset(out, '#', sizeof out);
     CHECK(irs_run(bad, 2, files, 3, out, 64, &needed) == 9 && needed == 0 && out[0] == '#');
+    /* what a line means: one line, with the controls of a word shown by their numbers */
+    struct irs_bytes named[] = { S("check"), S("\x1b[2J\n") };
+    memset(out, '#', sizeof out);
+    CHECK(irs_meaning(named, 2, 5, (const uint8_t *)"no file 1\n", 10, out, sizeof out, &needed) == 0);
+    CHECK(needed == 29 && !memcmp(out, "couldn't be read: \\x1b[2J\\x0a#", 30));
+    CHECK(irs_meaning(bad, 2, 5, (const uint8_t *)"no file 1\n", 10, out, sizeof out, &needed) == 9 && needed == 0);
     /* any bytes in the name and the contents of a file that no word names */
     struct irs_file odd[] = { { S("\xff\0\xc0"), S("x") }, { S("D"), S("\0\xff\xfe\0") } };
     CHECK(irs_run(words, 2, odd, 2, out, 64, &needed) == 2 && needed == length);
