@@ -19,17 +19,16 @@ fn is_adjustments(path: &[u8]) -> bool
 }
 
 // The last name of a path; `last` begins with the last name so far.
-fn last_name<'a>(last: &'a [u8], rest: &'a [u8]) -> &'a [u8]
+fn last_name<'a>(mut last: &'a [u8], mut rest: &'a [u8]) -> &'a [u8]
     ensures { result.now ≡ last_name_of last.now rest.now }
 {
-    match rest {
-        [] => last,
-        [b, more @ ..] => if *b == b'/' {
-            last_name(more, more)
-        } else {
-            last_name(last, more)
-        },
+    while let [b, more @ ..] = rest {
+        if *b == b'/' {
+            last = more;
+        }
+        rest = more;
     }
+    last
 }
 
 // Where the name of the holder begins, once another name comes.
@@ -40,17 +39,17 @@ fn next_holder<'a>(holder: &'a [u8], last: &'a [u8]) -> &'a [u8]
 }
 
 // The path from the name of the holder on; nothing where there is one name alone.
-fn holder_from<'a>(holder: &'a [u8], last: &'a [u8], rest: &'a [u8]) -> &'a [u8]
+fn holder_from<'a>(mut holder: &'a [u8], mut last: &'a [u8], mut rest: &'a [u8]) -> &'a [u8]
     ensures { result.now ≡ holder_from_of holder.now last.now rest.now }
 {
-    match rest {
-        [] => holder,
-        [b, more @ ..] => if *b == b'/' {
-            holder_from(next_holder(holder, last), more, more)
-        } else {
-            holder_from(holder, last, more)
-        },
+    while let [b, more @ ..] = rest {
+        if *b == b'/' {
+            holder = next_holder(holder, last);
+            last = more;
+        }
+        rest = more;
     }
+    holder
 }
 
 /// The name of the element that holds the last one; nothing where there is one name alone.
@@ -66,8 +65,7 @@ fn ends_in_s(name: &[u8]) -> bool
 {
     match name {
         [] => false,
-        [b] => *b == b's',
-        [_, rest @ ..] => ends_in_s(rest),
+        [.., b] => *b == b's',
     }
 }
 
