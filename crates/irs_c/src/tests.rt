@@ -11,6 +11,10 @@ fn words() -> [Bytes<'static>; 2] {
     [lent(b"check"), lent(b"D")]
 }
 
+fn words_with_controls() -> [Bytes<'static>; 2] {
+    [lent(b"check"), lent(b"\x1b[2J")]
+}
+
 #[test]
 fn a_document_that_is_no_json(rt: HostRuntime) {
     let files = [File {
@@ -53,11 +57,17 @@ fn what_a_line_means(rt: HostRuntime) {
 
 #[test]
 fn a_name_with_controls(rt: HostRuntime) {
-    let words = [lent(b"check"), lent(b"\x1b[2J")];
     let mut out = [b'#'; 64];
     let mut needed = 0;
     let line = b"no file 1\n";
-    let status = irs_meaning(rt.alloc(), &words, 5, line, &mut out, &mut needed);
+    let status = irs_meaning(
+        rt.alloc(),
+        &words_with_controls(),
+        5,
+        line,
+        &mut out,
+        &mut needed,
+    );
     assert_eq!(rt; (status, needed), (0, 25));
     assert_eq!(rt; &out[..26], b"couldn't be read: \\x1b[2J#".as_slice());
 }
