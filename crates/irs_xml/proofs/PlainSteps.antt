@@ -61,7 +61,6 @@ plain_taken text left front back s u f b =
           ∙ ap (λ r. r ++ seen left) (sym is_run) ∙ ap (λ r. front ++ seen r) (sym is_left);
     }
 
-
 mark_plain : (c : ℕ) (cs : List ℕ) → IsPlain c → mark_at (c ∷ cs) ≡ Some (standing c, cs)
 unfolding mark_at
 mark_plain c cs p =

@@ -43,12 +43,12 @@ pub(crate) fn is_name_char(c: char) -> bool
         || matches!(c, '-' | '.' | '0'..='9' | '\u{B7}' | '\u{300}'..='\u{36F}' | '\u{203F}'..='\u{2040}')
 }
 
-/// A byte that is a character which XML allows.
+/// A byte that is a character which XML allows, but for white space other than the space.
 #[tactic(auto, unfolding(crate::specs::Characters::is_char))]
 pub(crate) fn is_ascii_char(byte: u8) -> bool
     ensures { IsTrue result → ((byte < 128) × (is_char_of byte ≡ true)) }
 {
-    matches!(byte, b'\t' | b'\n' | b'\r' | b' '..=b'\x7F')
+    matches!(byte, b' '..=b'\x7F')
 }
 
 /// A byte that is a later character of a name.

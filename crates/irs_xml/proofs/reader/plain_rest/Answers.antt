@@ -14,6 +14,6 @@ pub loop-byte-preserved : goal.loop-byte-preserved
 loop-byte-preserved c = (
   c.range_from-left.utf8,
   subst (SplitsPlain c.args.text.now) (sym c.range_from-left.ensures.value)
-  (plain_more c.args.text.now c.loop-byte.left.now c.in-Some.byte.now c.loop-byte.invariant.1
-  (c.in-Some.ensures.value ∙ ap (λ bs. slice_get bs 0) c.as_bytes.ensures.value) (c.is_plain.ensures c.if-is_plain.true)),
+      (plain_more c.args.text.now c.loop-byte.left.now c.in-Some.byte.now c.loop-byte.invariant.1
+      (c.in-Some.ensures.value ∙ ap (λ bs. slice_get bs 0) c.as_bytes.ensures.value) (c.is_plain.ensures c.if-is_plain.true)),
 )
