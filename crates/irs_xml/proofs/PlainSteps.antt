@@ -1,5 +1,5 @@
 -- Plain characters are read many at a time as they are read one at a time.
-use Rattle.std.proofs.Common.{◌≡◌, ◌≢◌, ℕ, ◌-◌, ◌<◌, ◌≤◌, false, List, [], ◌∷◌, ◌++◌, length, take, drop, Some, None, nat_eq, refl, sym, ap, subst, ◌∙◌, arith, append_assoc, length-append}
+use Rattle.std.proofs.Common.{◌≡◌, ℕ, ◌-◌, ◌≤◌, false, List, [], ◌∷◌, ◌++◌, length, take, drop, Some, refl, sym, ap, subst, ◌∙◌, arith, append_assoc, length-append}
 use Rattle.std.proofs.Math.Seq.{take-append_seam, drop-append_seam}
 use Rattle.std.proofs.lemmas.List.{append-nil}
 use Rattle.std.proofs.lemmas.Str.{encode_ascii, IsUtf8-past_char, IsCharBoundary-at_seam}
@@ -7,7 +7,7 @@ use Rattle.std.specs.Char.{encode_utf8}
 use Rattle.std.specs.List.{slice_get}
 use Rattle.std.specs.Str.{IsUtf8, IsCharBoundary}
 use Rattle.irs_xml.specs.Plain.{IsPlain, ArePlain, SplitsPlain, PlainTaken, PlainPieces}
-use Rattle.irs_xml.specs.Reading.{Got, Inside, with_text, Mark, standing, mark_at, piece_at}
+use Rattle.irs_xml.specs.Reading.{Got, Inside, with_text, standing, mark_at, piece_at}
 use Rattle.irs_xml.specs.Seen.{seen}
 use Rattle.irs_xml.specs.Values.{Child}
 use Rattle.irs_xml.proofs.ContentSteps.{ContentGoes, content_more}
