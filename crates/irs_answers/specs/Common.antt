@@ -24,5 +24,5 @@ FixingsRead bytes (Err e) = FixingsFail bytes e
 
 -- what is kept of the files is what they say, or their first fault
 pub record AreRead (c : Common) : Type 0 where
-  pub calendars : CalendarsRead (given_by c.files.now).calendars c.calendars
-  pub fixings : FixingsRead (given_by c.files.now).fixings c.fixings
+  pub calendars : CalendarsRead (given_by c.files).calendars c.calendars
+  pub fixings : FixingsRead (given_by c.files).fixings c.fixings

@@ -36,13 +36,13 @@ pub(crate) fn answer_by(
     alloc: Global,
     task: &Task,
     files: &TaskFiles,
-    common: &Common<'_>,
+    common: &Common,
     found: Found<'_>,
 ) -> Result<Reply, Refusal>
     requires asked { IsLawfulTask task.now }
     requires lawful { IsLawful found.swap }
-    requires passes { Passes task.now (given_with files.now common.now.files.now) (facts_by found) }
-    ensures { IfAnswered result (Ends (Answered task.now (given_with files.now common.now.files.now) (facts_by found))) }
+    requires passes { Passes task.now (given_with files.now common.now.files) (facts_by found) }
+    ensures { IfAnswered result (Ends (Answered task.now (given_with files.now common.now.files) (facts_by found))) }
 {
     match *task {
         Task::Check => check_answer(alloc),

@@ -17,20 +17,20 @@ use std::alloc::Global;
 /// The calendar files and the file of fixings of a task, and what each kind says: or its first fault. Tasks
 /// over other documents can have them in common.
 #[derive(Drop)]
-pub struct Common<'a> {
+pub struct Common {
     /// The files. The document and the flows don't count.
-    pub files: &'a TaskFiles,
+    pub files: TaskFiles,
     /// What the calendar files say.
     pub calendars: Result<Calendars, CalErr>,
     /// What the file of fixings says, no rates where there is no file.
     pub fixings: Result<Fixings, FixErr>,
 }
 
-impl<'a> Common<'a> {
+impl Common {
     /// Reads the calendar files and the file of fixings.
-    pub fn read(alloc: Global, files: &'a TaskFiles) -> Common<'a>
-        requires { IsWithin (given_by files.now) }
-        ensures files { result.files.now ≡ files.now }
+    pub fn read(alloc: Global, files: TaskFiles) -> Common
+        requires { IsWithin (given_by files) }
+        ensures files { result.files ≡ files }
         ensures read { AreRead result }
     {
         let calendars = read_calendars(alloc, &files.calendars);
@@ -45,8 +45,8 @@ impl<'a> Common<'a> {
     /// The calendars, or the first fault of their files.
     pub(crate) fn calendars(&self) -> Result<&Calendars, CalErr>
         requires { AreRead self.now }
-        ensures spelt { IfOk result (λ c. CalFiles (given_by self.now.files.now).calendars c.now) }
-        ensures first { IfErr result (λ e. IfSome (spot_of e) (IsFirstFault (given_by self.now.files.now).calendars)) }
+        ensures spelt { IfOk result (λ c. CalFiles (given_by self.now.files).calendars c.now) }
+        ensures first { IfErr result (λ e. IfSome (spot_of e) (IsFirstFault (given_by self.now.files).calendars)) }
     {
         match &self.calendars {
             Ok(calendars) => Ok(calendars),
@@ -57,8 +57,8 @@ impl<'a> Common<'a> {
     /// The fixings, or the first fault of their file.
     pub(crate) fn fixings(&self) -> Result<&Fixings, FixErr>
         requires { AreRead self.now }
-        ensures fixings { IfOk result (λ f. AreFixings (given_by self.now.files.now).fixings f.now) }
-        ensures fault { IfErr result (λ e. FixingsFail (given_by self.now.files.now).fixings e) }
+        ensures fixings { IfOk result (λ f. AreFixings (given_by self.now.files).fixings f.now) }
+        ensures fault { IfErr result (λ e. FixingsFail (given_by self.now.files).fixings e) }
     {
         match &self.fixings {
             Ok(fixings) => Ok(fixings),

@@ -48,13 +48,14 @@ pub struct Found<'a> {
 /// The status and the text that a task over its files comes to. The first step that applies decides. The
 /// steps are the document, the parties where the task needs them, the calendars, the fixings and the rules of
 /// the swap. The task's own step comes last. `Memory` comes where memory ran out.
-pub fn reply_of(alloc: Global, task: Task, files: &TaskFiles) -> Result<Reply, Memory>
+pub fn reply_of(alloc: Global, task: Task, files: TaskFiles) -> Result<Reply, Memory>
     requires lawful { IsLawfulTask task }
-    requires within { IsWithin (given_by files.now) }
-    ensures { IfOk result (λ r. Ends (DueFor task (given_by files.now)) (reply_status r) (reply_text r)) }
+    requires within { IsWithin (given_by files) }
+    ensures { IfOk result (λ r. Ends (DueFor task (given_by files)) (reply_status r) (reply_text r)) }
 {
-    let common = Common::read(alloc, files);
-    reply_by(alloc, task, files, &common)
+    let (own, common) = files.split(alloc);
+    let common = Common::read(alloc, common);
+    reply_by(alloc, task, &own, &common)
 }
 
 /// The status and the text that a task comes to over the document and the flows of `files`, and over the
@@ -63,11 +64,11 @@ pub fn reply_by(
     alloc: Global,
     task: Task,
     files: &TaskFiles,
-    common: &Common<'_>,
+    common: &Common,
 ) -> Result<Reply, Memory>
     requires lawful { IsLawfulTask task }
     requires read { AreRead common.now }
-    ensures { let given = given_with files.now common.now.files.now in
+    ensures { let given = given_with files.now common.now.files in
         IfOk result (λ r. Ends (DueFor task given) (reply_status r) (reply_text r)) }
 {
     match carry_out(alloc, task, files, common) {
@@ -81,11 +82,11 @@ fn carry_out(
     alloc: Global,
     task: Task,
     files: &TaskFiles,
-    common: &Common<'_>,
+    common: &Common,
 ) -> Result<Reply, Refusal>
     requires lawful { IsLawfulTask task }
     requires read { AreRead common.now }
-    ensures { IfAnswered result (Ends (DueFor task (given_with files.now common.now.files.now))) }
+    ensures { IfAnswered result (Ends (DueFor task (given_with files.now common.now.files))) }
 {
     let found = find(alloc, task, files, common)?;
     answer_by(alloc, &task, files, common, found)
@@ -98,13 +99,13 @@ pub fn find<'a>(
     alloc: Global,
     task: Task,
     files: &TaskFiles,
-    common: &'a Common<'_>,
+    common: &'a Common,
 ) -> Result<Found<'a>, Refusal>
     requires { AreRead common.now }
-    ensures passes { IfOk result (λ f. Passes task (given_with files.now common.now.files.now) (facts_by f)) }
+    ensures passes { IfOk result (λ f. Passes task (given_with files.now common.now.files) (facts_by f)) }
     ensures lawful { IfOk result (λ f. IsLawful f.swap) }
     ensures refused { IfErr result
-        (λ r. IfRefused r (Ends (DueFor task (given_with files.now common.now.files.now)))) }
+        (λ r. IfRefused r (Ends (DueFor task (given_with files.now common.now.files)))) }
 {
     let document = read_document(alloc, &files.document)?;
     let swap = read_swap(alloc, &document)?;

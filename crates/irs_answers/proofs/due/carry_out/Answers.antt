@@ -4,5 +4,5 @@ use Rattle.irs_answers.proofs.DueLemmas.{passed_answer}
 use Rattle.irs_answers.proofs.due.carry_out.Goals as goal
 
 pub returns : goal.returns
-returns c = passed_answer c.args.task (given_with c.args.files.now c.args.common.now.files.now)
+returns c = passed_answer c.args.task (given_with c.args.files.now c.args.common.now.files)
     (facts_by c.in_ok-found.found) c.answer_by.result c.in_ok-found.ensures.passes c.answer_by.ensures

@@ -16,7 +16,7 @@ returns-in_err-document-clause-refused c =
     let e = c.in_err-document.field-0.0 in
     let made = c.from_residual in
     let t = c.args.task in
-    let g = given_with c.args.files.now c.args.common.now.files.now in
+    let g = given_with c.args.files.now c.args.common.now.files in
     refused_by made.result (of_read e) (λ r. IfRefused r (Ends (DueFor t g))) made.ensures.0 made.ensures.1
     (refuse_text t g e (λ q v reads. c.in_err-document.ensures.none (ap Err q) v reads))
 
@@ -25,7 +25,7 @@ returns-in_err-swap-clause-refused c =
     let e = c.in_err-swap.field-0.0 in
     let made = c.from_residual-in_err-swap in
     let t = c.args.task in
-    let g = given_with c.args.files.now c.args.common.now.files.now in
+    let g = given_with c.args.files.now c.args.common.now.files in
     let v : Data = view c.in_ok-document.document in
     refused_by made.result (of_stopped e) (λ r. IfRefused r (Ends (DueFor t g))) made.ensures.0 made.ensures.1
     (refuse_read t g v e c.in_ok-document.ensures.reads
@@ -36,7 +36,7 @@ returns-in_err-sides-clause-refused c =
     let e = c.in_err-sides.field-0.0 in
     let made = c.from_residual-in_err-sides in
     let t = c.args.task in
-    let g = given_with c.args.files.now c.args.common.now.files.now in
+    let g = given_with c.args.files.now c.args.common.now.files in
     let v : Data = view c.in_ok-document.document in
     refused_by made.result (Rule e) (λ r. IfRefused r (Ends (DueFor t g))) made.ensures.0 made.ensures.1
     (refuse_sides t g v c.in_ok-swap.swap e
@@ -48,7 +48,7 @@ returns-in_err-calendars-clause-refused c =
     let e = c.in_err-calendars.field-0.0 in
     let made = c.from_residual-in_err-calendars in
     let t = c.args.task in
-    let g = given_with c.args.files.now c.args.common.now.files.now in
+    let g = given_with c.args.files.now c.args.common.now.files in
     let v : Data = view c.in_ok-document.document in
     let swap = c.in_ok-swap.swap in
     let sides = c.in_ok-sides.sides in
@@ -69,7 +69,7 @@ returns-in_err-fixings-clause-refused c =
     let e = c.in_err-fixings.field-0.0 in
     let made = c.from_residual-in_err-fixings in
     let t = c.args.task in
-    let g = given_with c.args.files.now c.args.common.now.files.now in
+    let g = given_with c.args.files.now c.args.common.now.files in
     let v : Data = view c.in_ok-document.document in
     let swap = c.in_ok-swap.swap in
     let sides = c.in_ok-sides.sides in
@@ -92,7 +92,7 @@ returns-in_err-schedule-clause-refused c =
     let e = c.in_err-schedule.field-0.0 in
     let made = c.from_residual-in_err-schedule in
     let t = c.args.task in
-    let g = given_with c.args.files.now c.args.common.now.files.now in
+    let g = given_with c.args.files.now c.args.common.now.files in
     let v : Data = view c.in_ok-document.document in
     let swap = c.in_ok-swap.swap in
     let sides = c.in_ok-sides.sides in
@@ -114,7 +114,7 @@ returns-in_err-schedule-clause-refused c =
 pub returns-clause-passes : goal.returns-clause-passes
 returns-clause-passes c =
     let t = c.args.task in
-    let g = given_with c.args.files.now c.args.common.now.files.now in
+    let g = given_with c.args.files.now c.args.common.now.files in
     let v : Data = view c.in_ok-document.document in
     let swap = c.in_ok-swap.swap in
     let sides = c.in_ok-sides.sides in
