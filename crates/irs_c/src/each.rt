@@ -83,7 +83,7 @@ fn answer_one(
 ) -> Answer
     requires { IfSome read.now (λ c. IfOk words.now (λ v. IsCommonIn (texts v.items) common.now c)) }
     ensures { (o : Outcome) × RunFor words.now (common.now ++ own.now) o × (result ≡ slot_of o)
-        × (said.new.items ≡ said.old.items ++ o.text ++ o.sentence) }
+        × (said.new.items ≡ said.old.items ++ (o.text ++ o.sentence)) }
 {
     match outcome_of(alloc, words, read, common, own, said) {
         Ok(answer) => answer,
@@ -106,7 +106,7 @@ fn outcome_of(
 ) -> Result<Answer, u8>
     requires { IfSome read.now (λ c. IfOk words.now (λ v. IsCommonIn (texts v.items) common.now c)) }
     ensures said { IfOk result (λ a. (o : Outcome) × RunFor words.now (common.now ++ own.now) o × (a ≡ slot_of o)
-        × (said.new.items ≡ said.old.items ++ o.text ++ o.sentence)) }
+        × (said.new.items ≡ said.old.items ++ (o.text ++ o.sentence))) }
     ensures no_text { IfErr result (λ s. RunFor words.now (common.now ++ own.now) (no_text s)
         × (said.new.items ≡ said.old.items)) }
 {
