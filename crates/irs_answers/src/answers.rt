@@ -42,7 +42,8 @@ pub(crate) fn answer_by(
     requires asked { IsLawfulTask task.now }
     requires lawful { IsLawful found.swap }
     requires passes { Passes task.now (given_with files.now common.now.files) (facts_by found) }
-    ensures { IfAnswered result (Ends (Answered task.now (given_with files.now common.now.files) (facts_by found))) }
+    ensures { IfAnswered result
+        (Ends (Answered task.now (given_with files.now common.now.files) (facts_by found.entry))) }
 {
     match *task {
         Task::Check => check_answer(alloc),

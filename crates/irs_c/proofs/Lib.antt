@@ -1,3 +1,4 @@
 pub mod Joined
 pub mod Texts
 pub mod EachLemmas
+pub mod LentLemmas

@@ -7,3 +7,4 @@ pub mod RunLemmas
 pub mod HandedReplies
 pub mod OneAnswer
 pub mod SharingLemmas
+pub mod CommonLemmas

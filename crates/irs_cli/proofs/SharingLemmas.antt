@@ -31,6 +31,13 @@ abbrev pub mixed : Given → Given → Given
 mixed own common =
     record { document = own.document; fixings = common.fixings; flows = own.flows; calendars = common.calendars }
 
+-- files are gathered by another relation, where it follows for the bytes of each name
+pub gathers_as : (R S : List ℕ → List ℕ → Type 0) → ((name bytes : List ℕ) → R name bytes → S name bytes)
+    → (ws : List Wanted) (g h : Given) → Gathers R ws g h → Gathers S ws g h
+gathers_as R S more [] g h k = k
+gathers_as R S more (w ∷ ws) g h k =
+    (k.0, more w.name k.0 k.1, gathers_as R S more ws (with_file g w.role (text_as w.name k.0)) h k.2)
+
 module _ (R : List ℕ → List ℕ → Type 0) where
   -- the two parts of a list, gathered, are the list gathered
   abbrev Merges : List Wanted → Type 0
