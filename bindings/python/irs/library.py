@@ -226,7 +226,7 @@ def meaning(words: Sequence[Text], status: int, line: Text) -> str:
     >>> meaning(["check", "document"], 2, "refused K1 0 document 0")
     "K1: the document isn't JSON"
     """
-    if status == 0:
+    if status == 0 and as_bytes(words[0] if words else b"") != b"audit":
         return ""
     lent_words = (_Bytes * max(1, len(words)))(*[_lent(word) for word in words])
     said = as_bytes(line)[:LONGEST_LINE]
