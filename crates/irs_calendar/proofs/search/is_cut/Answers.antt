@@ -8,4 +8,4 @@ returns-then-is_before-clause-place g c = λ is.
     cut_here (comes_before c.args.end c.args.d) c.args.runs.now c.args.place c.read-before.result c.read-run.result
     c.requires (omega arith) c.read-before.ensures.run c.read-run.ensures.run
     (sym c.is_before.ensures ∙ c.if-is_before.true)
-    (sym c.is_before-2.ensures ∙ false_from_not c.is_before-2.result is)
+    (sym c.is_before-then-is_before.ensures ∙ false_from_not c.is_before-then-is_before.result is)
