@@ -1,6 +1,6 @@
 -- Rates in the order of their slots: what is at a place, where a search by halves ends, and one rate more.
 use Rattle.std.proofs.Common.{◌≡◌, inl, inr, ℕ, zero, suc, ◌+◌, ◌-◌, ◌<◌, ◌≤◌, List, [], ◌∷◌, ◌++◌, length, Option, Some, None, ℤ}
-use Rattle.std.proofs.Common.{Bool, true, false, IsSome, is_some, cond}
+use Rattle.std.proofs.Common.{Bool, true, false, not, IsSome, is_some, cond, Result, Ok, Err, OnErr}
 use Rattle.std.proofs.Common.{refl, sym, ap, ap₂, ◌∙◌, subst, arith, slice_get}
 use Rattle.std.specs.Prelude.{option_map}
 use Rattle.std.specs.BTreeMap.{is_at}
@@ -17,7 +17,7 @@ use Rattle.std.proofs.lemmas.Map.Keys.{IsDistinct-from_sorted, Less-from_sorted}
 use Rattle.std.proofs.lemmas.Option.{get_or_from_slice_get, same_Some, slice_get-map, slice_get_within}
 use Rattle.irs_base.specs.Members.{Every}
 use Rattle.irs_base.proofs.EveryLemmas.{every_all}
-use Rattle.irs_resets.specs.Rates.{AddsTo, SlotRates, is_slot}
+use Rattle.irs_resets.specs.Rates.{AddsNew, AddsTo, SlotRates, is_slot}
 use Rattle.irs_resets.specs.SlotOrder.{AreInOrder, ComesAfter, IsPlace, slot_cmp}
 use Rattle.irs_resets.specs.contracts.store.SlotOrd.TheImpl.Laws.{total-law}
 use Rattle.irs_resets.specs.declared.store.Slot.{Slot}
@@ -255,3 +255,17 @@ adds_last (x ∷ xs) ys slot rate none q = elim (cases_Bool (is_slot q x.0)) [
     not_both here =
         let e : q ≡ x.0 = slot_same q x.0 here in
         subst (λ (s : Slot). is_slot slot s ≡ false) (sym e) other
+
+-- the slot had a rate among the others, or it has this one now
+pub adds_others : (old new : SlotRates) (slot : Slot) (rate : ℤ) (had : Option ℤ) (b : Bool) → is_some had ≡ not b
+    → (is_some had ≡ true → IsSome (lookup (is_slot slot) old))
+    → (had ≡ None → (lookup (is_slot slot) old ≡ None) × AddsTo old slot rate new) → AddsNew old slot rate new b
+adds_others old new slot rate (Some v) true is some none = absurd (cc)
+adds_others old new slot rate (Some v) false is some none = some refl
+adds_others old new slot rate None true is some none = none refl
+adds_others old new slot rate None false is some none = absurd (cc)
+
+-- what holds holds if there is an error
+pub on_err_of : {T E P : Type 0} (r : Result T E) → P → OnErr r P
+on_err_of (Ok x) p = tt
+on_err_of (Err e) p = p

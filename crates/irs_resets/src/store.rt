@@ -77,10 +77,8 @@ impl Rates {
         if old.is_some() {
             return Ok(false);
         }
-        match self.others.insert(*slot, rate)? {
-            Some(_) => Ok(false),
-            None => Ok(true),
-        }
+        let had = self.others.insert(*slot, rate)?;
+        Ok(had.is_none())
     }
 }
 

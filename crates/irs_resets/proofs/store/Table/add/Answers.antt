@@ -1,10 +1,11 @@
-use Rattle.std.proofs.Common.{◌≡◌, ◌∙◌, sym, ap, Some, List, ℕ, cond, is_some, true, w64, to_z, of_z, arith}
+use Rattle.std.proofs.Common.{◌≡◌, ◌∙◌, sym, ap, Some, None, Option, List, ℕ, cond, is_some, true, w64, to_z, of_z, arith}
 use Rattle.std.proofs.lemmas.Int.{ints}
 use Rattle.std.proofs.lemmas.Result.{IfOk-weaker}
 use Rattle.std.specs.Map.{lookup}
 use Rattle.std.specs.Str.{bytes_eq}
-use Rattle.irs_resets.specs.Rates.{RateTable, SlotRates, by_bytes}
+use Rattle.irs_resets.specs.Rates.{SlotRates, by_bytes, rate_of}
 use Rattle.irs_resets.proofs.KeyLemmas.{adds_there, lookup_by_bytes, updates_bytes}
+use Rattle.irs_resets.proofs.OrderLemmas.{on_err_of}
 use Rattle.irs_resets.proofs.store.Table.add.Goals as goal
 
 pub returns-in-Some-clause-adds : goal.returns-in-Some-clause-adds
@@ -32,3 +33,16 @@ returns-in-Some-clause-memory c =
     let at : lookup (bytes_eq c.args.index.now) (by_bytes m.entries) ≡ Some c.in-Some.rates.now =
     sym (c.in-Some.ensures.value ∙ lookup_by_bytes c.args.index.now m.entries) in
     rw (← c.self.view_is, at) c.add.ensures.memory
+
+pub add_first-requires : goal.add_first-requires
+add_first-requires c =
+    rw c.get_mut.follows.holds-at-none
+    (sym (c.in-None.ensures.value ∙ lookup_by_bytes c.args.index.now c.self.inside.indexes.entries))
+
+pub returns-in-None-clause-memory : goal.returns-in-None-clause-memory
+returns-in-None-clause-memory c =
+    let m = c.self.inside.indexes in
+    let absent : lookup (bytes_eq c.args.index.now) (by_bytes m.entries) ≡ None =
+    sym (c.in-None.ensures.value ∙ lookup_by_bytes c.args.index.now m.entries) in
+    rw (← c.self.view_is)
+    (on_err_of c.add_first.result (ap (λ (o : Option SlotRates). rate_of o c.args.slot) absent))

@@ -13,7 +13,7 @@ returns c =
     let index : List ℕ = c.args.index.now in
     let old : RateTable = by_bytes c.self.inside.indexes.entries in
     let new : RateTable = by_bytes c.insert.new.self.entries in
-    let grown : SlotRates = c.add-is_new.new.self in
+    let grown : SlotRates = c.add.new.self in
     let put = λ (cs : List ℕ). updates_bytes (λ k. k.items) c.in_ok-from_slice.field-0.items c.self.inside.indexes
     c.insert.new.self (Some grown) c.in_ok-insert.ensures.updates cs in
     let back : (cs : List ℕ) → lookup (bytes_eq cs) new ≡ cond (bytes_eq index cs) (Some grown) (lookup (bytes_eq cs) old) =
