@@ -12,7 +12,7 @@ returns-in-Some c =
     let sorted : AreInOrder entries = rw c.as_slice-entries.ensures.value c.self.invariant in
     let fits : FitsSigned w64 c.entry_at-rate.result.1 = search rules in
     let whole : to_z w64 (of_z w64 c.entry_at-rate.result.1) ≡ c.entry_at-rate.result.1 =
-    to_z-of_z w64 c.entry_at-rate.result.1 fits.sfits in
+    to_z-of_z w64 c.entry_at-rate.result.1 fits in
     ap (λ (z : ℤ). Some z) whole
     ∙ sym (lookup_of_entry entries c.args.slot.now c.in-Some.place c.entry_at-rate.result sorted c.in-Some.ensures.some
     c.entry_at-rate.ensures)

@@ -1,4 +1,5 @@
-use Rattle.std.proofs.Common.{◌≡◌, ◌∙◌, sym, ap, Some, None, List, ℕ, cond}
+use Rattle.std.proofs.Common.{◌≡◌, ◌∙◌, sym, ap, Some, None, List, ℕ, cond, w64, to_z, of_z, arith}
+use Rattle.std.proofs.lemmas.Int.{ints}
 use Rattle.std.specs.Ordering.{nat_cmp}
 use Rattle.std.specs.Cmp.Lexicographic.{slice_cmp}
 use Rattle.std.specs.BTreeMap.{get_by}
@@ -23,5 +24,7 @@ returns c =
     c.in_ok-from_slice.ensures.items
     ∙ ap (λ o. cond (bytes_eq index cs) (Some grown) o) (lookup_by_bytes cs c.self.inside.indexes.entries) in
     let absent = rw (← c.self.view_is) at c.requires in
-    let added = rw c.new-rates.ensures at c.in_ok-is_new.ensures.adds in
-    rw (← c.self.view_is) (adds_first old new index c.args.slot c.args.rate grown c.in_ok-is_new.is_new absent back added)
+    let whole : to_z w64 (of_z w64 c.args.rate) ≡ c.args.rate = omega (arith, ints, c.ranges.rate) in
+    let added = rw (c.new-rates.ensures, whole) at c.in_ok-is_new.ensures.adds in
+    let adds = adds_first old new index c.args.slot c.args.rate grown c.in_ok-is_new.is_new absent back added in
+    rw (← c.self.view_is) (record { adds = adds })
