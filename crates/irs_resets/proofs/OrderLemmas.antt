@@ -1,9 +1,8 @@
 -- Rates in the order of their slots: what is at a place, where a search by halves ends, and one rate more.
-use Rattle.std.proofs.Common.{◌≡◌, inl, inr, ℕ, zero, suc, ◌+◌, ◌-◌, ◌<◌, ◌≤◌, List, [], ◌∷◌, ◌++◌, length, Option, Some, None, ℤ}
+use Rattle.std.proofs.Common.{◌≡◌, inl, inr, ℕ, suc, ◌+◌, ◌<◌, ◌≤◌, [], ◌∷◌, ◌++◌, length, Option, Some, None, ℤ}
 use Rattle.std.proofs.Common.{Bool, true, false, not, IsSome, is_some, cond, Result, Ok, Err, OnErr}
 use Rattle.std.proofs.Common.{refl, sym, ap, ap₂, ◌∙◌, subst, arith, slice_get}
 use Rattle.std.specs.Prelude.{option_map}
-use Rattle.std.specs.BTreeMap.{is_at}
 use Rattle.std.specs.Cmp.{IsTotalOrder, eq_by_cmp_equiv}
 use Rattle.std.specs.List.{AllByRecursion}
 use Rattle.std.specs.List.Sorted.{IsStrictlySortedBy}
@@ -15,8 +14,6 @@ use Rattle.std.proofs.lemmas.Bool.{cases_Bool, cases_lt}
 use Rattle.std.proofs.lemmas.Map.Entries.{lookup_at_gap, lookup_from_place}
 use Rattle.std.proofs.lemmas.Map.Keys.{IsDistinct-from_sorted, Less-from_sorted}
 use Rattle.std.proofs.lemmas.Option.{get_or_from_slice_get, same_Some, slice_get-map, slice_get_within}
-use Rattle.irs_base.specs.Members.{Every}
-use Rattle.irs_base.proofs.EveryLemmas.{every_all}
 use Rattle.irs_resets.specs.Rates.{AddsNew, AddsTo, SlotRates, is_slot}
 use Rattle.irs_resets.specs.SlotOrder.{AreInOrder, ComesAfter, IsPlace, slot_cmp}
 use Rattle.irs_resets.specs.contracts.store.SlotOrd.TheImpl.Laws.{total-law}

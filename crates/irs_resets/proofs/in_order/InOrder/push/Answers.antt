@@ -1,4 +1,4 @@
-use Rattle.std.proofs.Common.{sym, subst, rules}
+use Rattle.std.proofs.Common.{sym, subst}
 use Rattle.irs_resets.specs.Rates.{SlotRates}
 use Rattle.irs_resets.specs.SlotOrder.{ComesAfter}
 use Rattle.irs_resets.proofs.OrderLemmas.{more_in_order}

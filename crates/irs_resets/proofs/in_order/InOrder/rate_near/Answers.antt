@@ -1,4 +1,4 @@
-use Rattle.std.proofs.Common.{◌≡◌, sym, ap, ◌∙◌, Some, ℤ, List, FitsSigned, w64, to_z, of_z, rules}
+use Rattle.std.proofs.Common.{◌≡◌, sym, ap, ◌∙◌, Some, ℤ, FitsSigned, w64, to_z, of_z, rules}
 use Rattle.std.specs.Map.{lookup}
 use Rattle.std.proofs.lemmas.Int.{to_z-of_z}
 use Rattle.irs_resets.specs.Rates.{SlotRates, is_slot}

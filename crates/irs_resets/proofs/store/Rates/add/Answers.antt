@@ -1,4 +1,4 @@
-use Rattle.std.proofs.Common.{◌≡◌, ◌∙◌, refl, sym, ap, ap₂, subst, ◌++◌, Some, None, true, false, is_some, cond, ℤ, w64, to_z, of_z, arith}
+use Rattle.std.proofs.Common.{◌≡◌, ◌∙◌, refl, sym, ap, ap₂, subst, ◌++◌, Some, None, is_some, cond, w64, to_z, of_z, arith}
 use Rattle.std.proofs.lemmas.Int.{ints}
 use Rattle.std.specs.Map.{lookup}
 use Rattle.irs_resets.specs.Rates.{SlotRates, is_slot}
