@@ -72,8 +72,8 @@ pub extern "C" fn irs_run(
 /// and 9 where a word isn't UTF-8.
 ///
 /// The sentence has each word as `shown_words` of irs_plain shows it: one line, without controls. It
-/// goes to `out` as far as it has room, and its length to `needed`, as the text of `irs_run` does. At 0 as `status` it is empty, but for an audit whose line
-/// says that amounts lack a fixing.
+/// goes to `out` as far as it has room, and its length to `needed`, as the text of `irs_run` does. At
+/// 0 as `status` it is empty, but for an audit whose line says that amounts lack a fixing.
 #[unsafe(no_mangle)]
 pub extern "C" fn irs_meaning(
     alloc: Global,
