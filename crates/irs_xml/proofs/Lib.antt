@@ -10,6 +10,7 @@ mod LeafLemmas
 mod ContentSteps
 mod CommentLaws
 mod TagLaws
+mod PlainSteps
 mod Shorter
 mod ChildSteps
 mod ContentLaws

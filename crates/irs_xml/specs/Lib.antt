@@ -11,6 +11,7 @@ pub mod Document
 pub mod Places
 pub mod Reading
 pub mod Seen
+pub mod Plain
 pub mod TagViews
 pub mod InsideViews
 pub mod MarkViews

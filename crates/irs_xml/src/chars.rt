@@ -1,7 +1,8 @@
 //! Classes of characters: XML 1.0 (fifth edition), 2.2 and 2.3.
 ghost use Rattle.irs_xml.specs.Characters.{is_char as is_char_of, is_space as is_space_of};
 ghost use Rattle.irs_xml.specs.Names.{is_name_char as is_name_char_of, is_name_start as is_name_start_of};
-ghost use Rattle.std.specs.Prelude.{◌≡◌};
+ghost use Rattle.irs_xml.specs.Plain.{IsPlain};
+ghost use Rattle.std.specs.Prelude.{◌≡◌, ◌<◌, IsTrue, true};
 
 /// XML allows the character.
 #[tactic(auto, unfolding(crate::specs::Characters::is_char))]
@@ -40,4 +41,27 @@ pub(crate) fn is_name_char(c: char) -> bool
 {
     is_name_start(c)
         || matches!(c, '-' | '.' | '0'..='9' | '\u{B7}' | '\u{300}'..='\u{36F}' | '\u{203F}'..='\u{2040}')
+}
+
+/// A byte that is a character which XML allows, but for white space other than the space.
+#[tactic(auto, unfolding(crate::specs::Characters::is_char))]
+pub(crate) fn is_ascii_char(byte: u8) -> bool
+    ensures { IsTrue result → ((byte < 128) × (is_char_of byte ≡ true)) }
+{
+    matches!(byte, b' '..=b'\x7F')
+}
+
+/// A byte that is a later character of a name.
+#[tactic(auto, unfolding(crate::specs::Names::is_name_char, crate::specs::Names::is_name_start))]
+pub(crate) fn is_ascii_name(byte: u8) -> bool
+    ensures { IsTrue result → ((byte < 128) × (is_name_char_of byte ≡ true)) }
+{
+    matches!(byte, b'-' | b'.' | b'0'..=b'9' | b'A'..=b'Z' | b'_' | b'a'..=b'z')
+}
+
+/// A byte that is a character of text and begins nothing else there. It isn't CR.
+pub(crate) fn is_plain(byte: u8) -> bool
+    ensures { IsTrue result → IsPlain byte }
+{
+    byte < 128 && byte != b'\r' && byte != b'&' && byte != b'<' && byte != b']'
 }

@@ -2,6 +2,7 @@
 ghost use Rattle.irs_xml.specs.Comments.{after};
 ghost use Rattle.irs_xml.specs.InsideViews.{inside_view};
 ghost use Rattle.irs_xml.specs.MarkViews.{mark_view};
+ghost use Rattle.irs_xml.specs.Plain.{PlainPieces};
 ghost use Rattle.irs_xml.specs.Reading.{Gives, Passes, Reads, begun as begun_of, child_at, closing_at, closing_name_at, content_at, element_at, filled_at, mark_at, markup_at, piece_at};
 ghost use Rattle.irs_xml.specs.Seen.{seen};
 ghost use Rattle.irs_xml.specs.TagViews.{opening_view, scope_view, tag_view};
@@ -18,7 +19,7 @@ use crate::references::reference;
 use crate::settings::{Declaration, Tag};
 use crate::tags::tag;
 use serde_json::Value;
-use std::alloc::Global;
+use std::alloc::{AllocError, Global};
 
 /// What comes next in content.
 #[derive(Clone, Copy)]
@@ -110,6 +111,14 @@ fn take_name(reader: &mut Reader<'_>, name: &str) -> Option<()>
     }
 }
 
+// The plain characters in front, taken and appended to the text.
+fn plain(reader: &mut Reader<'_>, inside: &mut Inside) -> Result<(), AllocError>
+    ensures { OnOk result (PlainPieces (inside_view inside.old) reader.old (inside_view inside.new) reader.new) }
+{
+    let run = reader.plain();
+    inside.text.push_str(run)
+}
+
 // One piece of content, whose mark was read: whether it was the end.
 #[cycle(element)]
 #[tactic(auto, unfolding(crate::specs::Reading::piece_at))]
@@ -180,6 +189,7 @@ fn content<'a>(
     ensures scope { OnOk result (scope_view scope.new.items ≡ scope_view scope.old.items) }
 {
     'pieces: loop {
+        plain(reader, inside)?;
         let Some(next) = next_mark(reader) else {
             return Err(Failure::NotXml);
         };

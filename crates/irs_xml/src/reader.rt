@@ -2,10 +2,11 @@
 ghost use Rattle.irs_xml.specs.Comments.{after};
 ghost use Rattle.irs_xml.specs.Reading.{EndsName, NameOf, SplitsName, Takes, after_any_case, gap_at, name_at, skip_space as behind_space, Reads};
 ghost use Rattle.irs_xml.specs.Places.{LiesIn};
+ghost use Rattle.irs_xml.specs.Plain.{PlainTaken, SplitsPlain};
 ghost use Rattle.irs_xml.specs.Seen.{seen, FirstOf, Uncons};
-ghost use Rattle.std.specs.Prelude.{◌≡◌, [], ◌∷◌};
+ghost use Rattle.std.specs.Prelude.{◌≡◌, [], ◌∷◌, IfSome, Some};
 
-use crate::chars::{is_name_char, is_name_start, is_space};
+use crate::chars::{is_ascii_name, is_name_char, is_name_start, is_plain, is_space};
 use std::marker::Model;
 
 /// What is left of a text. Each end of a line, CR LF or a CR alone, is read as one LF.
@@ -133,6 +134,10 @@ impl<'a> Reader<'a> {
     pub(crate) fn eat_name(&mut self, name: &str) -> bool
         ensures { Takes result self.old self.new (after (seen name.now) self.old) }
     {
+        if let Some(rest) = behind_name(self.rest, name) {
+            self.rest = rest;
+            return true;
+        }
         let mut ahead = Reader { rest: self.rest };
         let mut word = Reader { rest: name };
         while let Some(c) = word.next() {
@@ -144,6 +149,15 @@ impl<'a> Reader<'a> {
         true
     }
 
+    /// The plain characters in front, taken.
+    pub(crate) fn plain(&mut self) -> &'a str
+        ensures { PlainTaken result.now self.old self.new }
+    {
+        let (run, rest) = split_plain(self.rest);
+        self.rest = rest;
+        run
+    }
+
     /// A name without a colon, taken.
     pub(crate) fn name(&mut self) -> Option<&'a str>
         ensures { Reads (λ n. n.now) result self.new (name_at self.old) }
@@ -151,6 +165,38 @@ impl<'a> Reader<'a> {
         let (name, rest) = split_name(self.rest)?;
         self.rest = rest;
         Some(name)
+    }
+}
+
+// The plain characters in front, and what is after them.
+fn split_plain(text: &str) -> (&str, &str)
+    ensures { PlainTaken result.0.now (seen text.now) (seen result.1.now) }
+{
+    let left = plain_rest(text);
+    text.split_at(text.len() - left.len())
+}
+
+// What is after the plain characters in front.
+fn plain_rest(text: &str) -> &str
+    ensures { SplitsPlain text.now result.now }
+{
+    let mut left = text;
+    loop {
+        match left.as_bytes().first() {
+            Some(byte) if is_plain(*byte) => left = &left[1..],
+            _ => return left,
+        }
+    }
+}
+
+// What is after the name, where it is in front and no LF follows it. Else None, which says nothing.
+fn behind_name<'a>(text: &'a str, name: &str) -> Option<&'a str>
+    ensures { IfSome result (λ rest. after (seen name.now) (seen text.now) ≡ Some (seen rest.now)) }
+{
+    let rest = text.strip_prefix(name)?;
+    match rest.strip_prefix('\n') {
+        None => Some(rest),
+        Some(_) => None,
     }
 }
 
@@ -173,10 +219,15 @@ fn name_rest(text: &str) -> &str
 {
     let mut left = text;
     loop {
-        let mut behind = left.chars();
-        match behind.next() {
-            Some(c) if is_name_char(c) => left = behind.as_str(),
-            _ => return left,
+        match left.as_bytes().first() {
+            Some(byte) if is_ascii_name(*byte) => left = &left[1..],
+            _ => {
+                let mut behind = left.chars();
+                match behind.next() {
+                    Some(c) if is_name_char(c) => left = behind.as_str(),
+                    _ => return left,
+                }
+            }
         }
     }
 }

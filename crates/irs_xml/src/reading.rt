@@ -11,7 +11,7 @@ ghost use Rattle.std.specs.List.{list_all};
 ghost use Rattle.std.specs.Prelude.{◌≡◌, ◌^◌, ◌-◌, ◌<◌, ◌≤◌, ℕ, List, IfErr, IfOk, MatchOption, true, false, length};
 ghost use Rattle.std.specs.Str.{chars};
 
-use crate::chars::is_char;
+use crate::chars::{is_ascii_char, is_char};
 use crate::document::document;
 use crate::failure::Failure;
 use crate::places::place;
@@ -87,13 +87,18 @@ fn forbidden(text: &str) -> Option<usize>
 {
     let mut left = text;
     loop {
-        let mut behind = left.chars();
-        let Some(c) = behind.next() else {
-            return None;
-        };
-        if !is_char(c) {
-            return Some(left.len());
+        match left.as_bytes().first() {
+            Some(byte) if is_ascii_char(*byte) => left = &left[1..],
+            _ => {
+                let mut behind = left.chars();
+                let Some(c) = behind.next() else {
+                    return None;
+                };
+                if !is_char(c) {
+                    return Some(left.len());
+                }
+                left = behind.as_str();
+            }
         }
-        left = behind.as_str();
     }
 }

@@ -7,6 +7,7 @@ use Rattle.irs_xml.specs.Reading.{child_at, element_at, piece_at}
 use Rattle.irs_xml.specs.TagViews.{opening_view, scope_view, setting_view, tag_view}
 use Rattle.irs_xml.proofs.ChildSteps.{child_none, child_no_tag, child_closed, child_goes, scope_back}
 use Rattle.irs_xml.proofs.ContentSteps.{content_wrong, content_broken, content_ends, content_more}
+use Rattle.irs_xml.proofs.PlainSteps.{content_plain, plain_short}
 use Rattle.irs_xml.proofs.SettingSteps.{fails_then}
 use Rattle.irs_xml.proofs.Shorter.{mark_short, piece_short, child_short}
 use Rattle.irs_xml.proofs.content.+element.Goals as goal
@@ -66,41 +67,48 @@ child-returns-clause-scope t c =
     ∙ scope_back c.args.scope.now.items c.element.new.scope.items _ (c.in_ok-member.ensures.scope ∙ c.in_ok-declare_all.ensures)
 
 pub content-returns-in_default-clause-gives : goal.content-returns-in_default-clause-gives
-content-returns-in_default-clause-gives t c = content_wrong c.pieces.invariant.goes c.in_default.ensures
+content-returns-in_default-clause-gives t c =
+    let goes = content_plain (inside_view c.plain.new.inside) c.plain.new.reader c.pieces.invariant.goes c.in_ok-plain.ensures in
+    content_wrong goes c.in_default.ensures
 
 pub content-returns-in_err-piece-clause-gives : goal.content-returns-in_err-piece-clause-gives
 content-returns-in_err-piece-clause-gives t c =
-    let p = err_from_is_err_and c.from_residual.result c.from_residual.ensures.1 in
+    let goes = content_plain (inside_view c.plain.new.inside) c.plain.new.reader c.pieces.invariant.goes c.in_ok-plain.ensures in
+    let p = err_from_is_err_and c.from_residual-in_err-piece.result c.from_residual-in_err-piece.ensures.1 in
     rw (p.1, p.2) (fails_then c.in_err-piece.field-0.0 _ _ c.in_err-piece.ensures.gives (λ none.
-    content_broken (mark_view c.in-Some.next) c.next_mark.new.reader c.pieces.invariant.goes c.in-Some.ensures
-    (ap (λ s. piece_at (child_at c.args.root.now c.args.levels c.args.kept s) (inside_view c.pieces.inside) (mark_view c.in-Some.next) c.next_mark.new.reader)
+    content_broken (mark_view c.in-Some.next) c.next_mark.new.reader goes c.in-Some.ensures
+    (ap (λ s. piece_at (child_at c.args.root.now c.args.levels c.args.kept s) (inside_view c.plain.new.inside) (mark_view c.in-Some.next) c.next_mark.new.reader)
     (sym c.pieces.invariant.scope) ∙ none)))
 
 pub content-returns-then-branch-clause-gives : goal.content-returns-then-branch-clause-gives
 content-returns-then-branch-clause-gives t c =
+    let goes = content_plain (inside_view c.plain.new.inside) c.plain.new.reader c.pieces.invariant.goes c.in_ok-plain.ensures in
     content_ends (mark_view c.in-Some.next) c.next_mark.new.reader (inside_view c.piece.new.inside) c.piece.new.reader
-    c.pieces.invariant.goes c.in-Some.ensures
-    (ap (λ s. piece_at (child_at c.args.root.now c.args.levels c.args.kept s) (inside_view c.pieces.inside) (mark_view c.in-Some.next) c.next_mark.new.reader)
+    goes c.in-Some.ensures
+    (ap (λ s. piece_at (child_at c.args.root.now c.args.levels c.args.kept s) (inside_view c.plain.new.inside) (mark_view c.in-Some.next) c.next_mark.new.reader)
     (sym c.pieces.invariant.scope) ∙ c.in_ok-piece.ensures.gives
     ∙ ap (λ b. Some ((b, inside_view c.piece.new.inside), c.piece.new.reader)) c.if-branch.true)
 
 pub content-pieces-smaller : goal.content-pieces-smaller
 content-pieces-smaller t c =
-    let a = mark_short c.pieces.reader (mark_view c.in-Some.next) c.next_mark.new.reader c.in-Some.ensures in
-    let b = piece_short _ (inside_view c.pieces.inside) (mark_view c.in-Some.next) c.next_mark.new.reader _ c.piece.new.reader
+    let d = plain_short c.in_ok-plain.ensures in
+    let a = mark_short c.plain.new.reader (mark_view c.in-Some.next) c.next_mark.new.reader c.in-Some.ensures in
+    let b = piece_short _ (inside_view c.plain.new.inside) (mark_view c.in-Some.next) c.next_mark.new.reader _ c.piece.new.reader
     (child_short c.args.root.now c.args.levels c.args.kept (scope_view c.pieces.scope.items)) c.in_ok-piece.ensures.gives in
-    omega (arith, a, b)
+    omega (arith, a, b, d)
 
 pub content-pieces-preserved : goal.content-pieces-preserved
 content-pieces-preserved t c =
-    let a = mark_short c.pieces.reader (mark_view c.in-Some.next) c.next_mark.new.reader c.in-Some.ensures in
-    let b = piece_short _ (inside_view c.pieces.inside) (mark_view c.in-Some.next) c.next_mark.new.reader _ c.piece.new.reader
+    let d = plain_short c.in_ok-plain.ensures in
+    let goes = content_plain (inside_view c.plain.new.inside) c.plain.new.reader c.pieces.invariant.goes c.in_ok-plain.ensures in
+    let a = mark_short c.plain.new.reader (mark_view c.in-Some.next) c.next_mark.new.reader c.in-Some.ensures in
+    let b = piece_short _ (inside_view c.plain.new.inside) (mark_view c.in-Some.next) c.next_mark.new.reader _ c.piece.new.reader
     (child_short c.args.root.now c.args.levels c.args.kept (scope_view c.pieces.scope.items)) c.in_ok-piece.ensures.gives in
     record {
       goes = content_more (mark_view c.in-Some.next) c.next_mark.new.reader (inside_view c.piece.new.inside) c.piece.new.reader
-          c.pieces.invariant.goes c.in-Some.ensures
-          (ap (λ s. piece_at (child_at c.args.root.now c.args.levels c.args.kept s) (inside_view c.pieces.inside) (mark_view c.in-Some.next) c.next_mark.new.reader)
+          goes c.in-Some.ensures
+          (ap (λ s. piece_at (child_at c.args.root.now c.args.levels c.args.kept s) (inside_view c.plain.new.inside) (mark_view c.in-Some.next) c.next_mark.new.reader)
           (sym c.pieces.invariant.scope) ∙ c.in_ok-piece.ensures.gives
-          ∙ ap (λ b. Some ((b, inside_view c.piece.new.inside), c.piece.new.reader)) c.if-branch.false) (omega (arith, a, b));
+          ∙ ap (λ b. Some ((b, inside_view c.piece.new.inside), c.piece.new.reader)) c.if-branch.false) (omega (arith, a, b, d));
       scope = c.in_ok-piece.ensures.scope ∙ c.pieces.invariant.scope;
     }

@@ -5,9 +5,9 @@ use Rattle.irs_xml.specs.Reading.{SplitsName}
 use Rattle.irs_xml.proofs.reader.name_rest.Given as goal
 
 -- what is left is UTF-8, and the text is characters of a name and then what is left
-abbrev pub invariant-loop-c : goal.invariant-loop-c
-invariant-loop-c l = shadow (Utf8 l.left) × SplitsName l.text l.left
+abbrev pub invariant-loop-byte : goal.invariant-loop-byte
+invariant-loop-byte l = shadow (Utf8 l.left) × SplitsName l.text l.left
 
 -- each character that is passed over shortens what is left
-abbrev pub decreases-loop-c : goal.decreases-loop-c
-decreases-loop-c l = length l.left
+abbrev pub decreases-loop-byte : goal.decreases-loop-byte
+decreases-loop-byte l = length l.left
