@@ -39,6 +39,26 @@ int main(void) {
     /* any bytes in the name and the contents of a file that no word names */
     struct irs_file odd[] = { { S("\xff\0\xc0"), S("x") }, { S("D"), S("\0\xff\xfe\0") } };
     CHECK(irs_run(words, 2, odd, 2, out, 64, &needed) == 2 && needed == length);
+    /* many trades: each its own answer, one more than there is room for, a short buffer, and words that aren't UTF-8 */
+    struct irs_file own[] = { { S("D"), S("[") } };
+    struct irs_trade trades[] = { { own, 1 }, { own, 0 }, { own, 1 } };
+    struct irs_answer answers[3];
+    uint8_t all[128];
+    memset(answers, '#', sizeof answers);
+    memset(all, '#', sizeof all);
+    irs_run_each(words, 2, files, 1, trades, 3, answers, 2, all, sizeof all, &needed);
+    CHECK(answers[0].status == 2 && answers[0].text_len == length && answers[1].status == 5 && answers[1].text_len == 10);
+    CHECK(answers[2].status == '#' && needed == length + answers[0].sentence_len + 10 + answers[1].sentence_len);
+    CHECK(!memcmp(all, refused, length) && !memcmp(all + length + answers[0].sentence_len, "no file 1\n", 10));
+    CHECK(all[needed] == '#');
+    memset(all, '#', sizeof all);
+    size_t whole = needed;
+    irs_run_each(words, 2, files, 1, trades, 2, answers, 3, all, 3, &needed);
+    CHECK(needed == whole && !memcmp(all, "ref#", 4));
+    irs_run_each(bad, 2, files, 1, trades, 2, answers, 3, all, 3, &needed);
+    CHECK(answers[0].status == 9 && answers[1].status == 9 && answers[0].text_len == 0 && needed == 0);
+    irs_run_each(words, 2, files, 1, trades, 0, answers, 3, all, 3, &needed);
+    CHECK(needed == 0);
     /* the version, whole and with little room */
     memset(out, '#', sizeof out);
     irs_version(out, sizeof out, &needed);

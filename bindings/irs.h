@@ -1,13 +1,13 @@
 /* irs.h: what libirs offers to C and C++, and to whatever calls C.
 
-   irs_run does what a command of the program irs does, on words and files in memory; irs_meaning says what
-   the line that it answers means; irs_version names the version. Words, files, texts and statuses are those
+   irs_run does what a command of the program irs does, on words and files in memory; irs_run_each does it for
+   many trades; irs_meaning says what the line that it answers means; irs_version names the version. Words, files, texts and statuses are those
    of the program (docs/FORMATS.md). Nothing is kept between calls.
 
    What a caller has to keep to:
    - no pointer is NULL, even if it points to nothing (irs_lend helps);
-   - `out` and `needed` overlap neither each other nor what is lent, and nobody writes to what is lent
-     while the call runs; otherwise several threads may call at once;
+   - `out`, `needed` and `answers` overlap neither each other nor what is lent, and nobody writes to what is
+     lent while the call runs; otherwise several threads may call at once;
    - it isn't called from a signal handler;
    - the thread has at least 256 KiB of stack (JSON nests up to 127 deep, XML up to 63), and the processor has SSE4.1. */
 #ifndef IRS_H
@@ -36,6 +36,26 @@ struct irs_file { struct irs_bytes name, bytes; };
 uint8_t irs_run(const struct irs_bytes *words, size_t n_words,
                 const struct irs_file *files, size_t n_files,
                 uint8_t *out, size_t out_len, size_t *needed);
+
+/* A trade of irs_run_each: the files that are its own. */
+struct irs_trade { const struct irs_file *files; size_t n_files; };
+
+/* What a trade comes to: the status, and the lengths of its text and of its sentence. */
+struct irs_answer { uint8_t status; size_t text_len, sentence_len; };
+
+/* Runs one command for each of many trades: over the common files, and after them the trade's own. `answers[k]` is
+   what `trades[k]` comes to: status and text are what irs_run gives for these files, and the sentence is what
+   irs_meaning gives for them. The fixings and the calendars that the words name are read once where all of them are
+   common. As many trades are run as there is room in `answers`.
+
+   Writes the texts and the sentences to `out`, those of a trade one after the other, as far as there is room; and the
+   length of all to `*needed`: where that is above `out_len`, call again with as much room. A trade with status 7 or 9
+   has no text and no sentence. Nothing is kept for a later call. */
+void irs_run_each(const struct irs_bytes *words, size_t n_words,
+                  const struct irs_file *common, size_t n_common,
+                  const struct irs_trade *trades, size_t n_trades,
+                  struct irs_answer *answers, size_t n_answers,
+                  uint8_t *out, size_t out_len, size_t *needed);
 
 /* What the line of an answer means, in one plain sentence: the words of the command, and the status and
    the text that irs_run answered. Answers 0, or 7 where memory ran out, or 9 where a word isn't UTF-8. The

@@ -11,6 +11,7 @@ TypeError for what is no document and no file.
 from __future__ import annotations
 
 import datetime
+import itertools
 import json
 import os
 from decimal import Decimal
@@ -20,7 +21,8 @@ from typing import Any, Dict, Iterable, Iterator, List, Mapping, NamedTuple, Opt
 
 from .documents import word_for
 from .errors import error_of
-from .library import Answer, Text, meaning, run
+from .library import Answer, Text, Told, meaning, run, runs_each
+from .library import run_each as library_run_each
 from .looks import Looks
 from .rows import (
     Accrued,
@@ -235,36 +237,46 @@ class Item(NamedTuple):
     fixings: Optional[Text] = None
 
 
-class Told(NamedTuple):
-    """What a trade comes to: status, text, and what the first line means in one sentence (empty at status 0, but for an
-    audit whose amounts lack fixings)."""
+#: How many trades go to the library in one call.
+MOST_TRADES = 64
 
-    status: int
-    text: bytes
-    sentence: str
+
+def _own_files(command: str, item: Item) -> Dict[str, Text]:
+    """The files that are a trade's own, by the words that name them."""
+    files: Dict[str, Text] = {word_for("document", item.document): item.document}
+    if command == "audit" and item.flows is not None:
+        files[word_for("flows", item.flows)] = item.flows
+    if command != "check" and item.fixings is not None:
+        files["fixings"] = item.fixings
+    return files
 
 
 def _words_of(
-    command: str, item: Item, calendars: Sequence[Tuple[str, bytes]], fixings: Optional[bytes]
+    command: str, own: Sequence[str], calendars: Sequence[Tuple[str, bytes]], fixings: Optional[bytes]
 ) -> Tuple[List[Text], Dict[str, Text]]:
-    name = word_for("document", item.document)
-    files: Dict[str, Text] = {name: item.document}
-    words: List[Text] = [command, name]
-    rates = fixings if item.fixings is None else item.fixings
+    """The words for trades with own files of these names, and the common files that the words name."""
+    common: Dict[str, Text] = {}
+    words: List[Text] = [command, own[0]]
     if command != "check":
-        words.append("-" if rates is None else "fixings")
-        if rates is not None:
-            files["fixings"] = rates
+        words.append("-" if fixings is None and "fixings" not in own else "fixings")
+        if fixings is not None and "fixings" not in own:
+            common["fixings"] = fixings
     if command == "audit":
-        name = "flows" if item.flows is None else word_for("flows", item.flows)
-        words.append(name)
-        if item.flows is not None:
-            files[name] = item.flows
+        words.append(next((name for name in own if name.startswith("flows")), "flows"))
     # A calendar's name is a word, so that a sentence has it.
     for name, calendar in calendars:
-        files[f"calendar {name}"] = calendar
+        common[f"calendar {name}"] = calendar
         words.append(f"calendar {name}")
-    return words, files
+    return words, common
+
+
+def _run_alone(words: Sequence[Text], common: Mapping[str, Text], trades: Sequence[Mapping[str, Text]]) -> List[Told]:
+    """What `library.run_each` does, by a call a trade."""
+    told: List[Told] = []
+    for own in trades:
+        answer = run(words, {**own, **common})
+        told.append(Told(answer.status, answer.text, meaning(words, answer.status, answer.text)))
+    return told
 
 
 def run_each(
@@ -272,12 +284,15 @@ def run_each(
 ) -> Iterator[Told]:
     """One command over many trades, with the calendars (name and bytes) and the fixings that they have in common.
 
-    Each trade's answer is the one that it has alone. This is the one place where a book asks the library.
+    Each trade's answer is the one that it has alone. This is the one place where a book asks the library. Trades that
+    follow each other, and name their files alike, go to it at once: it reads the common files once for them.
     """
-    for item in items:
-        words, files = _words_of(command, item, calendars, fixings)
-        answer = run(words, files)
-        yield Told(answer.status, answer.text, meaning(words, answer.status, answer.text))
+    ask = library_run_each if runs_each() else _run_alone
+    named = ((tuple(own), own) for own in (_own_files(command, item) for item in items))
+    for names, group in itertools.groupby(named, key=lambda pair: pair[0]):
+        words, common = _words_of(command, names, calendars, fixings)
+        while trades := [own for _, own in itertools.islice(group, MOST_TRADES)]:
+            yield from ask(words, common, trades)
 
 
 def check(document: Document, calendars: Iterable[File] = ()) -> None:

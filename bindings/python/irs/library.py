@@ -7,7 +7,7 @@ from __future__ import annotations
 import ctypes
 import functools
 import os
-from typing import Mapping, NamedTuple, Optional, Sequence, Union
+from typing import List, Mapping, NamedTuple, Optional, Sequence, Union
 
 Text = Union[bytes, str]
 
@@ -21,6 +21,9 @@ ROOM = 1 << 16
 #: The same for a command whose texts are long.
 ROOM_OF = {"emit": 1 << 20, "schedule": 1 << 18}
 
+#: How much room `run_each` has for a trade of another command, in bytes.
+ROOM_OF_EACH = 1 << 12
+
 #: No line that a status other than 0 has is longer than this, in bytes.
 LONGEST_LINE = 512
 
@@ -33,11 +36,28 @@ class _File(ctypes.Structure):
     _fields_ = [("name", _Bytes), ("bytes", _Bytes)]
 
 
+class _Trade(ctypes.Structure):
+    _fields_ = [("files", ctypes.POINTER(_File)), ("n_files", ctypes.c_size_t)]
+
+
+class _Slot(ctypes.Structure):
+    _fields_ = [("status", ctypes.c_uint8), ("text_len", ctypes.c_size_t), ("sentence_len", ctypes.c_size_t)]
+
+
 class Answer(NamedTuple):
     """What a command comes to: the status of the program, and the text that it prints."""
 
     status: int
     text: bytes
+
+
+class Told(NamedTuple):
+    """What a trade comes to: status, text, and what the first line means in one sentence (empty at status 0, but for an
+    audit whose amounts lack fixings)."""
+
+    status: int
+    text: bytes
+    sentence: str
 
 
 @functools.lru_cache(maxsize=None)
@@ -58,6 +78,21 @@ def _library() -> ctypes.CDLL:
         ctypes.c_size_t,
         ctypes.POINTER(ctypes.c_size_t),
     ]
+    if hasattr(library, "irs_run_each"):
+        library.irs_run_each.restype = None
+        library.irs_run_each.argtypes = [
+            ctypes.POINTER(_Bytes),
+            ctypes.c_size_t,
+            ctypes.POINTER(_File),
+            ctypes.c_size_t,
+            ctypes.POINTER(_Trade),
+            ctypes.c_size_t,
+            ctypes.POINTER(_Slot),
+            ctypes.c_size_t,
+            ctypes.c_void_p,
+            ctypes.c_size_t,
+            ctypes.POINTER(ctypes.c_size_t),
+        ]
     if hasattr(library, "irs_version"):
         library.irs_version.restype = None
         library.irs_version.argtypes = [ctypes.c_void_p, ctypes.c_size_t, ctypes.POINTER(ctypes.c_size_t)]
@@ -102,6 +137,63 @@ def engine() -> str:
     return ctypes.string_at(out, min(needed.value, len(out))).decode()
 
 
+def _lent_files(files: Mapping[str, Text]) -> "ctypes.Array[_File]":
+    pairs = [_File(_lent(name), _lent(content)) for name, content in files.items()]
+    return (_File * max(1, len(pairs)))(*pairs)
+
+
+def runs_each() -> bool:
+    """Whether the library has the call for many trades."""
+    return hasattr(_library(), "irs_run_each")
+
+
+def run_each(
+    words: Sequence[Text], common: Mapping[str, Text], trades: Sequence[Mapping[str, Text]]
+) -> List[Told]:
+    """Does what `run` does for each trade, over the common files and then the trade's own.
+
+    The fixings and the calendars that the words name are read once, where all of them are common. The sentence is that
+    of `meaning`. Where memory runs out the status of a trade is 7, without text and sentence.
+
+    >>> run_each(["check", "document"], {}, [{"document": b"["}])
+    [Told(status=2, text=b'refused K1 0 document 0\\n', sentence="K1: the document isn't JSON")]
+    """
+    lent_words = (_Bytes * max(1, len(words)))(*[_lent(word) for word in words])
+    lent_common = _lent_files(common)
+    own = [_lent_files(files) for files in trades]
+    lent_trades = (_Trade * max(1, len(own)))(*[_Trade(its, len(files)) for its, files in zip(own, trades)])
+    slots = (_Slot * max(1, len(own)))()
+    needed = ctypes.c_size_t()
+    library = _library()
+    room = (ROOM_OF.get(str(words[0]), ROOM_OF_EACH) if words else ROOM_OF_EACH) * max(1, len(trades))
+    while True:
+        out = ctypes.create_string_buffer(room)
+        library.irs_run_each(
+            lent_words,
+            len(words),
+            lent_common,
+            len(common),
+            lent_trades,
+            len(trades),
+            slots,
+            len(trades),
+            out,
+            room,
+            ctypes.byref(needed),
+        )
+        if needed.value <= room:
+            break
+        room = needed.value
+    told: List[Told] = []
+    said, place = ctypes.string_at(out, needed.value), 0
+    for slot in slots[: len(trades)]:
+        middle = place + slot.text_len
+        end = middle + slot.sentence_len
+        told.append(Told(slot.status, said[place:middle], said[middle:end].decode(errors="replace")))
+        place = end
+    return told
+
+
 def run(words: Sequence[Text], files: Optional[Mapping[str, Text]] = None) -> Answer:
     """Does what the program does on a command line, with files from memory.
 
@@ -134,7 +226,7 @@ def meaning(words: Sequence[Text], status: int, line: Text) -> str:
     >>> meaning(["check", "document"], 2, "refused K1 0 document 0")
     "K1: the document isn't JSON"
     """
-    if status == 0:
+    if status == 0 and as_bytes(words[0] if words else b"") != b"audit":
         return ""
     lent_words = (_Bytes * max(1, len(words)))(*[_lent(word) for word in words])
     said = as_bytes(line)[:LONGEST_LINE]

@@ -1,5 +1,5 @@
 -- There is one first broken rule, and one first line of a file of fixings that is at fault.
-use Rattle.std.proofs.Common.{◌≡◌, ℕ, List, Option, Some, None, Result, Ok, Err, IfErr, IfOk}
+use Rattle.std.proofs.Common.{◌≡◌, ℕ, List, Option, Some, None, Result, Ok, Err}
 use Rattle.irs_base.proofs.FaultOrder.{broken_ties}
 use Rattle.irs_base.proofs.Firsts.{one_first as one_of_order}
 use Rattle.irs_base.specs.Order.{First, is_before}
@@ -10,7 +10,7 @@ use Rattle.irs_resets.specs.declared.fixings.FixErr.{FixErr}
 use Rattle.irs_resets.specs.declared.fixings.FixErr.TheVariants.{Syntax, Repeat, Memory}
 use Rattle.irs_resets.proofs.FileOutcomes.{no_rates, one_fault}
 use Rattle.irs_answers.specs.Due.{IsFixingsFault, AreFixings}
-use Rattle.irs_answers.specs.Outcomes.{FixingsFail}
+use Rattle.irs_answers.specs.Common.{FixingsRead}
 
 -- ---- broken rules
 
@@ -30,16 +30,10 @@ pub no_fixings : (o : Option (List ℕ)) (f : FixErr) (t : RateTable) → IsFixi
 no_fixings None f t h k = h
 no_fixings (Some bytes) f t h k = no_rates bytes f t h k
 
--- an error of reading a file is its first line at fault
-pub read_fails : (bytes : List ℕ) (r : Result RateTable FixErr) → MeetsFile (fixings_of bytes) r
-    → IfErr r (λ e. FixingsFail (Some bytes) e)
-read_fails bytes (Ok t) h = tt
-read_fails bytes (Err (Syntax n)) h = h
-read_fails bytes (Err (Repeat n)) h = h
-read_fails bytes (Err Memory) h = tt
-
--- what is read of a file is its rates
-pub read_gives : (bytes : List ℕ) (r : Result RateTable FixErr) → MeetsFile (fixings_of bytes) r
-    → IfOk r (λ t. AreFixings (Some bytes) t)
-read_gives bytes (Ok t) h = h
-read_gives bytes (Err e) h = tt
+-- what reading a file of fixings gave is its rates, or its first line at fault
+pub read_table : (bytes : List ℕ) (r : Result RateTable FixErr) → MeetsFile (fixings_of bytes) r
+    → FixingsRead (Some bytes) r
+read_table bytes (Ok t) h = h
+read_table bytes (Err (Syntax n)) h = h
+read_table bytes (Err (Repeat n)) h = h
+read_table bytes (Err Memory) h = tt

@@ -4,4 +4,4 @@ use Rattle.irs_answers.specs.Due.{Facts, facts}
 
 -- the facts that the code keeps
 abbrev pub facts_by : Found → Facts
-facts_by f = facts f.swap f.sides f.calendars f.fixings f.schedule
+facts_by f = facts f.swap f.sides f.calendars.now f.fixings.now f.schedule

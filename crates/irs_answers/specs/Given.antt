@@ -33,6 +33,16 @@ given_by f =
       calendars = map (λ v. v.items) f.calendars.items;
     }
 
+-- the document and the flows of the first, and the other files of the second
+abbrev pub given_with : TaskFiles → TaskFiles → Given
+given_with own common =
+    record {
+      document = source_by own.document;
+      fixings = option_map (λ v. v.items) common.fixings;
+      flows = source_by own.flows;
+      calendars = map (λ v. v.items) common.calendars.items;
+    }
+
 -- the limits that the readers of the files ask for
 pub record IsWithin (g : Given) : Type 0 where
   pub fixings : IfSome g.fixings (λ bytes. length bytes < too_many)

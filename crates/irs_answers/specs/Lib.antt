@@ -13,4 +13,5 @@ pub mod CashFlows
 pub mod Due
 pub mod Replying
 pub mod Outcomes
+pub mod Common
 pub mod Found

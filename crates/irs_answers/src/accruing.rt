@@ -13,9 +13,9 @@ use irs_schedule::applicable_days;
 use std::alloc::Global;
 
 /// What has accrued on a day in each stream.
-pub(crate) fn accrued_page(alloc: Global, found: &Found, date: Day) -> Result<Vec<u8>, Memory>
-    requires { IsAccruing (accruing found.now.swap found.now.calendars found.now.fixings) found.now.schedule }
-    ensures { let x = accruing found.now.swap found.now.calendars found.now.fixings in
+pub(crate) fn accrued_page(alloc: Global, found: &Found<'_>, date: Day) -> Result<Vec<u8>, Memory>
+    requires { IsAccruing (accruing found.now.swap found.now.calendars.now found.now.fixings.now) found.now.schedule }
+    ensures { let x = accruing found.now.swap found.now.calendars.now found.now.fixings.now in
         IfOk result (λ t. TellsAccrued date x found.now.schedule t.items) }
 {
     let mut text = header(alloc, date)?;
@@ -30,10 +30,10 @@ pub(crate) fn accrued_page(alloc: Global, found: &Found, date: Day) -> Result<Ve
 }
 
 // What has accrued on a day in the stream at a place.
-fn accrual_in(alloc: Global, found: &Found, index: u8, date: Day) -> Result<Accrual, Memory>
-    requires files { IsAccruing (accruing found.now.swap found.now.calendars found.now.fixings) found.now.schedule }
+fn accrual_in(alloc: Global, found: &Found<'_>, index: u8, date: Day) -> Result<Accrual, Memory>
+    requires files { IsAccruing (accruing found.now.swap found.now.calendars.now found.now.fixings.now) found.now.schedule }
     requires place { index < length found.now.schedule }
-    ensures accrues { let x = accruing found.now.swap found.now.calendars found.now.fixings in
+    ensures accrues { let x = accruing found.now.swap found.now.calendars.now found.now.fixings.now in
         (p : Part) → slice_get found.now.schedule index ≡ Some p
         → IfOk result (Only (AccruesAt x date (index + 1) p)) }
     ensures places { IfOk result HasPlaces }
@@ -41,8 +41,8 @@ fn accrual_in(alloc: Global, found: &Found, index: u8, date: Day) -> Result<Accr
     let place = index as usize;
     let stream = &found.swap.streams.as_slice()[place];
     let part = &found.schedule.streams()[place];
-    let days = applicable_days(alloc, &found.calendars, stream)?;
-    accrued_of(alloc, stream, &days, &found.fixings, part, date)
+    let days = applicable_days(alloc, found.calendars, stream)?;
+    accrued_of(alloc, stream, &days, found.fixings, part, date)
 }
 
 fn header(alloc: Global, date: Day) -> Result<Vec<u8>, Memory>

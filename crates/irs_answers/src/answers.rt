@@ -6,7 +6,7 @@ ghost use Rattle.irs_answers.specs.CashFlows.{DueFlows, DueVerdict};
 ghost use Rattle.irs_answers.specs.Due.{Answered, Passes};
 ghost use Rattle.irs_answers.specs.Forms.{source_by};
 ghost use Rattle.irs_answers.specs.Found.{facts_by};
-ghost use Rattle.irs_answers.specs.Given.{given_by};
+ghost use Rattle.irs_answers.specs.Given.{given_with};
 ghost use Rattle.irs_answers.specs.Messages.{all_kept};
 ghost use Rattle.irs_answers.specs.Outcomes.{Ends, IfAnswered};
 ghost use Rattle.irs_answers.specs.Steps.{Is};
@@ -15,6 +15,7 @@ ghost use Rattle.irs_terms.specs.Lawful.{IsLawful};
 
 use crate::accruing::accrued_page;
 use crate::breaking::breaks_answer;
+use crate::common::Common;
 use crate::derived::{average_answer, interpolate_answer, overnight_answer};
 use crate::due::Found;
 use crate::files::TaskFiles;
@@ -35,12 +36,14 @@ pub(crate) fn answer_by(
     alloc: Global,
     task: &Task,
     files: &TaskFiles,
-    found: Found,
+    common: &Common,
+    found: Found<'_>,
 ) -> Result<Reply, Refusal>
     requires asked { IsLawfulTask task.now }
     requires lawful { IsLawful found.swap }
-    requires passes { Passes task.now (given_by files.now) (facts_by found) }
-    ensures { IfAnswered result (Ends (Answered task.now (given_by files.now) (facts_by found))) }
+    requires passes { Passes task.now (given_with files.now common.now.files) (facts_by found) }
+    ensures { IfAnswered result
+        (Ends (Answered task.now (given_with files.now common.now.files) (facts_by found.entry))) }
 {
     match *task {
         Task::Check => check_answer(alloc),
@@ -81,9 +84,9 @@ fn emit_answer(alloc: Global, schedule: &Schedule) -> Result<Reply, Refusal>
     Ok(Reply::Text(Status::Done, emit_flows(alloc, schedule)?))
 }
 
-fn accrue_answer(alloc: Global, found: &Found, date: Day) -> Result<Reply, Refusal>
-    requires { IsAccruing (accruing found.now.swap found.now.calendars found.now.fixings) found.now.schedule }
-    ensures { let x = accruing found.now.swap found.now.calendars found.now.fixings in
+fn accrue_answer(alloc: Global, found: &Found<'_>, date: Day) -> Result<Reply, Refusal>
+    requires { IsAccruing (accruing found.now.swap found.now.calendars.now found.now.fixings.now) found.now.schedule }
+    ensures { let x = accruing found.now.swap found.now.calendars.now found.now.fixings.now in
         IfAnswered result (Ends (λ status text. (status ≡ 0) × TellsAccrued date x found.now.schedule text)) }
 {
     Ok(Reply::Text(Status::Done, accrued_page(alloc, found, date)?))

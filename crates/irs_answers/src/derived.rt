@@ -21,15 +21,15 @@ use irs_terms::{FloatTerms, Frequency, Leg, Stream, Swap};
 use std::alloc::Global;
 
 /// The rates that daily rates give for the stream with that number.
-pub(crate) fn overnight_answer(alloc: Global, number: u8, found: &Found) -> Result<Reply, Refusal>
-    requires { IsUnfixed found.now.swap found.now.calendars found.now.schedule }
+pub(crate) fn overnight_answer(alloc: Global, number: u8, found: &Found<'_>) -> Result<Reply, Refusal>
+    requires { IsUnfixed found.now.swap found.now.calendars.now found.now.schedule }
     ensures { IfAnswered result
-        (Ends (DueOvernight number found.now.swap found.now.calendars found.now.fixings found.now.schedule)) }
+        (Ends (DueOvernight number found.now.swap found.now.calendars.now found.now.fixings.now found.now.schedule)) }
 {
     let swap = &found.swap;
     let (stream, float) = floating(swap, number)?;
-    let days = reset_days(alloc, &found.calendars, stream)?;
-    let rows = overnight(alloc, &found.schedule, swap, number, &days, &found.fixings)?;
+    let days = reset_days(alloc, found.calendars, stream)?;
+    let rows = overnight(alloc, &found.schedule, swap, number, &days, found.fixings)?;
     let text = fixings_page(alloc, rows.as_slice(), float.tenor, &float.index)?;
     Ok(Reply::Text(Status::Done, text))
 }
@@ -40,17 +40,17 @@ pub(crate) fn average_answer(
     number: u8,
     mean: Mean,
     step: u32,
-    found: &Found,
+    found: &Found<'_>,
 ) -> Result<Reply, Refusal>
     requires some { 1 ≤ step }
     requires few { step ≤ most_step }
-    requires unfixed { IsUnfixed found.now.swap found.now.calendars found.now.schedule }
+    requires unfixed { IsUnfixed found.now.swap found.now.calendars.now found.now.schedule }
     ensures { IfAnswered result
-        (Ends (DueAverage number mean step found.now.swap found.now.calendars found.now.fixings found.now.schedule)) }
+        (Ends (DueAverage number mean step found.now.swap found.now.calendars.now found.now.fixings.now found.now.schedule)) }
 {
     let (swap, schedule) = (&found.swap, &found.schedule);
     let (stream, float) = floating(swap, number)?;
-    let days = reset_days(alloc, &found.calendars, stream)?;
+    let days = reset_days(alloc, found.calendars, stream)?;
     let rows = average(
         alloc,
         schedule,
@@ -59,7 +59,7 @@ pub(crate) fn average_answer(
         mean,
         step,
         &days,
-        &found.fixings,
+        found.fixings,
     )?;
     let text = fixings_page(alloc, rows.as_slice(), float.tenor, &float.index)?;
     Ok(Reply::Text(Status::Done, text))
@@ -72,13 +72,13 @@ pub(crate) fn interpolate_answer(
     side: Side,
     low: Frequency,
     high: Frequency,
-    found: &Found,
+    found: &Found<'_>,
 ) -> Result<Reply, Refusal>
     requires low { IsLawfulTenor low }
     requires high { IsLawfulTenor high }
-    requires unfixed { IsUnfixed found.now.swap found.now.calendars found.now.schedule }
+    requires unfixed { IsUnfixed found.now.swap found.now.calendars.now found.now.schedule }
     ensures { IfAnswered result
-        (Ends (DueInterpolate number side low high found.now.swap found.now.fixings found.now.schedule)) }
+        (Ends (DueInterpolate number side low high found.now.swap found.now.fixings.now found.now.schedule)) }
 {
     let swap = &found.swap;
     floating(swap, number)?;
@@ -89,7 +89,7 @@ pub(crate) fn interpolate_answer(
         side,
         low,
         high,
-        &found.fixings,
+        found.fixings,
     )?;
     let Some((index, tenor)) = stub_index(swap, number, side) else {
         unreachable!()

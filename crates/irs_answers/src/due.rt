@@ -1,18 +1,19 @@
 //! What a task over its files comes to: the steps that the tasks share.
-ghost use Rattle.std.specs.Prelude.{◌≤◌, length, option_map, IfSome, IfOk, IfErr};
+ghost use Rattle.std.specs.Prelude.{IfOk, IfErr};
 ghost use Rattle.serde_json.specs.View.{view};
-ghost use Rattle.irs_base.specs.Limits.{most_bytes};
 ghost use Rattle.irs_base.specs.declared.places.Broken.{Broken as BrokenRule};
 ghost use Rattle.irs_read.specs.Documents.{DocumentFault};
 ghost use Rattle.irs_terms.specs.Lawful.{IsLawful};
-ghost use Rattle.irs_answers.specs.Given.{IsWithin, given_by};
-ghost use Rattle.irs_answers.specs.Due.{AreFixings, BreaksSides, DueFor, HasSides, Passes, rates_for};
+ghost use Rattle.irs_answers.specs.Common.{AreRead};
+ghost use Rattle.irs_answers.specs.Given.{IsWithin, given_by, given_with};
+ghost use Rattle.irs_answers.specs.Due.{BreaksSides, DueFor, HasSides, Passes, rates_for};
 ghost use Rattle.irs_answers.specs.Found.{facts_by};
-ghost use Rattle.irs_answers.specs.Outcomes.{Ends, FixingsFail, IfAnswered, IfRefused, IsScheduled, IsUnscheduled};
+ghost use Rattle.irs_answers.specs.Outcomes.{Ends, IfAnswered, IfRefused, IsScheduled, IsUnscheduled};
 ghost use Rattle.irs_answers.specs.Replying.{reply_status, reply_text};
 ghost use Rattle.irs_answers.specs.Tasks.{IsLawfulTask};
 
 use crate::answers::answer_by;
+use crate::common::Common;
 use crate::files::TaskFiles;
 use crate::forms::read_document;
 use crate::refusals::Refusal;
@@ -23,7 +24,7 @@ use irs_calendar::Calendars;
 use irs_json::Value;
 use irs_net::{Sides, read_sides};
 use irs_read::read_swap;
-use irs_resets::{FixErr, Fixings};
+use irs_resets::Fixings;
 use irs_rules::check_terms;
 use irs_schedule::{Schedule, make_schedule};
 use irs_terms::Swap;
@@ -31,15 +32,15 @@ use std::alloc::Global;
 
 /// What the files of a task say, and the schedule.
 #[derive(Drop)]
-pub struct Found {
+pub struct Found<'a> {
     /// The swap that the document spells.
     pub swap: Swap,
     /// Which party pays each stream, for a task that needs it.
     pub sides: Option<Sides>,
     /// The calendar files.
-    pub calendars: Calendars,
+    pub calendars: &'a Calendars,
     /// The rates of the file of fixings, none where there is no file.
-    pub fixings: Fixings,
+    pub fixings: &'a Fixings,
     /// The schedule of the swap, made with those rates where the task uses them.
     pub schedule: Schedule,
 }
@@ -47,42 +48,71 @@ pub struct Found {
 /// The status and the text that a task over its files comes to. The first step that applies decides. The
 /// steps are the document, the parties where the task needs them, the calendars, the fixings and the rules of
 /// the swap. The task's own step comes last. `Memory` comes where memory ran out.
-pub fn reply_of(alloc: Global, task: Task, files: &TaskFiles) -> Result<Reply, Memory>
+pub fn reply_of(alloc: Global, task: Task, files: TaskFiles) -> Result<Reply, Memory>
     requires lawful { IsLawfulTask task }
-    requires within { IsWithin (given_by files.now) }
-    ensures { IfOk result (λ r. Ends (DueFor task (given_by files.now)) (reply_status r) (reply_text r)) }
+    requires within { IsWithin (given_by files) }
+    ensures { IfOk result (λ r. Ends (DueFor task (given_by files)) (reply_status r) (reply_text r)) }
 {
-    match carry_out(alloc, task, files) {
+    let (own, common) = files.split(alloc);
+    let common = Common::read(alloc, common);
+    reply_by(alloc, task, &own, &common)
+}
+
+/// The status and the text that a task comes to over the document and the flows of `files`, and over the
+/// calendars and the fixings that were read before. It is what `reply_of` gives for all these files.
+pub fn reply_by(
+    alloc: Global,
+    task: Task,
+    files: &TaskFiles,
+    common: &Common,
+) -> Result<Reply, Memory>
+    requires lawful { IsLawfulTask task }
+    requires read { AreRead common.now }
+    ensures { let given = given_with files.now common.now.files in
+        IfOk result (λ r. Ends (DueFor task given) (reply_status r) (reply_text r)) }
+{
+    match carry_out(alloc, task, files, common) {
         Ok(reply) => Ok(reply),
         Err(refusal) => refusal.reply(alloc),
     }
 }
 
 // What a task over its files comes to, or why it isn't carried out.
-fn carry_out(alloc: Global, task: Task, files: &TaskFiles) -> Result<Reply, Refusal>
+fn carry_out(
+    alloc: Global,
+    task: Task,
+    files: &TaskFiles,
+    common: &Common,
+) -> Result<Reply, Refusal>
     requires lawful { IsLawfulTask task }
-    requires within { IsWithin (given_by files.now) }
-    ensures { IfAnswered result (Ends (DueFor task (given_by files.now))) }
+    requires read { AreRead common.now }
+    ensures { IfAnswered result (Ends (DueFor task (given_with files.now common.now.files))) }
 {
-    let found = find(alloc, task, files)?;
-    answer_by(alloc, &task, files, found)
+    let found = find(alloc, task, files, common)?;
+    answer_by(alloc, &task, files, common, found)
 }
 
 /// What the files of a task say, and the schedule, or the first step that fails. The steps are the
 /// document, the parties where the task needs them (K8), the calendars, the fixings and the rules of the
-/// swap.
-pub fn find(alloc: Global, task: Task, files: &TaskFiles) -> Result<Found, Refusal>
-    requires { IsWithin (given_by files.now) }
-    ensures passes { IfOk result (λ f. Passes task (given_by files.now) (facts_by f)) }
+/// swap. The document is that of `files`; the calendars and the fixings were read before.
+pub fn find<'a>(
+    alloc: Global,
+    task: Task,
+    files: &TaskFiles,
+    common: &'a Common,
+) -> Result<Found<'a>, Refusal>
+    requires { AreRead common.now }
+    ensures passes { IfOk result (λ f. Passes task (given_with files.now common.now.files) (facts_by f)) }
     ensures lawful { IfOk result (λ f. IsLawful f.swap) }
-    ensures refused { IfErr result (λ r. IfRefused r (Ends (DueFor task (given_by files.now)))) }
+    ensures refused { IfErr result
+        (λ r. IfRefused r (Ends (DueFor task (given_with files.now common.now.files)))) }
 {
     let document = read_document(alloc, &files.document)?;
     let swap = read_swap(alloc, &document)?;
     let sides = sides_for(&task, &document)?;
-    let calendars = Calendars::read(alloc, &files.calendars)?;
-    let fixings = read_fixings(alloc, &files.fixings)?;
-    let schedule = schedule_for(alloc, &task, &swap, &calendars, &fixings)?;
+    let calendars = common.calendars()?;
+    let fixings = common.fixings()?;
+    let schedule = schedule_for(alloc, &task, &swap, calendars, fixings)?;
     Ok(Found {
         swap,
         sides,
@@ -102,18 +132,6 @@ fn sides_for(task: &Task, document: &Value) -> Result<Option<Sides>, Broken>
         Ok(Some(read_sides(document)?))
     } else {
         Ok(None)
-    }
-}
-
-// The fixings of a file, none where there is no file.
-fn read_fixings(alloc: Global, bytes: &Option<Vec<u8>>) -> Result<Fixings, FixErr>
-    requires { IfSome bytes.now (λ v. length v.items ≤ most_bytes) }
-    ensures fixings { IfOk result (λ f. AreFixings (option_map (λ v. v.items) bytes.now) f) }
-    ensures fault { IfErr result (λ e. FixingsFail (option_map (λ v. v.items) bytes.now) e) }
-{
-    match bytes {
-        Some(bytes) => Fixings::read(alloc, bytes),
-        None => Ok(Fixings::none()),
     }
 }
 

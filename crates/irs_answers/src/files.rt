@@ -1,6 +1,6 @@
 //! The files of a task, by what they are to it.
 ghost use Rattle.std.specs.Prelude.{◌≡◌};
-ghost use Rattle.irs_answers.specs.Given.{given_by, no_files};
+ghost use Rattle.irs_answers.specs.Given.{IsWithin, given_by, given_with, no_files};
 
 use crate::forms::Source;
 use std::alloc::Global;
@@ -29,5 +29,31 @@ impl TaskFiles {
             flows: Source::empty(alloc),
             calendars: Vec::new(alloc),
         }
+    }
+
+    /// The document and the flows alone, and the other files alone.
+    pub(crate) fn split(self, alloc: Global) -> (TaskFiles, TaskFiles)
+        ensures whole { given_with result.0 result.1 ≡ given_by self }
+        ensures limits { IsWithin (given_by self) → IsWithin (given_by result.1) }
+    {
+        let TaskFiles {
+            document,
+            fixings,
+            flows,
+            calendars,
+        } = self;
+        let own = TaskFiles {
+            document,
+            fixings: None,
+            flows,
+            calendars: Vec::new(alloc),
+        };
+        let common = TaskFiles {
+            document: Source::empty(alloc),
+            fixings,
+            flows: Source::empty(alloc),
+            calendars,
+        };
+        (own, common)
     }
 }

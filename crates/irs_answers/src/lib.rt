@@ -6,6 +6,7 @@ mod accruing;
 mod answers;
 mod breaking;
 mod carrying;
+mod common;
 mod derived;
 mod due;
 mod files;
@@ -20,7 +21,8 @@ mod replies;
 mod tasks;
 
 pub use carrying::carrier;
-pub use due::{Found, find, reply_of, schedule_of};
+pub use common::Common;
+pub use due::{Found, find, reply_by, reply_of, schedule_of};
 pub use files::TaskFiles;
 pub use forms::{Form, ReadErr, Source, read_document};
 pub use refusals::Refusal;

@@ -15,7 +15,7 @@ use irs_schedule::Schedule;
 use std::alloc::Global;
 
 /// The net of a schedule, by the sides that were read.
-pub(crate) fn net_answer(alloc: Global, found: &Found) -> Result<Reply, Refusal>
+pub(crate) fn net_answer(alloc: Global, found: &Found<'_>) -> Result<Reply, Refusal>
     requires { IsSided found.now.sides found.now.schedule }
     ensures { IfAnswered result
         (Ends (λ status text. (status ≡ 0) × TellsNet found.now.sides found.now.schedule text)) }

@@ -26,10 +26,10 @@ use std::alloc::Global;
 pub(crate) fn observations_answer(
     alloc: Global,
     number: u8,
-    found: &Found,
+    found: &Found<'_>,
 ) -> Result<Reply, Refusal>
-    requires { IsAccruing (accruing found.now.swap found.now.calendars found.now.fixings) found.now.schedule }
-    ensures { let x = accruing found.now.swap found.now.calendars found.now.fixings in
+    requires { IsAccruing (accruing found.now.swap found.now.calendars.now found.now.fixings.now) found.now.schedule }
+    ensures { let x = accruing found.now.swap found.now.calendars.now found.now.fixings.now in
         IfAnswered result (Ends (DueObservations number x found.now.schedule)) }
 {
     let (stream, float, parameters) = daily(&found.swap, number)?;
@@ -42,19 +42,19 @@ pub(crate) fn observations_answer(
 fn rows_of(
     alloc: Global,
     number: u8,
-    found: &Found,
+    found: &Found<'_>,
     stream: &Stream,
     float: &FloatTerms,
     parameters: &CalculationParameters,
 ) -> Result<ObservedRows, Memory>
-    requires made { IsAccruing (accruing found.now.swap found.now.calendars found.now.fixings) found.now.schedule }
+    requires made { IsAccruing (accruing found.now.swap found.now.calendars.now found.now.fixings.now) found.now.schedule }
     requires daily { IsDailyAt found.now.swap number (daily_stream stream.now float.now parameters.now) }
-    ensures { let x = accruing found.now.swap found.now.calendars found.now.fixings in
+    ensures { let x = accruing found.now.swap found.now.calendars.now found.now.fixings.now in
         IfOk result (AreRowsIn number x found.now.schedule (daily_stream stream.now float.now parameters.now)) }
 {
     let part = part_at(&found.schedule, number);
     let span = span_of(stream);
-    let days = applicable_days(alloc, &found.calendars, stream)?;
+    let days = applicable_days(alloc, found.calendars, stream)?;
     match observed_rows(
         alloc,
         stream,
@@ -63,7 +63,7 @@ fn rows_of(
         &span,
         part.adjusted(),
         &days,
-        &found.fixings,
+        found.fixings,
     ) {
         Ok(rows) => Ok(rows),
         Err(Stopped::Broken(_)) => unreachable!(),

@@ -1,2 +1,4 @@
 pub mod Joined
 pub mod Texts
+pub mod EachLemmas
+pub mod LentLemmas

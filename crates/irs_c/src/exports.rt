@@ -1,17 +1,19 @@
 //! The functions that C calls. Their form is our rule; `bindings/irs.h` declares them in C.
-ghost use Rattle.std.specs.Prelude.{◌≡◌, ◌≢◌, ◌⊎◌, ℕ, ◌<◌, List, ◌++◌, length, take, drop, map, OnOk, IfOk, IfErr};
+ghost use Rattle.std.specs.Prelude.{◌≡◌, ◌≢◌, ◌⊎◌, ℕ, ◌<◌, List, ◌++◌, length, take, drop, map, OnOk, IfOk, IfErr, IfSome};
 ghost use Rattle.irs_cli.specs.Commands.{IsListed, texts};
 ghost use Rattle.irs_cli.specs.Due.{Due, IsOneAnswer};
 ghost use Rattle.irs_cli.specs.Given.{TellsAll};
+ghost use Rattle.irs_c.specs.Each.{IsCommonIn, Said};
 ghost use Rattle.irs_c.specs.Given.{words_in, file_in, AreText, IsAbsent};
 ghost use Rattle.irs_c.specs.Shown.{Shown};
 ghost use Rattle.irs_plain.specs.Sentences.{joined as joined_of, sentence_of};
 ghost use Rattle.irs_plain.specs.Shown.{shown};
 
-use crate::given::{Bytes, File, GivenFiles};
+use crate::each::{Answer, answer_each};
+use crate::given::{Bytes, File, GivenFiles, Trade};
 use crate::kept::Kept;
 use irs_base::Status;
-use irs_cli::run;
+use irs_cli::{Common, run_with};
 use irs_plain::{VERSION, meaning, shown_words};
 use std::alloc::Global;
 
@@ -65,6 +67,30 @@ pub extern "C" fn irs_run(
             status
         }
     }
+}
+
+/// Runs one command for each of many trades: over the common files, and after them the trade's own. What a
+/// trade comes to is what `irs_run` gives for these files, and its sentence what `irs_meaning` gives for that.
+/// The fixings and the calendars that the words name are read once, if all of them are common.
+///
+/// As many trades are run as `answers` has room for. The texts and the sentences go to `out`, those of a trade
+/// one after the other, as far as it has room; and the length of all to `needed`. A trade with 7 or 9 has no
+/// text and no sentence.
+#[unsafe(no_mangle)]
+pub extern "C" fn irs_run_each(
+    alloc: Global,
+    words: &[Bytes<'_>],
+    common: &[File<'_>],
+    trades: &[Trade<'_>],
+    answers: &mut [Answer],
+    out: &mut [u8],
+    needed: &mut usize,
+)
+    ensures { Said words.now common.now trades.now answers.old answers.new out.old out.new needed.new }
+{
+    let said = answer_each(alloc, words, common, trades, answers);
+    show(&said, out);
+    *needed = said.len();
 }
 
 /// What the line of an answer means, in one plain sentence. `words` are those of the command;
@@ -145,7 +171,7 @@ fn shown_words_of(alloc: Global, words: &[Bytes<'_>]) -> Result<Vec<String>, u8>
 }
 
 // The parts of a sentence one after the other, or 7 where memory ran out.
-fn joined(alloc: Global, parts: &[&[u8]]) -> Result<Vec<u8>, u8>
+pub(crate) fn joined(alloc: Global, parts: &[&[u8]]) -> Result<Vec<u8>, u8>
     ensures text { IfOk result (λ t. t.items ≡ joined_of (map (λ p. p.now) parts.now)) }
     ensures err { IfErr result (λ s. s ≡ 7) }
 {
@@ -157,7 +183,7 @@ fn joined(alloc: Global, parts: &[&[u8]]) -> Result<Vec<u8>, u8>
 }
 
 // Appends a part, or returns 7 where memory ran out.
-fn append(text: &mut Vec<u8>, part: &[u8]) -> Result<(), u8>
+pub(crate) fn append(text: &mut Vec<u8>, part: &[u8]) -> Result<(), u8>
     ensures text { OnOk result (text.new.items ≡ text.old.items ++ part.now) }
     ensures err { IfErr result (λ s. s ≡ 7) }
 {
@@ -179,21 +205,28 @@ fn answer(alloc: Global, words: &[Bytes<'_>], files: &[File<'_>]) -> Result<(u8,
     ensures err { IfErr result (λ s. (s ≡ 7) ⊎ (s ≡ 9)) }
 {
     let words = words_of(alloc, words)?;
-    run_kept(alloc, &words, files)
+    run_kept(alloc, &words, None, files, &[])
 }
 
 // Status and text of a run over the lent files, or 7 where memory ran out.
-fn run_kept(alloc: Global, words: &[String], files: &[File<'_>]) -> Result<(u8, Vec<u8>), u8>
-    ensures due { IfOk result (λ r. r.0 ≢ 5 → Due (texts words.now) (file_in files.now) r.0 r.1.items) }
-    ensures absent { IfOk result (λ r. r.0 ≡ 5 → IsAbsent (texts words.now) (file_in files.now) r.1.items) }
+pub(crate) fn run_kept(
+    alloc: Global,
+    words: &[String],
+    common: Option<&Common>,
+    files: &[File<'_>],
+    own: &[File<'_>],
+) -> Result<(u8, Vec<u8>), u8>
+    requires { IfSome common (λ c. IsCommonIn (texts words.now) files.now c.now) }
+    ensures due { IfOk result (λ r. r.0 ≢ 5 → Due (texts words.now) (file_in (files.now ++ own.now)) r.0 r.1.items) }
+    ensures absent { IfOk result (λ r. r.0 ≡ 5 → IsAbsent (texts words.now) (file_in (files.now ++ own.now)) r.1.items) }
     ensures only_unlisted { IfOk result (λ r. r.0 ≡ 4 → IsListed (texts words.now) → ⊥) }
     ensures unlisted { IfOk result (λ r. (IsListed (texts words.now) → ⊥) → r.0 ≡ 4) }
     ensures ok { IfOk result (λ r. (r.0 < 9) × (r.0 ≢ 6) × (r.0 ≢ 7)) }
     ensures err { IfErr result (λ s. s ≡ 7) }
 {
-    let mut source = GivenFiles::new(files);
+    let mut source = GivenFiles::new(files, own);
     let mut kept = Kept::new(alloc);
-    let status = run(alloc, words, &mut source, &mut kept);
+    let status = run_with(alloc, words, common, &mut source, &mut kept);
     if status == Status::PutFailed.number() || status == Status::NoMemory.number() {
         return Err(Status::NoMemory.number());
     }
@@ -201,7 +234,7 @@ fn run_kept(alloc: Global, words: &[String], files: &[File<'_>]) -> Result<(u8, 
 }
 
 // The words as text, or 9 where one isn't UTF-8, or 7 where memory ran out.
-fn words_of(alloc: Global, words: &[Bytes<'_>]) -> Result<Vec<String>, u8>
+pub(crate) fn words_of(alloc: Global, words: &[Bytes<'_>]) -> Result<Vec<String>, u8>
     ensures ok { IfOk result (λ v. texts v.items ≡ words_in words.now) }
     ensures text { IfOk result (λ _. AreText words.now) }
     ensures not_text { IfErr result (λ s. s ≡ 9 → AreText words.now → ⊥) }

@@ -1,6 +1,7 @@
 //! The two calls, over words and files in memory.
-use crate::exports::{irs_meaning, irs_run, irs_version};
-use crate::given::{Bytes, File};
+use crate::each::Answer;
+use crate::exports::{irs_meaning, irs_run, irs_run_each, irs_version};
+use crate::given::{Bytes, File, Trade};
 use std::test::*;
 
 fn lent(at: &'static [u8]) -> Bytes<'static> {
@@ -82,4 +83,33 @@ fn the_version(rt: HostRuntime) {
     let mut short = [b'#'; 4];
     irs_version(&mut short[..3], &mut needed);
     assert_eq!(rt; (&short, needed), (b"irs#", 54));
+}
+
+#[test]
+fn a_command_over_two_trades(rt: HostRuntime) {
+    let words = [lent(b"schedule"), lent(b"D"), lent(b"F")];
+    let common = [File {
+        name: lent(b"F"),
+        bytes: lent(b"a"),
+    }];
+    let one = [File {
+        name: lent(b"D"),
+        bytes: lent(b"["),
+    }];
+    let trades = [Trade { files: &one }, Trade { files: &[] }];
+    let mut answers = [Answer {
+        status: 99,
+        text: 99,
+        sentence: 99,
+    }; 3];
+    let mut out = [b'#'; 96];
+    let mut needed = 0;
+    irs_run_each(rt.alloc(), &words, &common, &trades, &mut answers, &mut out, &mut needed);
+    assert_eq!(rt; (answers[0].status, answers[0].text, answers[0].sentence), (2, 24, 27));
+    assert_eq!(rt; (answers[1].status, answers[1].text, answers[1].sentence), (5, 10, 19));
+    assert_eq!(rt; answers[2].status, 99);
+    assert_eq!(rt; needed, 80);
+    assert_eq!(rt; &out[..24], b"refused K1 0 document 0\n".as_slice());
+    assert_eq!(rt; &out[24..51], b"K1: the document isn't JSON".as_slice());
+    assert_eq!(rt; &out[51..81], b"no file 1\ncouldn't be read: D#".as_slice());
 }

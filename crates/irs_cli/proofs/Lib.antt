@@ -6,3 +6,5 @@ pub mod FetchLemmas
 pub mod RunLemmas
 pub mod HandedReplies
 pub mod OneAnswer
+pub mod SharingLemmas
+pub mod CommonLemmas

@@ -3,6 +3,7 @@ pub mod Commands
 pub mod Given
 pub mod Fetching
 pub mod Messages
+pub mod Sharing
 pub mod Due
 pub mod Outcomes
 pub mod Run

@@ -2,21 +2,24 @@
 //!
 //! No standard has these words, texts and statuses, so they are our rule. All memory is taken before the
 //! first write.
-ghost use Rattle.std.specs.Prelude.{◌≡◌, ℕ, List, IfOk};
+ghost use Rattle.std.specs.Prelude.{◌≡◌, ℕ, List, IfOk, IfSome};
 ghost use Rattle.irs_cli.specs.Commands.{texts};
-ghost use Rattle.irs_answers.specs.Given.{IsWithin, given_by};
+ghost use Rattle.irs_answers.specs.Common.{AreRead};
+ghost use Rattle.irs_answers.specs.Given.{IsWithin, given_by, given_with};
 ghost use Rattle.irs_answers.specs.Outcomes.{Ends};
 ghost use Rattle.irs_answers.specs.Replying.{reply_status, reply_text};
 ghost use Rattle.irs_cli.specs.Due.{DueOf, IsLawfulRequest};
 ghost use Rattle.irs_cli.specs.Outcomes.{IfAnswered};
 ghost use Rattle.irs_cli.specs.Run.{Ran, Replies, source, written};
+ghost use Rattle.irs_cli.specs.Sharing.{IsCommon};
 
 use crate::commands::{Request, command_of};
 use crate::fetching::fetch_all;
 use crate::putting::put_reply;
 use crate::refusals::Refusal;
+use crate::sharing::names_with;
 use crate::{Files, Sink};
-use irs_answers::{Reply, TaskFiles, carrier, reply_of};
+use irs_answers::{Common, Reply, TaskFiles, carrier, reply_by, reply_of};
 use irs_base::{Memory, Status};
 use irs_bulk::bulk;
 use std::alloc::Global;
@@ -41,7 +44,26 @@ pub fn run<F: Files, S: Sink>(alloc: Global, words: &[String], files: &mut F, ou
         let written = written (S.written out.old) (S.written out.new) (S.faults out.old) (S.faults out.new) in
         Ran (texts words.now) source written result }
 {
-    match answer(alloc, words, files) {
+    run_with(alloc, words, None, files, out)
+}
+
+/// Does what `run` does, with the fixings and the calendars that were read before, where there are any: those
+/// that the words name, as the source has them. They aren't fetched then.
+pub fn run_with<F: Files, S: Sink>(
+    alloc: Global,
+    words: &[String],
+    common: Option<&Common>,
+    files: &mut F,
+    out: &mut S,
+) -> u8
+    requires { IfSome common (λ c. IsCommon (texts words.now) (F.told files.old) (F.gives files.old) c.now) }
+    ensures told { (n : List ℕ) → F.told files.new n ≡ F.told files.old n }
+    ensures ran { let source = source (F.told files.old) (F.gives files.old) (F.failed files.new) (F.faults files.old)
+        (F.faults files.new) in
+        let written = written (S.written out.old) (S.written out.new) (S.faults out.old) (S.faults out.new) in
+        Ran (texts words.now) source written result }
+{
+    match answer(alloc, words, common, files) {
         Ok(reply) => match put_reply(out, &reply) {
             Ok(()) => reply.status(),
             Err(_) => Status::PutFailed.number(),
@@ -51,20 +73,32 @@ pub fn run<F: Files, S: Sink>(alloc: Global, words: &[String], files: &mut F, ou
 }
 
 // What is to be written for the words.
-fn answer<F: Files>(alloc: Global, words: &[String], files: &mut F) -> Result<Reply, Memory>
+fn answer<F: Files>(
+    alloc: Global,
+    words: &[String],
+    common: Option<&Common>,
+    files: &mut F,
+) -> Result<Reply, Memory>
+    requires { IfSome common (λ c. IsCommon (texts words.now) (F.told files.old) (F.gives files.old) c.now) }
     ensures told { (n : List ℕ) → F.told files.new n ≡ F.told files.old n }
     ensures replies { IfOk result
         (λ r. Replies (texts words.now) (source (F.told files.old) (F.gives files.old) (F.failed files.new)
         (F.faults files.old) (F.faults files.new)) (reply_status r) (reply_text r)) }
 {
-    match carry_out(alloc, words, files) {
+    match carry_out(alloc, words, common, files) {
         Ok(reply) => Ok(reply),
         Err(refusal) => refusal.reply(alloc),
     }
 }
 
 // What the command of the words comes to, or why it isn't carried out over its files.
-fn carry_out<F: Files>(alloc: Global, words: &[String], files: &mut F) -> Result<Reply, Refusal>
+fn carry_out<F: Files>(
+    alloc: Global,
+    words: &[String],
+    common: Option<&Common>,
+    files: &mut F,
+) -> Result<Reply, Refusal>
+    requires { IfSome common (λ c. IsCommon (texts words.now) (F.told files.old) (F.gives files.old) c.now) }
     ensures told { (n : List ℕ) → F.told files.new n ≡ F.told files.old n }
     ensures answered { IfAnswered result
         (Replies (texts words.now) (source (F.told files.old) (F.gives files.old) (F.failed files.new)
@@ -73,18 +107,42 @@ fn carry_out<F: Files>(alloc: Global, words: &[String], files: &mut F) -> Result
     let Some(command) = command_of(alloc, words)? else {
         return Err(Refusal::BadWords);
     };
-    let fetched = fetch_all(alloc, &command.files, files)?;
-    Ok(reply_to(alloc, command.request, &fetched)?)
+    let Some(common) = common else {
+        let fetched = fetch_all(alloc, &command.files, files)?;
+        return Ok(reply_to(alloc, command.request, fetched)?);
+    };
+    let own = names_with(alloc, &command.files, true)?;
+    let fetched = fetch_all(alloc, &own, files)?;
+    Ok(reply_with(alloc, command.request, &fetched, common)?)
 }
 
 // What a request over its files comes to.
-fn reply_to(alloc: Global, request: Request, files: &TaskFiles) -> Result<Reply, Memory>
+fn reply_to(alloc: Global, request: Request, files: TaskFiles) -> Result<Reply, Memory>
     requires lawful { IsLawfulRequest request }
-    requires within { IsWithin (given_by files.now) }
-    ensures { IfOk result (λ r. Ends (DueOf request (given_by files.now)) (reply_status r) (reply_text r)) }
+    requires within { IsWithin (given_by files) }
+    ensures { IfOk result (λ r. Ends (DueOf request (given_by files)) (reply_status r) (reply_text r)) }
 {
     match request {
         Request::OverFiles(task) => reply_of(alloc, task, files),
+        Request::Bulk(count) => bulk(alloc, count),
+        Request::Carrier => carrier(alloc, &files.document.bytes),
+    }
+}
+
+// What a request comes to over a document and flows, and over what was read before.
+fn reply_with(
+    alloc: Global,
+    request: Request,
+    files: &TaskFiles,
+    common: &Common,
+) -> Result<Reply, Memory>
+    requires lawful { IsLawfulRequest request }
+    requires read { AreRead common.now }
+    ensures { let given = given_with files.now common.now.files in
+        IfOk result (λ r. Ends (DueOf request given) (reply_status r) (reply_text r)) }
+{
+    match request {
+        Request::OverFiles(task) => reply_by(alloc, task, files, common),
         Request::Bulk(count) => bulk(alloc, count),
         Request::Carrier => carrier(alloc, &files.document.bytes),
     }

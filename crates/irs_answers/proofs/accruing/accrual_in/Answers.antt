@@ -50,25 +50,25 @@ kept_at x parts h i low ss same s is =
 pub bounds-as_slice-place : goal.bounds-as_slice-place
 bounds-as_slice-place c =
     let f = c.args.found.now in
-    let many = as_many (accruing f.swap f.calendars f.fixings) f.schedule c.requires.files in
+    let many = as_many (accruing f.swap f.calendars.now f.fixings.now) f.schedule c.requires.files in
     rw c.as_slice.ensures (omega (arith, many, c.requires.place))
 
 pub applicable_days-requires-clause-lawful : goal.applicable_days-requires-clause-lawful
 applicable_days-requires-clause-lawful c =
     let f = c.args.found.now in
-    IsKept.lawful (kept_at (accruing f.swap f.calendars f.fixings) f.schedule c.requires.files c.args.index c.requires.place
+    IsKept.lawful (kept_at (accruing f.swap f.calendars.now f.fixings.now) f.schedule c.requires.files c.args.index c.requires.place
     c.as_slice.result.now c.as_slice.ensures c.index-as_slice-place.result c.index-as_slice-place.is)
 
 pub applicable_days-requires-clause-kept : goal.applicable_days-requires-clause-kept
 applicable_days-requires-clause-kept c =
     let f = c.args.found.now in
-    IsKept.kept (kept_at (accruing f.swap f.calendars f.fixings) f.schedule c.requires.files c.args.index c.requires.place
+    IsKept.kept (kept_at (accruing f.swap f.calendars.now f.fixings.now) f.schedule c.requires.files c.args.index c.requires.place
     c.as_slice.result.now c.as_slice.ensures c.index-as_slice-place.result c.index-as_slice-place.is)
 
 pub accrued_of-requires : goal.accrued_of-requires
 accrued_of-requires c =
     let f = c.args.found.now in
-    let is = kept_at (accruing f.swap f.calendars f.fixings) f.schedule c.requires.files c.args.index c.requires.place
+    let is = kept_at (accruing f.swap f.calendars.now f.fixings.now) f.schedule c.requires.files c.args.index c.requires.place
     c.as_slice.result.now c.as_slice.ensures c.index-as_slice-place.result c.index-as_slice-place.is in
     record {
       lawful = is.lawful;
@@ -81,7 +81,7 @@ accrued_of-requires c =
 pub returns-clause-accrues : goal.returns-clause-accrues
 returns-clause-accrues c = λ p there.
     let f = c.args.found.now in
-    let x = accruing f.swap f.calendars f.fixings in
+    let x = accruing f.swap f.calendars.now f.fixings.now in
     let i = c.args.index in
     let d = c.args.date in
     let s = c.index-as_slice-place.result in
@@ -94,11 +94,11 @@ returns-clause-accrues c = λ p there.
     let bounds : KeepsBounds part = every_get KeepsBounds parts i part (rw c.streams.ensures.value c.streams.ensures.bounds.each) read in
     let same : part ≡ p =
     same_Some part p (sym (subst (λ (ps : List Part). slice_get ps i ≡ Some part) c.streams.ensures.value read) ∙ there) in
-    let set = applicable_days f.calendars s in
-    let one = one_accrual_of s set f.fixings part d bounds is.kept.leg_rises in
+    let set = applicable_days f.calendars.now s in
+    let one = one_accrual_of s set f.fixings.now part d bounds is.kept.leg_rises in
     IfOk-weaker c.accrued_of.result _ (Only (AccruesAt x d (i + 1) p))
     (λ (a : Accrual) h.
     subst (λ (q : Part). Only (AccruesAt x d (i + 1) q) a) same
     (only_accrual x f.schedule c.requires.files i s is.at d part a
-    (subst (λ (days : DaySet). IsAccrualOf s days f.fixings part d a) c.in_ok-days.ensures h) one))
+    (subst (λ (days : DaySet). IsAccrualOf s days f.fixings.now part d a) c.in_ok-days.ensures h) one))
     c.accrued_of.ensures.accrual

@@ -8,7 +8,7 @@ pub loop-index-preserved : goal.loop-index-preserved
 loop-index-preserved c =
     let d = c.args.date in
     let found = c.args.found.now in
-    let x = accruing found.swap found.calendars found.fixings in
+    let x = accruing found.swap found.calendars.now found.fixings.now in
     let parts = found.schedule in
     let i = c.loop-index.index in
     let a = c.in_ok-accrual.accrual in

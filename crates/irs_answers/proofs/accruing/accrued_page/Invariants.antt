@@ -6,6 +6,6 @@ use Rattle.irs_answers.proofs.accruing.accrued_page.Given as goal
 abbrev pub invariant-loop-index : goal.invariant-loop-index
 invariant-loop-index l = record {
   lines : (lines : List ℕ)
-      × AreAccrued (accruing l.found.swap l.found.calendars l.found.fixings) l.date 1 (take l.index l.found.schedule) lines
+      × AreAccrued (accruing l.found.swap l.found.calendars.now l.found.fixings.now) l.date 1 (take l.index l.found.schedule) lines
       × (l.text.items ≡ accrued_header l.date ++ lines);
 }

@@ -17,7 +17,7 @@ pub reset_days-requires-clause-kept : goal.reset_days-requires-clause-kept
 reset_days-requires-clause-kept c =
     let f = c.args.found.now in
     let x : FloatingStream = record { stream = c.in_ok-stream.stream.now; float = c.in_ok-stream.float.now } in
-    stream_kept f.swap f.calendars f.schedule c.requires.unfixed c.args.number x c.in_ok-stream.ensures.floats
+    stream_kept f.swap f.calendars.now f.schedule c.requires.unfixed c.args.number x c.in_ok-stream.ensures.floats
 
 pub average-requires : goal.average-requires
 average-requires c =
@@ -25,9 +25,9 @@ average-requires c =
     let x : FloatingStream = record { stream = c.in_ok-stream.stream.now; float = c.in_ok-stream.float.now } in
     record {
       stream =
-          overnight_asked f.swap f.calendars f.schedule c.requires.unfixed c.args.number x
+          overnight_asked f.swap f.calendars.now f.schedule c.requires.unfixed c.args.number x
           c.in_ok-stream.ensures.floats _
-          f.fixings c.in_ok-days.ensures;
+          f.fixings.now c.in_ok-days.ensures;
       some = c.requires.some;
       few = c.requires.few;
     }
@@ -39,11 +39,11 @@ returns-in_err-rows c =
     let x : FloatingStream = record { stream = c.in_ok-stream.stream.now; float = c.in_ok-stream.float.now } in
     let made = c.from_residual-in_err-rows in
     let e = c.in_err-rows.field-0.0 in
-    let due = λ (d : DaySet). averaged (asked f.swap n f.schedule d f.fixings) c.args.mean c.args.step in
+    let due = λ (d : DaySet). averaged (asked f.swap n f.schedule d f.fixings.now) c.args.mean c.args.step in
     let next = λ (y : FloatingStream) (status : ℕ) (text : List ℕ).
-    DueAveraged (due (reset_days f.calendars y.stream)) y.float status text in
+    DueAveraged (due (reset_days f.calendars.now y.stream)) y.float status text in
     answered_by made.result (of_stopped e)
-    (Ends (DueAverage n c.args.mean c.args.step f.swap f.calendars f.fixings f.schedule)) made.ensures.0
+    (Ends (DueAverage n c.args.mean c.args.step f.swap f.calendars.now f.fixings.now f.schedule)) made.ensures.0
     made.ensures.1
     (refuse_stopped f.swap n next x c.in_ok-stream.ensures.floats (IsFirstOfAverage _) e c.in_err-rows.ensures.broken
     (λ b first. subst (λ (d : DaySet). DueAveraged (due d) x.float 2 (refused b)) c.in_ok-days.ensures
@@ -53,7 +53,7 @@ pub fixings_page-requires : goal.fixings_page-requires
 fixings_page-requires c =
     let f = c.args.found.now in
     let x : FloatingStream = record { stream = c.in_ok-stream.stream.now; float = c.in_ok-stream.float.now } in
-    (float_lawful f.swap f.calendars f.schedule c.requires.unfixed c.args.number x
+    (float_lawful f.swap f.calendars.now f.schedule c.requires.unfixed c.args.number x
     c.in_ok-stream.ensures.floats).index.1
 
 pub returns : goal.returns
@@ -61,9 +61,9 @@ returns c =
     let f = c.args.found.now in
     let n = c.args.number in
     let x : FloatingStream = record { stream = c.in_ok-stream.stream.now; float = c.in_ok-stream.float.now } in
-    let due = λ (d : DaySet). averaged (asked f.swap n f.schedule d f.fixings) c.args.mean c.args.step in
+    let due = λ (d : DaySet). averaged (asked f.swap n f.schedule d f.fixings.now) c.args.mean c.args.step in
     let next = λ (y : FloatingStream) (status : ℕ) (text : List ℕ).
-    DueAveraged (due (reset_days f.calendars y.stream)) y.float status text in
+    DueAveraged (due (reset_days f.calendars.now y.stream)) y.float status text in
     let rows = c.in_ok-rows.rows in
     let text = file_text rows x.float.tenor x.float.index in
     let done = averaged_rows _ x.float rows c.in_ok-rows.ensures.kept c.in_ok-rows.ensures.ok
@@ -71,6 +71,6 @@ returns c =
     let printed =
     ends_done f.swap n next x c.in_ok-stream.ensures.floats text
     (subst (λ (d : DaySet). DueAveraged (due d) x.float 0 text) c.in_ok-days.ensures done) in
-    subst (λ (t : List ℕ). Ends (DueAverage n c.args.mean c.args.step f.swap f.calendars f.fixings f.schedule) 0 t)
+    subst (λ (t : List ℕ). Ends (DueAverage n c.args.mean c.args.step f.swap f.calendars.now f.fixings.now f.schedule) 0 t)
     (sym (c.in_ok-text.ensures
     ∙ ap (λ (l : List DerivedRow). file_text l x.float.tenor x.float.index) c.as_slice.ensures)) printed

@@ -13,8 +13,8 @@ pub interpolate-requires : goal.interpolate-requires
 interpolate-requires c =
     let f = c.args.found.now in
     let q = c.requires in
-    stub_is_asked f.swap f.calendars f.schedule q.unfixed c.args.number _ c.in_ok-floating.ensures.floats c.args.side
-    c.args.low c.args.high f.fixings q.low q.high
+    stub_is_asked f.swap f.calendars.now f.schedule q.unfixed c.args.number _ c.in_ok-floating.ensures.floats c.args.side
+    c.args.low c.args.high f.fixings.now q.low q.high
 
 pub returns-in_err-row : goal.returns-in_err-row
 returns-in_err-row c =
@@ -22,10 +22,10 @@ returns-in_err-row c =
     let n = c.args.number in
     let made = c.from_residual-in_err-row in
     let e = c.in_err-row.field-0.0 in
-    let a = stub_asked f.swap n c.args.side c.args.low c.args.high f.schedule f.fixings in
+    let a = stub_asked f.swap n c.args.side c.args.low c.args.high f.schedule f.fixings.now in
     let next = λ (y : FloatingStream) (status : ℕ) (text : List ℕ). DueStub a status text in
     answered_by made.result (Rule e)
-    (Ends (DueInterpolate n c.args.side c.args.low c.args.high f.swap f.fixings f.schedule)) made.ensures.0
+    (Ends (DueInterpolate n c.args.side c.args.low c.args.high f.swap f.fixings.now f.schedule)) made.ensures.0
     made.ensures.1
     (refuse_broken f.swap n next _ c.in_ok-floating.ensures.floats e
     (stub_broken a e c.in_err-row.ensures.broken c.in_err-row.ensures.one_broken))
@@ -42,7 +42,7 @@ pub returns : goal.returns
 returns c =
     let f = c.args.found.now in
     let n = c.args.number in
-    let a = stub_asked f.swap n c.args.side c.args.low c.args.high f.schedule f.fixings in
+    let a = stub_asked f.swap n c.args.side c.args.low c.args.high f.schedule f.fixings.now in
     let next = λ (y : FloatingStream) (status : ℕ) (text : List ℕ). DueStub a status text in
     let row = c.in_ok-row.row in
     let index = c.in-Some.index.now in
@@ -50,5 +50,5 @@ returns c =
     let text = file_text (row ∷ []) tenor index in
     let done = stub_printed a row index tenor c.in_ok-row.ensures.kept c.in_ok-row.ensures.ok c.in_ok-row.ensures.one
     c.in-Some.ensures.some in
-    subst (λ (t : List ℕ). Ends (DueInterpolate n c.args.side c.args.low c.args.high f.swap f.fixings f.schedule) 0 t)
+    subst (λ (t : List ℕ). Ends (DueInterpolate n c.args.side c.args.low c.args.high f.swap f.fixings.now f.schedule) 0 t)
     (sym c.in_ok-fixings_page.ensures) (ends_done f.swap n next _ c.in_ok-floating.ensures.floats text done)

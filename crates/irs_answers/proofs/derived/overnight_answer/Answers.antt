@@ -16,13 +16,13 @@ pub reset_days-requires-clause-kept : goal.reset_days-requires-clause-kept
 reset_days-requires-clause-kept c =
     let f = c.args.found.now in
     let x : FloatingStream = record { stream = c.in_ok-stream.stream.now; float = c.in_ok-stream.float.now } in
-    stream_kept f.swap f.calendars f.schedule c.requires c.args.number x c.in_ok-stream.ensures.floats
+    stream_kept f.swap f.calendars.now f.schedule c.requires c.args.number x c.in_ok-stream.ensures.floats
 
 pub overnight-requires : goal.overnight-requires
 overnight-requires c =
     let f = c.args.found.now in
     let x : FloatingStream = record { stream = c.in_ok-stream.stream.now; float = c.in_ok-stream.float.now } in
-    overnight_asked f.swap f.calendars f.schedule c.requires c.args.number x c.in_ok-stream.ensures.floats _ f.fixings
+    overnight_asked f.swap f.calendars.now f.schedule c.requires c.args.number x c.in_ok-stream.ensures.floats _ f.fixings.now
     c.in_ok-days.ensures
 
 pub returns-in_err-rows : goal.returns-in_err-rows
@@ -32,10 +32,10 @@ returns-in_err-rows c =
     let x : FloatingStream = record { stream = c.in_ok-stream.stream.now; float = c.in_ok-stream.float.now } in
     let made = c.from_residual-in_err-rows in
     let e = c.in_err-rows.field-0.0 in
-    let due = λ (d : DaySet). asked f.swap n f.schedule d f.fixings in
+    let due = λ (d : DaySet). asked f.swap n f.schedule d f.fixings.now in
     let next = λ (y : FloatingStream) (status : ℕ) (text : List ℕ).
-    DueCompounded (due (reset_days f.calendars y.stream)) y.float status text in
-    answered_by made.result (of_stopped e) (Ends (DueOvernight n f.swap f.calendars f.fixings f.schedule))
+    DueCompounded (due (reset_days f.calendars.now y.stream)) y.float status text in
+    answered_by made.result (of_stopped e) (Ends (DueOvernight n f.swap f.calendars.now f.fixings.now f.schedule))
     made.ensures.0 made.ensures.1
     (refuse_stopped f.swap n next x c.in_ok-stream.ensures.floats (IsFirstDerived _) e c.in_err-rows.ensures.broken
     (λ b first. subst (λ (d : DaySet). DueCompounded (due d) x.float 2 (refused b)) c.in_ok-days.ensures
@@ -45,16 +45,16 @@ pub fixings_page-requires : goal.fixings_page-requires
 fixings_page-requires c =
     let f = c.args.found.now in
     let x : FloatingStream = record { stream = c.in_ok-stream.stream.now; float = c.in_ok-stream.float.now } in
-    (float_lawful f.swap f.calendars f.schedule c.requires c.args.number x c.in_ok-stream.ensures.floats).index.1
+    (float_lawful f.swap f.calendars.now f.schedule c.requires c.args.number x c.in_ok-stream.ensures.floats).index.1
 
 pub returns : goal.returns
 returns c =
     let f = c.args.found.now in
     let n = c.args.number in
     let x : FloatingStream = record { stream = c.in_ok-stream.stream.now; float = c.in_ok-stream.float.now } in
-    let due = λ (d : DaySet). asked f.swap n f.schedule d f.fixings in
+    let due = λ (d : DaySet). asked f.swap n f.schedule d f.fixings.now in
     let next = λ (y : FloatingStream) (status : ℕ) (text : List ℕ).
-    DueCompounded (due (reset_days f.calendars y.stream)) y.float status text in
+    DueCompounded (due (reset_days f.calendars.now y.stream)) y.float status text in
     let rows = c.in_ok-rows.rows in
     let text = file_text rows x.float.tenor x.float.index in
     let done = compounded_rows _ x.float rows c.in_ok-rows.ensures.kept c.in_ok-rows.ensures.ok
@@ -62,6 +62,6 @@ returns c =
     let printed =
     ends_done f.swap n next x c.in_ok-stream.ensures.floats text
     (subst (λ (d : DaySet). DueCompounded (due d) x.float 0 text) c.in_ok-days.ensures done) in
-    subst (λ (t : List ℕ). Ends (DueOvernight n f.swap f.calendars f.fixings f.schedule) 0 t)
+    subst (λ (t : List ℕ). Ends (DueOvernight n f.swap f.calendars.now f.fixings.now f.schedule) 0 t)
     (sym (c.in_ok-text.ensures
     ∙ ap (λ (l : List DerivedRow). file_text l x.float.tenor x.float.index) c.as_slice.ensures)) printed

@@ -1,31 +1,22 @@
-use Rattle.std.proofs.Common.{ℕ, List, map, ap, subst, Err, Vec}
-use Rattle.std.specs.Prelude.{IfSome}
-use Rattle.std.specs.declared.alloc.Global.{Global}
+use Rattle.std.proofs.Common.{ap, Err}
 use Rattle.serde_json.specs.Data.{Data}
 use Rattle.serde_json.specs.View.{view}
-use Rattle.irs_calendar.specs.Calendars.{spot_of}
-use Rattle.irs_calendar.specs.FirstFaults.{IsFirstFault}
 use Rattle.irs_calendar.specs.Grammar.{CalFiles}
 use Rattle.irs_answers.specs.declared.refusals.Refusal.TheVariants.{Rule, Calendars, Fixings}
 use Rattle.irs_answers.specs.Due.{DueFor, Spells, facts}
-use Rattle.irs_answers.specs.Given.{given_by}
+use Rattle.irs_answers.specs.Given.{given_with}
 use Rattle.irs_answers.specs.Outcomes.{IfRefused, Ends, of_read, of_stopped}
 use Rattle.irs_answers.proofs.DueLemmas.{passes_by, refuse_text, refuse_read, refuse_sides, refuse_calendars}
 use Rattle.irs_answers.proofs.DueLemmas.{refuse_fixings, refuse_rules}
-use Rattle.irs_answers.proofs.FileLimits.{all_small}
 use Rattle.irs_answers.proofs.StepLemmas.{refused_by}
 use Rattle.irs_answers.proofs.due.find.Goals as goal
-
-pub read-requires-clause-short : goal.read-requires-clause-short
-read-requires-clause-short c =
-    rw c.deref.ensures.value (all_small c.args.files.now.calendars.items c.requires.calendars)
 
 pub returns-in_err-document-clause-refused : goal.returns-in_err-document-clause-refused
 returns-in_err-document-clause-refused c =
     let e = c.in_err-document.field-0.0 in
     let made = c.from_residual in
     let t = c.args.task in
-    let g = given_by c.args.files.now in
+    let g = given_with c.args.files.now c.args.common.now.files in
     refused_by made.result (of_read e) (λ r. IfRefused r (Ends (DueFor t g))) made.ensures.0 made.ensures.1
     (refuse_text t g e (λ q v reads. c.in_err-document.ensures.none (ap Err q) v reads))
 
@@ -34,7 +25,7 @@ returns-in_err-swap-clause-refused c =
     let e = c.in_err-swap.field-0.0 in
     let made = c.from_residual-in_err-swap in
     let t = c.args.task in
-    let g = given_by c.args.files.now in
+    let g = given_with c.args.files.now c.args.common.now.files in
     let v : Data = view c.in_ok-document.document in
     refused_by made.result (of_stopped e) (λ r. IfRefused r (Ends (DueFor t g))) made.ensures.0 made.ensures.1
     (refuse_read t g v e c.in_ok-document.ensures.reads
@@ -45,7 +36,7 @@ returns-in_err-sides-clause-refused c =
     let e = c.in_err-sides.field-0.0 in
     let made = c.from_residual-in_err-sides in
     let t = c.args.task in
-    let g = given_by c.args.files.now in
+    let g = given_with c.args.files.now c.args.common.now.files in
     let v : Data = view c.in_ok-document.document in
     refused_by made.result (Rule e) (λ r. IfRefused r (Ends (DueFor t g))) made.ensures.0 made.ensures.1
     (refuse_sides t g v c.in_ok-swap.swap e
@@ -57,7 +48,7 @@ returns-in_err-calendars-clause-refused c =
     let e = c.in_err-calendars.field-0.0 in
     let made = c.from_residual-in_err-calendars in
     let t = c.args.task in
-    let g = given_by c.args.files.now in
+    let g = given_with c.args.files.now c.args.common.now.files in
     let v : Data = view c.in_ok-document.document in
     let swap = c.in_ok-swap.swap in
     let sides = c.in_ok-sides.sides in
@@ -71,20 +62,18 @@ returns-in_err-calendars-clause-refused c =
       has_sides = c.in_ok-sides.ensures.sides;
     } in
     refused_by made.result (Calendars e) (λ r. IfRefused r (Ends (DueFor t g))) made.ensures.0 made.ensures.1
-    (refuse_calendars t g swap sides e spells
-    (subst (λ (l : List (Vec ℕ Global)). IfSome (spot_of e) (IsFirstFault (map (λ v. v.items) l)))
-    c.deref.ensures.value c.in_err-calendars.ensures.first))
+    (refuse_calendars t g swap sides e spells c.in_err-calendars.ensures.first)
 
 pub returns-in_err-fixings-clause-refused : goal.returns-in_err-fixings-clause-refused
 returns-in_err-fixings-clause-refused c =
     let e = c.in_err-fixings.field-0.0 in
     let made = c.from_residual-in_err-fixings in
     let t = c.args.task in
-    let g = given_by c.args.files.now in
+    let g = given_with c.args.files.now c.args.common.now.files in
     let v : Data = view c.in_ok-document.document in
     let swap = c.in_ok-swap.swap in
     let sides = c.in_ok-sides.sides in
-    let cal = c.in_ok-calendars.calendars in
+    let cal = c.in_ok-calendars.calendars.now in
     let spells : Spells t g.document swap sides =
     record {
       value = v;
@@ -94,9 +83,7 @@ returns-in_err-fixings-clause-refused c =
           c.in_ok-swap.ensures.means;
       has_sides = c.in_ok-sides.ensures.sides;
     } in
-    let files : CalFiles g.calendars cal =
-    subst (λ (l : List (Vec ℕ Global)). CalFiles (map (λ v. v.items) l) cal) c.deref.ensures.value
-    c.in_ok-calendars.ensures.spelt in
+    let files : CalFiles g.calendars cal = c.in_ok-calendars.ensures.spelt in
     refused_by made.result (Fixings e) (λ r. IfRefused r (Ends (DueFor t g))) made.ensures.0 made.ensures.1
     (refuse_fixings t g swap sides cal e spells files c.in_err-fixings.ensures.fault)
 
@@ -105,11 +92,11 @@ returns-in_err-schedule-clause-refused c =
     let e = c.in_err-schedule.field-0.0 in
     let made = c.from_residual-in_err-schedule in
     let t = c.args.task in
-    let g = given_by c.args.files.now in
+    let g = given_with c.args.files.now c.args.common.now.files in
     let v : Data = view c.in_ok-document.document in
     let swap = c.in_ok-swap.swap in
     let sides = c.in_ok-sides.sides in
-    let cal = c.in_ok-calendars.calendars in
+    let cal = c.in_ok-calendars.calendars.now in
     let spells : Spells t g.document swap sides =
     record {
       value = v;
@@ -119,21 +106,19 @@ returns-in_err-schedule-clause-refused c =
           c.in_ok-swap.ensures.means;
       has_sides = c.in_ok-sides.ensures.sides;
     } in
-    let files : CalFiles g.calendars cal =
-    subst (λ (l : List (Vec ℕ Global)). CalFiles (map (λ v. v.items) l) cal) c.deref.ensures.value
-    c.in_ok-calendars.ensures.spelt in
+    let files : CalFiles g.calendars cal = c.in_ok-calendars.ensures.spelt in
     refused_by made.result e (λ r. IfRefused r (Ends (DueFor t g))) made.ensures.0 made.ensures.1
-    (refuse_rules t g swap sides cal c.in_ok-fixings.fixings e spells files c.in_ok-fixings.ensures.fixings
+    (refuse_rules t g swap sides cal c.in_ok-fixings.fixings.now e spells files c.in_ok-fixings.ensures.fixings
     c.in_err-schedule.ensures.refused)
 
 pub returns-clause-passes : goal.returns-clause-passes
 returns-clause-passes c =
     let t = c.args.task in
-    let g = given_by c.args.files.now in
+    let g = given_with c.args.files.now c.args.common.now.files in
     let v : Data = view c.in_ok-document.document in
     let swap = c.in_ok-swap.swap in
     let sides = c.in_ok-sides.sides in
-    let cal = c.in_ok-calendars.calendars in
+    let cal = c.in_ok-calendars.calendars.now in
     let spells : Spells t g.document swap sides =
     record {
       value = v;
@@ -143,8 +128,6 @@ returns-clause-passes c =
           c.in_ok-swap.ensures.means;
       has_sides = c.in_ok-sides.ensures.sides;
     } in
-    let files : CalFiles g.calendars cal =
-    subst (λ (l : List (Vec ℕ Global)). CalFiles (map (λ v. v.items) l) cal) c.deref.ensures.value
-    c.in_ok-calendars.ensures.spelt in
-    passes_by t g (facts swap sides cal c.in_ok-fixings.fixings c.in_ok-schedule.schedule) spells files
+    let files : CalFiles g.calendars cal = c.in_ok-calendars.ensures.spelt in
+    passes_by t g (facts swap sides cal c.in_ok-fixings.fixings.now c.in_ok-schedule.schedule) spells files
     c.in_ok-fixings.ensures.fixings c.in_ok-schedule.ensures.schedule

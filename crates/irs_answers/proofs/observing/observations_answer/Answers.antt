@@ -9,7 +9,7 @@ pub returns : goal.returns
 returns c =
     let f = c.args.found.now in
     let n = c.args.number in
-    let x : Accruing = accruing f.swap f.calendars f.fixings in
+    let x : Accruing = accruing f.swap f.calendars.now f.fixings.now in
     let y : DailyStream =
     daily_stream c.in_ok-stream.stream.now c.in_ok-stream.float.now c.in_ok-stream.parameters.now in
     subst (λ (t : List ℕ). Ends (DueObservations n x f.schedule) 0 t) (sym c.in_ok-text.ensures)

@@ -1,0 +1,64 @@
+-- What is read of the common files is also read of these with a trade's own files after them.
+use Rattle.std.proofs.Common.{◌≡◌, ℕ, ◌<◌, List, [], ◌∷◌, ◌++◌, length, Option, Some, None, Bool, true, false, refl, subst, sym}
+use Rattle.std.specs.Prelude.{if◌then◌else◌, IfSome, take}
+use Rattle.std.specs.Str.{bytes_eq}
+use Rattle.irs_answers.specs.Given.{given_by, no_files, too_many}
+use Rattle.irs_answers.specs.declared.common.Common.{Common}
+use Rattle.irs_outside.specs.Outside.{IsFrontUnder}
+use Rattle.irs_cli.specs.Commands.{Words}
+use Rattle.irs_cli.specs.Fetching.{Holds, IsGiven}
+use Rattle.irs_cli.specs.Sharing.{files_with}
+use Rattle.irs_cli.proofs.FetchLemmas.{front_whole}
+use Rattle.irs_cli.proofs.SharingLemmas.{gathers_as}
+use Rattle.irs_c.specs.Each.{IsCommonIn, gives_in}
+use Rattle.irs_c.specs.Given.{file_in}
+use Rattle.irs_c.specs.declared.given.File.{File}
+
+first_of : (b : Bool) (x : List ℕ) (o p : Option (List ℕ)) (whole : List ℕ) → (o ≡ Some whole → p ≡ Some whole)
+    → (if b then Some x else o) ≡ Some whole → (if b then Some x else p) ≡ Some whole
+first_of true x o p whole more e = e
+first_of false x o p whole more e = more e
+
+-- a file that is there is the first of its name with more files after it
+pub still_in : (fs own : List File) (name whole : List ℕ) → file_in fs name ≡ Some whole
+    → file_in (fs ++ own) name ≡ Some whole
+still_in [] own name whole e = absurd (cc)
+still_in (f ∷ fs) own name whole e =
+    first_of (bytes_eq f.name.at.now name) f.bytes.at.now (file_in fs name) (file_in (fs ++ own) name) whole
+    (still_in fs own name whole) e
+
+front_still : (fs own : List File) (name : List ℕ) (most : ℕ) (bytes : List ℕ) (o : Option (List ℕ))
+    → file_in fs name ≡ o → IsFrontUnder o most bytes → IsFrontUnder (file_in (fs ++ own) name) most bytes
+front_still fs own name most bytes None e h = absurd h
+front_still fs own name most bytes (Some whole) e h =
+    subst (λ (p : Option (List ℕ)). IsFrontUnder p most bytes) (sym (still_in fs own name whole e)) h
+
+given_still : (fs own : List File) (name bytes : List ℕ) → IsGiven (gives_in fs) name bytes
+    → IsGiven (gives_in (fs ++ own)) name bytes
+given_still fs own name bytes h = (front_still fs own name too_many bytes (file_in fs name) refl h.0, h.1)
+
+front_if : (o : Option (List ℕ)) (most : ℕ) (bytes : List ℕ) → IsFrontUnder o most bytes
+    → IfSome o (λ xs. bytes ≡ take most xs)
+front_if None most bytes h = tt
+front_if (Some whole) most bytes h = h
+
+held_still : (fs own : List File) (name bytes : List ℕ) → IsGiven (gives_in fs) name bytes
+    → Holds (file_in (fs ++ own)) name bytes
+held_still fs own name bytes h =
+    let o = file_in (fs ++ own) name in
+    let front = front_still fs own name too_many bytes (file_in fs name) refl h.0 in
+    (front_whole too_many o bytes (front_if o too_many bytes front) h.1, h.1)
+
+-- what was read of the common files was read of them with a trade's own files after them
+pub common_still : (ws : Words) (fs own : List File) (c : Common) → IsCommonIn ws fs c → IsCommonIn ws (fs ++ own) c
+common_still ws fs own c h =
+    let ns = files_with false h.asked.files in
+    record {
+      asked = h.asked;
+      asks = h.asks;
+      held = gathers_as (IsGiven (gives_in fs)) (Holds (file_in (fs ++ own))) (held_still fs own) ns no_files
+          (given_by c.files) h.given;
+      given = gathers_as (IsGiven (gives_in fs)) (IsGiven (gives_in (fs ++ own))) (given_still fs own) ns no_files
+          (given_by c.files) h.given;
+      read = h.read;
+    }

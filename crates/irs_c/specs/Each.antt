@@ -1,0 +1,98 @@
+-- What one command over many trades comes to.
+use Rattle.std.specs.Prelude.{◌≡◌, ◌≢◌, ◌⊎◌, ℕ, ◌<◌, List, [], ◌∷◌, ◌++◌, length, take, drop, map, Result, Ok, Err, Vec}
+use Rattle.std.specs.Prelude.{String}
+use Rattle.std.specs.declared.alloc.Global.{Global}
+use Rattle.irs_cli.specs.Commands.{IsListed, Words, texts}
+use Rattle.irs_cli.specs.Due.{Due}
+use Rattle.irs_cli.specs.Sharing.{IsCommon}
+use Rattle.irs_answers.specs.declared.common.Common.{Common}
+use Rattle.irs_outside.specs.Outside.{IsFrontUnder}
+use Rattle.irs_plain.specs.Sentences.{sentence_of}
+use Rattle.irs_c.specs.Given.{AreText, IsAbsent, file_in, words_in}
+use Rattle.irs_c.specs.Shown.{Shown}
+use Rattle.irs_c.specs.declared.each.Answer.{Answer}
+use Rattle.irs_c.specs.declared.given.Bytes.{Bytes}
+use Rattle.irs_c.specs.declared.given.File.{File}
+use Rattle.irs_c.specs.declared.given.Trade.{Trade}
+
+-- what a trade comes to: a status, the text, and the sentence that says what the text means
+pub record Outcome : Type 0 where
+  pub status : ℕ
+  pub text : List ℕ
+  pub sentence : List ℕ
+
+-- a status alone
+abbrev pub no_text : ℕ → Outcome
+no_text s = record { status = s; text = []; sentence = [] }
+
+-- what the caller sees of it
+abbrev pub slot_of : Outcome → Answer
+slot_of o = record { status = o.status; text = length o.text; sentence = length o.sentence }
+
+-- the texts and the sentences, those of one after the other
+abbrev pub said_by : List Outcome → List ℕ
+said_by [] = []
+said_by (o ∷ os) = (o.text ++ o.sentence) ++ said_by os
+
+-- what the words come to over the files, where each word is text: the status and the text that `irs_run` gives
+pub record IsRun (ws : Words) (fs : List File) (o : Outcome) : Type 0 where
+  -- out of memory: no text
+  pub memory : o.status ≡ 7 → o ≡ no_text 7
+  -- a file that the words name isn't lent, and the text says which
+  pub absent : o.status ≡ 5 → IsAbsent ws (file_in fs) o.text
+  -- any other status and its text are what is due
+  pub due : o.status ≢ 5 → o.status ≢ 7 → Due ws (file_in fs) o.status o.text
+  -- 4 comes for words that are no listed command, and always for them
+  pub only_unlisted : o.status ≡ 4 → IsListed ws → ⊥
+  pub unlisted : (IsListed ws → ⊥) → o.status ≢ 7 → o.status ≡ 4
+  -- the statuses are these, and 6 is none of them
+  pub listed : (o.status < 9) × (o.status ≢ 6)
+  -- the sentence is that of the text
+  pub sentence : o.status ≢ 7 → o.sentence ≡ sentence_of ws o.status o.text
+
+-- the same for words as they are lent; 9 where one isn't UTF-8
+abbrev pub IsOutcome : List Bytes → List File → Outcome → Type 0
+IsOutcome ws fs o =
+    (AreText ws × IsRun (words_in ws) fs o)
+    ⊎ ((o ≡ no_text 7) ⊎ ((AreText ws → ⊥) × (o ≡ no_text 9)))
+
+-- one outcome a trade, in order: each over the common files and its own
+abbrev pub AreOutcomes : List Bytes → List File → List Trade → List Outcome → Type 0
+AreOutcomes ws common [] os = os ≡ []
+AreOutcomes ws common (t ∷ ts) [] = ⊥
+AreOutcomes ws common (t ∷ ts) (o ∷ os) = IsOutcome ws (common ++ t.files.now) o × AreOutcomes ws common ts os
+
+-- what a call over many trades does: each of those for which there is room has its outcome
+pub record Said (ws : List Bytes) (common : List File) (trades : List Trade) (before after : List Answer)
+    (was now : List ℕ) (needed : ℕ) : Type 0 where
+  pub outcomes : List Outcome
+  pub are : AreOutcomes ws common (take (length before) trades) outcomes
+  pub answers : after ≡ map slot_of outcomes ++ drop (length outcomes) before
+  pub shown : Shown was now needed (said_by outcomes)
+
+-- ---- words as text, or the status where there are none
+
+-- words that were made into text, or the status where there is none
+abbrev pub Made : Type 0
+Made = Result (Vec (String Global) Global) ℕ
+
+-- what the words come to over the files
+abbrev pub RunFor : Made → List File → Outcome → Type 0
+RunFor (Ok words) fs o = IsRun (texts words.items) fs o
+RunFor (Err s) fs o = o ≡ no_text s
+
+-- one outcome a trade, in order
+abbrev pub AreRuns : Made → List File → List Trade → List Outcome → Type 0
+AreRuns words common [] os = os ≡ []
+AreRuns words common (t ∷ ts) [] = ⊥
+AreRuns words common (t ∷ ts) (o ∷ os) = RunFor words (common ++ t.files.now) o × AreRuns words common ts os
+
+-- ---- what was read of the common files
+
+-- what fetches of lent files give
+abbrev pub gives_in : List File → List ℕ → ℕ → List ℕ → Type 0
+gives_in fs name most bytes = IsFrontUnder (file_in fs name) most bytes
+
+-- the common files that the words name, as they are lent, are read
+abbrev pub IsCommonIn : Words → List File → Common → Type 0
+IsCommonIn ws fs c = IsCommon ws (file_in fs) (gives_in fs) c

@@ -1,0 +1,64 @@
+-- What a run says whose common files were read before.
+use Rattle.std.proofs.Common.{◌≡◌, ℕ, List, Option, subst, arith}
+use Rattle.irs_answers.specs.Given.{Given, IsWithin, given_by, no_files}
+use Rattle.irs_answers.specs.Outcomes.{Ends}
+use Rattle.irs_answers.specs.declared.common.Common.{Common}
+use Rattle.irs_cli.specs.Commands.{Asked, Asks, Words}
+use Rattle.irs_cli.specs.Due.{DueOf}
+use Rattle.irs_cli.specs.Fetching.{FailedAt, Gives, Holds, IsGiven, NotLong, OverAt, Stops}
+use Rattle.irs_cli.specs.Given.{Gathers, Told}
+use Rattle.irs_cli.specs.Run.{Replies, source}
+use Rattle.irs_cli.specs.Sharing.{IsCommon, files_with}
+use Rattle.irs_cli.specs.declared.fetching.Unfetched.{Unfetched}
+use Rattle.irs_cli.specs.declared.fetching.Unfetched.TheVariants.{NoFile, TooLong, Memory}
+use Rattle.irs_cli.proofs.CommandLemmas.{few_cals, one_command}
+use Rattle.irs_cli.proofs.FetchLemmas.{held_short}
+use Rattle.irs_cli.proofs.FileLemmas.{gathers_within}
+use Rattle.irs_cli.proofs.RunLemmas.{ended_replies}
+use Rattle.irs_cli.proofs.SharingLemmas.{cals_common, gathers_merged, mixed, reached_own}
+
+-- the common files of a command, gathered, are within the limits
+pub common_within : (ws : Words) (told : Told) (a : Asked) (h : Given) → Asks ws a
+    → Gathers (Holds told) (files_with false a.files) no_files h → IsWithin h
+common_within ws told a h asks k =
+    gathers_within (Holds told) (files_with false a.files) h (λ name bytes x. x.1)
+    (omega (arith, cals_common a.files, few_cals ws a asks)) k
+
+module _ (ws : Words) (told : Told) (gives : Gives) (a : Asked) (c : Common) (asks : Asks ws a)
+    (common : IsCommon ws told gives c) where
+  -- the common files are those of the command
+  same : common.asked ≡ a
+  same = one_command ws a common.asked asks common.asks
+
+  held : Gathers (Holds told) (files_with false a.files) no_files (given_by c.files)
+  held = subst (λ (x : Asked). Gathers (Holds told) (files_with false x.files) no_files (given_by c.files)) same common.held
+
+  given : Gathers (IsGiven gives) (files_with false a.files) no_files (given_by c.files)
+  given = subst (λ (x : Asked). Gathers (IsGiven gives) (files_with false x.files) no_files (given_by c.files)) same common.given
+
+  -- what stops the fetch of a run's own files stops that of all
+  pub stops_with : (failed : Option (List ℕ)) (before now : ℕ) (u : Unfetched)
+      → Stops told (files_with true a.files) failed before now u → Stops told a.files failed before now u
+  stops_with failed before now (NoFile place) h = (
+    reached_own (Holds told) (NotLong told) (FailedAt failed place) (held_short told) a.files no_files
+        (given_by c.files) held h.0,
+    h.1,
+  )
+  stops_with failed before now (TooLong place) h = (
+    reached_own (Holds told) (NotLong told) (OverAt told place) (held_short told) a.files no_files (given_by c.files)
+        held h.0,
+    h.1,
+  )
+  stops_with failed before now Memory h = tt
+
+  -- what a run says where its own files were fetched
+  pub replies_with : (own : Given) (failed : Option (List ℕ)) (before now : ℕ)
+      → Gathers (Holds told) (files_with true a.files) no_files own
+      → Gathers (IsGiven gives) (files_with true a.files) no_files own → now ≡ before → (status : ℕ) (text : List ℕ)
+      → Ends (DueOf a.request (mixed own (given_by c.files))) status text
+      → Replies ws (source told gives failed before now) status text
+  replies_with own failed before now own_held own_given quiet status text h =
+      ended_replies ws told gives a (mixed own (given_by c.files)) failed before now asks
+      (gathers_merged (Holds told) a.files no_files own no_files (given_by c.files) own_held held)
+      (gathers_merged (IsGiven gives) a.files no_files own no_files (given_by c.files) own_given given)
+      quiet status text h
