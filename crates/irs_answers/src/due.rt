@@ -58,8 +58,8 @@ pub fn reply_of(alloc: Global, task: Task, files: TaskFiles) -> Result<Reply, Me
     reply_by(alloc, task, &own, &common)
 }
 
-/// The status and the text that a task comes to over the document and the flows of `files`, and over the
-/// calendars and the fixings that were read before. It is what `reply_of` gives for all these files.
+/// The status and the text that a task comes to. The document and the flows are those of `files`; the
+/// calendars and the fixings were read before. It is what `reply_of` gives for all these files.
 pub fn reply_by(
     alloc: Global,
     task: Task,

@@ -1,12 +1,18 @@
 -- Trade after trade: the outcomes so far, and with one more.
-use Rattle.std.proofs.Common.{◌≡◌, inl, inr, ◌⊎◌, ℕ, zero, suc, ◌+◌, ◌<◌, ◌≤◌, List, [], ◌∷◌, ◌++◌, length, map, take, drop}
-use Rattle.std.proofs.Common.{get_or, set, Ok, Err, refl, sym, ◌∙◌, ap, subst, arith, append_assoc}
+use Rattle.std.proofs.Common.{◌≡◌, ◌≢◌, inl, inr, ◌⊎◌, ℕ, zero, suc, ◌+◌, ◌<◌, ◌≤◌, List, [], ◌∷◌, ◌++◌, length, map, take, drop}
+use Rattle.std.proofs.Common.{get_or, set, Result, Ok, Err, Vec, String, refl, sym, ◌∙◌, ap, subst, arith, append_assoc}
 use Rattle.std.specs.Prelude.{IfOk, IfErr}
+use Rattle.std.specs.Result.{IsErrAnd}
+use Rattle.std.specs.declared.alloc.Global.{Global}
 use Rattle.std.proofs.lemmas.Bool.{cases_lt}
 use Rattle.std.proofs.lemmas.List.{append-nil, take_all}
-use Rattle.irs_cli.specs.Commands.{Words, texts}
+use Rattle.irs_cli.specs.Commands.{IsListed, Words, texts}
+use Rattle.irs_cli.specs.Due.{Due}
+use Rattle.irs_cli.proofs.OneAnswer.{one_answer}
+use Rattle.irs_plain.specs.Sentences.{sentence_of}
+use Rattle.irs_plain.specs.Shown.{shown}
 use Rattle.irs_c.specs.Each.{AreOutcomes, AreRuns, IsOutcome, IsRun, Made, Outcome, RunFor, no_text, said_by, slot_of}
-use Rattle.irs_c.specs.Given.{AreText, words_in}
+use Rattle.irs_c.specs.Given.{AreText, IsAbsent, file_in, words_in}
 use Rattle.irs_c.specs.declared.each.Answer.{Answer}
 use Rattle.irs_c.specs.declared.given.Bytes.{Bytes}
 use Rattle.irs_c.specs.declared.given.File.{File}
@@ -105,6 +111,55 @@ all_done words common trades before answers k said h stop =
       h.slots ∙ ap (λ (j : ℕ). map slot_of h.outcomes ++ drop j before) (sym h.count),
       h.texts,
     )
+
+-- ---- one run
+
+-- out of memory, so no text
+pub memory_run : (ws : Words) (fs : List File) → IsRun ws fs (no_text 7)
+memory_run ws fs = record {
+  memory = λ _. refl;
+  absent = λ e. absurd (omega (arith, e));
+  due = λ _ no. absurd (no refl);
+  only_unlisted = λ e. absurd (omega (arith, e));
+  unlisted = λ _ no. absurd (no refl);
+  listed = (omega arith, λ e. omega (arith, e));
+  one = one_answer ws (file_in fs);
+  sentence = λ no. absurd (no refl);
+}
+
+-- what a run comes to, and its sentence
+pub text_run : (ws : Words) (fs : List File) (status : ℕ) (text sentence : List ℕ)
+    → (status ≢ 5 → Due ws (file_in fs) status text) → (status ≡ 5 → IsAbsent ws (file_in fs) text)
+    → (status ≡ 4 → IsListed ws → ⊥) → ((IsListed ws → ⊥) → status ≡ 4)
+    → (status < 9) × (status ≢ 6) × (status ≢ 7) → sentence ≡ sentence_of (map shown ws) status text
+    → IsRun ws fs (record { status = status; text = text; sentence = sentence })
+text_run ws fs status text sentence due absent listed unlisted few is =
+    record {
+      memory = λ e. absurd (few.1.1 e);
+      absent = absent;
+      due = λ no _. due no;
+      only_unlisted = listed;
+      unlisted = λ none _. unlisted none;
+      listed = (few.0, few.1.0);
+      one = one_answer ws (file_in fs);
+      sentence = λ _. is;
+    }
+
+-- what a run of words that were made into text comes to
+pub run_of : (words : Made) (v : Vec (String Global) Global) (fs : List File) (o : Outcome) → words ≡ Ok v
+    → IsRun (texts v.items) fs o → RunFor words fs o
+run_of words v fs o e run = subst (λ (r : Made). RunFor r fs o) (sym e) run
+
+-- an error where memory ran out gives no text
+pub memory_stops : (words : Made) (v : Vec (String Global) Global) (fs : List File) (r : Result Answer ℕ) (e : ℕ)
+    (before after : List ℕ) → words ≡ Ok v → IsErrAnd r (λ x. x ≡ e) → e ≡ 7 → after ≡ before
+    → IfErr r (λ s. RunFor words fs (no_text s) × (after ≡ before))
+memory_stops words v fs (Ok a) e before after is h seven same = tt
+memory_stops words v fs (Err s) e before after is h seven same = (
+  run_of words v fs (no_text s) is
+      (subst (λ (n : ℕ). IsRun (texts v.items) fs (no_text n)) (sym (h ∙ seven)) (memory_run (texts v.items) fs)),
+  same,
+)
 
 -- ---- words as they are lent
 

@@ -1,7 +1,8 @@
 -- What is read of the common files is also read of these with a trade's own files after them.
-use Rattle.std.proofs.Common.{◌≡◌, ℕ, ◌<◌, List, [], ◌∷◌, ◌++◌, length, Option, Some, None, Bool, true, false, refl, subst, sym}
+use Rattle.std.proofs.Common.{◌≡◌, ℕ, ◌<◌, List, [], ◌∷◌, ◌++◌, length, Option, Some, None, Bool, true, false, refl, subst, sym, ◌∙◌, ap, Bor}
 use Rattle.std.specs.Prelude.{if◌then◌else◌, IfSome, take}
 use Rattle.std.specs.Str.{bytes_eq}
+use Rattle.std.proofs.lemmas.List.{append-nil}
 use Rattle.irs_answers.specs.Given.{given_by, no_files, too_many}
 use Rattle.irs_answers.specs.declared.common.Common.{Common}
 use Rattle.irs_outside.specs.Outside.{IsFrontUnder}
@@ -26,6 +27,19 @@ still_in [] own name whole e = absurd (cc)
 still_in (f ∷ fs) own name whole e =
     first_of (bytes_eq f.name.at.now name) f.bytes.at.now (file_in fs name) (file_in (fs ++ own) name) whole
     (still_in fs own name whole) e
+
+other_of : (b : Bool) (x : List ℕ) (o p q : Option (List ℕ)) → (o ≡ None → p ≡ q)
+    → (if b then Some x else o) ≡ None → (if b then Some x else p) ≡ q
+other_of true x o p q more e = absurd (cc)
+other_of false x o p q more e = more e
+
+-- a name that isn't there is looked for in the files after
+pub looked_after : (fs own : List File) (name : List ℕ) → file_in fs name ≡ None
+    → file_in (fs ++ own) name ≡ file_in own name
+looked_after [] own name e = refl
+looked_after (f ∷ fs) own name e =
+    other_of (bytes_eq f.name.at.now name) f.bytes.at.now (file_in fs name) (file_in (fs ++ own) name)
+    (file_in own name) (looked_after fs own name) e
 
 front_still : (fs own : List File) (name : List ℕ) (most : ℕ) (bytes : List ℕ) (o : Option (List ℕ))
     → file_in fs name ≡ o → IsFrontUnder o most bytes → IsFrontUnder (file_in (fs ++ own) name) most bytes
@@ -62,3 +76,17 @@ common_still ws fs own c h =
           (given_by c.files) h.given;
       read = h.read;
     }
+
+-- what was read of the common files serves a source that has these files and then the trade's own
+pub common_for : (ws : Words) (fs own gs go : List File) (o : Option (Bor Common)) → gs ≡ fs → go ≡ own
+    → IfSome o (λ c. IsCommonIn ws fs c.now) → IfSome o (λ c. IsCommonIn ws (gs ++ go) c.now)
+common_for ws fs own gs go None e k h = tt
+common_for ws fs own gs go (Some c) e k h = rw (e, k) (common_still ws fs own c.now h)
+
+-- what is read of a source that has the common files alone is read of these
+pub common_of_source : (ws vs : Words) (fs gs go : List File) (o : Option Common) → ws ≡ vs → gs ≡ fs → go ≡ []
+    → IfSome o (IsCommonIn ws (gs ++ go)) → IfSome o (IsCommonIn vs fs)
+common_of_source ws vs fs gs go None w e k h = tt
+common_of_source ws vs fs gs go (Some c) w e k h =
+    let all : gs ++ go ≡ fs = ap (λ (l : List File). gs ++ l) k ∙ append-nil gs ∙ e in
+    subst (λ (l : List File). IsCommonIn vs l c) all (subst (λ (x : Words). IsCommonIn x (gs ++ go) c) w h)

@@ -3,11 +3,13 @@ use Rattle.std.specs.Prelude.{◌≡◌, ◌≢◌, ◌⊎◌, ℕ, ◌<◌, Lis
 use Rattle.std.specs.Prelude.{String}
 use Rattle.std.specs.declared.alloc.Global.{Global}
 use Rattle.irs_cli.specs.Commands.{IsListed, Words, texts}
-use Rattle.irs_cli.specs.Due.{Due}
+use Rattle.irs_cli.specs.Due.{Due, IsOneAnswer}
+use Rattle.irs_cli.specs.Given.{TellsAll}
 use Rattle.irs_cli.specs.Sharing.{IsCommon}
 use Rattle.irs_answers.specs.declared.common.Common.{Common}
 use Rattle.irs_outside.specs.Outside.{IsFrontUnder}
 use Rattle.irs_plain.specs.Sentences.{sentence_of}
+use Rattle.irs_plain.specs.Shown.{shown}
 use Rattle.irs_c.specs.Given.{AreText, IsAbsent, file_in, words_in}
 use Rattle.irs_c.specs.Shown.{Shown}
 use Rattle.irs_c.specs.declared.each.Answer.{Answer}
@@ -47,8 +49,10 @@ pub record IsRun (ws : Words) (fs : List File) (o : Outcome) : Type 0 where
   pub unlisted : (IsListed ws → ⊥) → o.status ≢ 7 → o.status ≡ 4
   -- the statuses are these, and 6 is none of them
   pub listed : (o.status < 9) × (o.status ≢ 6)
-  -- the sentence is that of the text
-  pub sentence : o.status ≢ 7 → o.sentence ≡ sentence_of ws o.status o.text
+  -- where every file that the words name is lent, one status and one text are due
+  pub one : TellsAll ws (file_in fs) → IsOneAnswer ws (file_in fs)
+  -- the sentence is that of the text, with the words as they are shown
+  pub sentence : o.status ≢ 7 → o.sentence ≡ sentence_of (map shown ws) o.status o.text
 
 -- the same for words as they are lent; 9 where one isn't UTF-8
 abbrev pub IsOutcome : List Bytes → List File → Outcome → Type 0

@@ -3,10 +3,9 @@ ghost use Rattle.std.specs.Prelude.{◌≡◌, ◌++◌, List, IfOk, IfErr, IfSo
 ghost use Rattle.irs_c.specs.Each.{AreOutcomes, AreRuns, IsCommonIn, IsRun, Outcome, RunFor, no_text, said_by, slot_of};
 ghost use Rattle.irs_cli.specs.Commands.{texts};
 
-use crate::exports::{append, joined, run_kept, words_of};
+use crate::exports::{append, run_kept, sentence_for, words_of};
 use crate::given::{Bytes, File, GivenFiles, Trade};
 use irs_cli::{Common, read_common};
-use irs_plain::meaning;
 use std::alloc::Global;
 
 /// What a trade comes to: the status, and the lengths of its text and of its sentence.
@@ -115,7 +114,7 @@ fn outcome_of(
         Err(status) => return Err(*status),
     };
     let (status, mut text) = run_kept(alloc, words, read.as_ref(), common, own)?;
-    let sentence = joined(alloc, &meaning(words, status, &text).parts)?;
+    let sentence = sentence_for(alloc, words, status, &text)?;
     let answer = Answer {
         status,
         text: text.len(),

@@ -1,5 +1,5 @@
 //! The functions that C calls. Their form is our rule; `bindings/irs.h` declares them in C.
-ghost use Rattle.std.specs.Prelude.{◌≡◌, ◌≢◌, ◌⊎◌, ℕ, ◌<◌, List, ◌++◌, length, take, drop, map, OnOk, IfOk, IfErr, IfSome};
+ghost use Rattle.std.specs.Prelude.{◌≡◌, ◌≢◌, ◌⊎◌, ℕ, ◌<◌, List, ◌++◌, length, take, drop, map, OnOk, OnErr, IfOk, IfErr, IfSome};
 ghost use Rattle.irs_cli.specs.Commands.{IsListed, texts};
 ghost use Rattle.irs_cli.specs.Due.{Due, IsOneAnswer};
 ghost use Rattle.irs_cli.specs.Given.{TellsAll};
@@ -73,8 +73,8 @@ pub extern "C" fn irs_run(
 /// trade comes to is what `irs_run` gives for these files, and its sentence what `irs_meaning` gives for that.
 /// The fixings and the calendars that the words name are read once, if all of them are common.
 ///
-/// As many trades are run as `answers` has room for. The texts and the sentences go to `out`, those of a trade
-/// one after the other, as far as it has room; and the length of all to `needed`. A trade with 7 or 9 has no
+/// As many trades are run as `answers` has room for. The texts and the sentences go to `out` as far as it has
+/// room, those of a trade one after the other. The length of all goes to `needed`. A trade with 7 or 9 has no
 /// text and no sentence.
 #[unsafe(no_mangle)]
 pub extern "C" fn irs_run_each(
@@ -152,26 +152,28 @@ fn sentence(alloc: Global, words: &[Bytes<'_>], status: u8, line: &[u8]) -> Resu
     ensures not_text { IfErr result (λ s. s ≡ 9 → AreText words.now → ⊥) }
     ensures err { IfErr result (λ s. (s ≡ 7) ⊎ (s ≡ 9)) }
 {
-    let words = shown_words_of(alloc, words)?;
-    joined(alloc, &meaning(&words, status, line).parts)
+    let words = words_of(alloc, words)?;
+    sentence_for(alloc, &words, status, line)
 }
 
-// The words as a sentence shows them, or 9 where one isn't UTF-8, or 7 where memory ran out.
-fn shown_words_of(alloc: Global, words: &[Bytes<'_>]) -> Result<Vec<String>, u8>
-    ensures ok { IfOk result (λ v. texts v.items ≡ map shown (words_in words.now)) }
-    ensures text { IfOk result (λ _. AreText words.now) }
-    ensures not_text { IfErr result (λ s. s ≡ 9 → AreText words.now → ⊥) }
-    ensures err { IfErr result (λ s. (s ≡ 7) ⊎ (s ≡ 9)) }
+// The sentence for words as text, or 7 where memory ran out.
+pub(crate) fn sentence_for(
+    alloc: Global,
+    words: &[String],
+    status: u8,
+    line: &[u8],
+) -> Result<Vec<u8>, u8>
+    ensures done { IfOk result (λ t. t.items ≡ sentence_of (map shown (texts words.now)) status line.now) }
+    ensures err { IfErr result (λ s. s ≡ 7) }
 {
-    let words = words_of(alloc, words)?;
-    match shown_words(alloc, &words) {
-        Ok(all) => Ok(all),
-        Err(_) => Err(Status::NoMemory.number()),
-    }
+    let Ok(shown) = shown_words(alloc, words) else {
+        return Err(Status::NoMemory.number());
+    };
+    joined(alloc, &meaning(&shown, status, line).parts)
 }
 
 // The parts of a sentence one after the other, or 7 where memory ran out.
-pub(crate) fn joined(alloc: Global, parts: &[&[u8]]) -> Result<Vec<u8>, u8>
+fn joined(alloc: Global, parts: &[&[u8]]) -> Result<Vec<u8>, u8>
     ensures text { IfOk result (λ t. t.items ≡ joined_of (map (λ p. p.now) parts.now)) }
     ensures err { IfErr result (λ s. s ≡ 7) }
 {
@@ -185,6 +187,7 @@ pub(crate) fn joined(alloc: Global, parts: &[&[u8]]) -> Result<Vec<u8>, u8>
 // Appends a part, or returns 7 where memory ran out.
 pub(crate) fn append(text: &mut Vec<u8>, part: &[u8]) -> Result<(), u8>
     ensures text { OnOk result (text.new.items ≡ text.old.items ++ part.now) }
+    ensures same { OnErr result (text.new.items ≡ text.old.items) }
     ensures err { IfErr result (λ s. s ≡ 7) }
 {
     match text.extend_from_slice(part) {

@@ -1,7 +1,9 @@
-//! The two calls, over words and files in memory.
+//! The calls, over words and files in memory.
 use crate::each::Answer;
 use crate::exports::{irs_meaning, irs_run, irs_run_each, irs_version};
 use crate::given::{Bytes, File, Trade};
+use irs_cli::{bulk_calendar, bulk_doc};
+use std::alloc::Global;
 use std::test::*;
 
 fn lent(at: &'static [u8]) -> Bytes<'static> {
@@ -112,4 +114,139 @@ fn a_command_over_two_trades(rt: HostRuntime) {
     assert_eq!(rt; &out[..24], b"refused K1 0 document 0\n".as_slice());
     assert_eq!(rt; &out[24..51], b"K1: the document isn't JSON".as_slice());
     assert_eq!(rt; &out[51..81], b"no file 1\ncouldn't be read: D#".as_slice());
+}
+
+const NO_ANSWER: Answer = Answer {
+    status: 99,
+    text: 0,
+    sentence: 0,
+};
+
+/// Cash flows without a payment.
+const NO_PAYMENT: &[u8] = b"{\"swap\":{\"swapStream\":{\"cashflows\":{\"cashflowsMatchParameters\":\"true\",\"paymentCalculationPeriod\":[]}}}}";
+
+/// The name and the bytes of a file.
+type Named<'a> = (&'a [u8], &'a [u8]);
+
+fn file<'a>(named: Named<'a>) -> File<'a> {
+    File {
+        name: Bytes { at: named.0 },
+        bytes: Bytes { at: named.1 },
+    }
+}
+
+// The status of a run over a trade's files alone. Its text and its sentence are appended.
+fn alone(
+    alloc: Global,
+    words: &[Bytes<'_>],
+    common: Named<'_>,
+    own: [Named<'_>; 2],
+    said: &mut Vec<u8>,
+) -> Option<u8> {
+    let files = [file(common), file(own[0]), file(own[1])];
+    let mut out = [b'#'; 128];
+    let mut needed = 0;
+    let status = irs_run(alloc, words, &files, &mut out, &mut needed);
+    let text = out.get(..needed)?;
+    said.extend_from_slice(text).ok()?;
+    let mut sentence = [b'#'; 128];
+    irs_meaning(alloc, words, status, text, &mut sentence, &mut needed);
+    said.extend_from_slice(sentence.get(..needed)?).ok()?;
+    Some(status)
+}
+
+// The statuses of three trades in one call; `None` where one of them comes to something else alone.
+fn as_alone(
+    alloc: Global,
+    words: &[Bytes<'_>],
+    common: Named<'_>,
+    trades: [[Named<'_>; 2]; 3],
+) -> Option<[u8; 3]> {
+    let [one, two, three] = trades;
+    let mut said = Vec::new(alloc);
+    let single = [
+        alone(alloc, words, common, one, &mut said)?,
+        alone(alloc, words, common, two, &mut said)?,
+        alone(alloc, words, common, three, &mut said)?,
+    ];
+    let common = [file(common)];
+    let one = [file(one[0]), file(one[1])];
+    let two = [file(two[0]), file(two[1])];
+    let three = [file(three[0]), file(three[1])];
+    let trades = [
+        Trade { files: &one },
+        Trade { files: &two },
+        Trade { files: &three },
+    ];
+    let mut answers = [NO_ANSWER; 3];
+    let mut out = [b'#'; 512];
+    let mut needed = 0;
+    irs_run_each(
+        alloc,
+        words,
+        &common,
+        &trades,
+        &mut answers,
+        &mut out,
+        &mut needed,
+    );
+    let statuses = [answers[0].status, answers[1].status, answers[2].status];
+    if statuses == single && out.get(..needed)? == said.as_slice() {
+        Some(statuses)
+    } else {
+        None
+    }
+}
+
+// Trades with documents and flows of their own: without the payment that is due, without a document, and with
+// no flows.
+fn audited(alloc: Global) -> Option<[u8; 3]> {
+    let words = [
+        lent(b"audit"),
+        lent(b"D"),
+        lent(b"-"),
+        lent(b"F"),
+        lent(b"C"),
+    ];
+    let calendar = bulk_calendar(alloc).ok()?;
+    let document = bulk_doc(alloc, 1, true).ok()?;
+    as_alone(
+        alloc,
+        &words,
+        (b"C", &calendar),
+        [
+            [(b"D", &document), (b"F", NO_PAYMENT)],
+            [(b"F", NO_PAYMENT), (b"D", b"[")],
+            [(b"F", b"{}"), (b"D", &document)],
+        ],
+    )
+}
+
+#[test]
+fn a_trade_has_its_own_document_and_flows(rt: HostRuntime) {
+    assert_eq!(rt; audited(rt.alloc()), Some([1, 2, 3]));
+}
+
+// Trades that have a calendar each, over a common file of this name.
+fn checked(alloc: Global, name: &[u8], bytes: &[u8]) -> Option<[u8; 3]> {
+    let words = [lent(b"check"), lent(b"D"), lent(b"C")];
+    let calendar = bulk_calendar(alloc).ok()?;
+    let document = bulk_doc(alloc, 2, false).ok()?;
+    as_alone(
+        alloc,
+        &words,
+        (name, bytes),
+        [
+            [(b"D", &document), (b"C", &calendar)],
+            [(b"D", &document), (b"C", b"x\n")],
+            [(b"D", b"["), (b"C", b"x\n")],
+        ],
+    )
+}
+
+#[test]
+fn a_trade_has_its_own_calendar(rt: HostRuntime) {
+    assert_eq!(rt; checked(rt.alloc(), b"E", b"x\n"), Some([0, 3, 2]));
+    // A common calendar comes first, and is read after each document.
+    assert_eq!(rt; checked(rt.alloc(), b"C", b"x\n"), Some([3, 3, 2]));
 }

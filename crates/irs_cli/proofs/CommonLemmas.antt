@@ -1,9 +1,11 @@
 -- What a run says whose common files were read before.
-use Rattle.std.proofs.Common.{◌≡◌, ℕ, List, Option, subst, arith}
+use Rattle.std.proofs.Common.{◌≡◌, ℕ, List, Option, sym, subst, arith}
+use Rattle.irs_answers.specs.Common.{AreRead}
 use Rattle.irs_answers.specs.Given.{Given, IsWithin, given_by, no_files}
 use Rattle.irs_answers.specs.Outcomes.{Ends}
 use Rattle.irs_answers.specs.declared.common.Common.{Common}
-use Rattle.irs_cli.specs.Commands.{Asked, Asks, Words}
+use Rattle.irs_answers.specs.declared.files.TaskFiles.{TaskFiles}
+use Rattle.irs_cli.specs.Commands.{Asked, Asks, Wanted, Words}
 use Rattle.irs_cli.specs.Due.{DueOf}
 use Rattle.irs_cli.specs.Fetching.{FailedAt, Gives, Holds, IsGiven, NotLong, OverAt, Stops}
 use Rattle.irs_cli.specs.Given.{Gathers, Told}
@@ -23,6 +25,23 @@ pub common_within : (ws : Words) (told : Told) (a : Asked) (h : Given) → Asks 
 common_within ws told a h asks k =
     gathers_within (Holds told) (files_with false a.files) h (λ name bytes x. x.1)
     (omega (arith, cals_common a.files, few_cals ws a asks)) k
+
+-- the common files of a command, gathered and read
+pub is_common : (ws : Words) (told : Told) (gives : Gives) (a : Asked) (f : TaskFiles) (c : Common) (ns : List Wanted)
+    → Asks ws a → ns ≡ files_with false a.files → Gathers (Holds told) ns no_files (given_by f)
+    → Gathers (IsGiven gives) ns no_files (given_by f) → c.files ≡ f → AreRead c → IsCommon ws told gives c
+is_common ws told gives a f c ns asks part held given same read =
+    record {
+      asked = a;
+      asks = asks;
+      held =
+          subst (λ (l : List Wanted). Gathers (Holds told) l no_files (given_by c.files)) part
+          (subst (λ (x : TaskFiles). Gathers (Holds told) ns no_files (given_by x)) (sym same) held);
+      given =
+          subst (λ (l : List Wanted). Gathers (IsGiven gives) l no_files (given_by c.files)) part
+          (subst (λ (x : TaskFiles). Gathers (IsGiven gives) ns no_files (given_by x)) (sym same) given);
+      read = read;
+    }
 
 module _ (ws : Words) (told : Told) (gives : Gives) (a : Asked) (c : Common) (asks : Asks ws a)
     (common : IsCommon ws told gives c) where

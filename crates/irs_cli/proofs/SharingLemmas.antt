@@ -1,9 +1,10 @@
 -- The files of a run, gathered in two parts: those that runs have in common, and its own.
-use Rattle.std.proofs.Common.{inl, inr, ℕ, ◌≤◌, List, [], ◌∷◌, true, false, refl, arith}
+use Rattle.std.proofs.Common.{◌≡◌, inl, inr, ℕ, ◌≤◌, List, [], ◌∷◌, map, Bool, true, false, refl, ◌∙◌, ap, arith}
 use Rattle.irs_answers.specs.Given.{Given}
-use Rattle.irs_cli.specs.Commands.{Wanted}
+use Rattle.irs_cli.specs.Commands.{Wanted, wanted_by}
 use Rattle.irs_cli.specs.Given.{Gathers, Reaches, text_as, with_file}
 use Rattle.irs_cli.specs.Sharing.{files_with}
+use Rattle.irs_cli.specs.declared.commands.Named.{Named}
 use Rattle.irs_cli.specs.declared.commands.Role.{Role}
 use Rattle.irs_cli.specs.declared.commands.Role.TheVariants.{Document, Fixings, Flows, Calendar}
 use Rattle.irs_cli.proofs.CommandLemmas.{cals, is_cal}
@@ -30,6 +31,13 @@ cals_common (w ∷ ws) = cals_step w.place w.role w.name ws (cals_common ws)
 abbrev pub mixed : Given → Given → Given
 mixed own common =
     record { document = own.document; fixings = common.fixings; flows = own.flows; calendars = common.calendars }
+
+-- the names of one part of a command's files, as the code keeps them
+pub part_of : (own : Bool) (all few as_few files : List Named) → all ≡ files → few ≡ as_few
+    → map wanted_by as_few ≡ files_with own (map wanted_by all)
+    → map wanted_by few ≡ files_with own (map wanted_by files)
+part_of own all few as_few files e k h =
+    ap (λ (l : List Named). map wanted_by l) k ∙ h ∙ ap (λ (l : List Named). files_with own (map wanted_by l)) e
 
 -- files are gathered by another relation, where it follows for the bytes of each name
 pub gathers_as : (R S : List ℕ → List ℕ → Type 0) → ((name bytes : List ℕ) → R name bytes → S name bytes)

@@ -47,8 +47,8 @@ pub fn run<F: Files, S: Sink>(alloc: Global, words: &[String], files: &mut F, ou
     run_with(alloc, words, None, files, out)
 }
 
-/// Does what `run` does, with the fixings and the calendars that were read before, where there are any: those
-/// that the words name, as the source has them. They aren't fetched then.
+/// Does what `run` does. Common files are the fixings and the calendars that the words name, as the source has
+/// them. Where there are any, they were read before, and aren't fetched again.
 pub fn run_with<F: Files, S: Sink>(
     alloc: Global,
     words: &[String],
@@ -107,13 +107,17 @@ fn carry_out<F: Files>(
     let Some(command) = command_of(alloc, words)? else {
         return Err(Refusal::BadWords);
     };
-    let Some(common) = common else {
-        let fetched = fetch_all(alloc, &command.files, files)?;
-        return Ok(reply_to(alloc, command.request, fetched)?);
-    };
-    let own = names_with(alloc, &command.files, true)?;
-    let fetched = fetch_all(alloc, &own, files)?;
-    Ok(reply_with(alloc, command.request, &fetched, common)?)
+    match common {
+        None => {
+            let fetched = fetch_all(alloc, &command.files, files)?;
+            Ok(reply_to(alloc, command.request, fetched)?)
+        }
+        Some(common) => {
+            let own = names_with(alloc, &command.files, true)?;
+            let fetched = fetch_all(alloc, &own, files)?;
+            Ok(reply_with(alloc, command.request, &fetched, common)?)
+        }
+    }
 }
 
 // What a request over its files comes to.

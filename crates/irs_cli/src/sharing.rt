@@ -11,7 +11,7 @@ use irs_base::Memory;
 use std::alloc::Global;
 
 /// The fixings and the calendars that the words name, read once for many runs. `None` comes where the words
-/// are no listed command, where one of these files can't be read or is too long, and where memory ran out.
+/// are no listed command, a file can't be read or is too long, or memory ran out.
 pub fn read_common<F: Files>(alloc: Global, words: &[String], files: &mut F) -> Option<Common>
     // What the source states of its files is the same afterwards.
     ensures told { (n : List ℕ) → F.told files.new n ≡ F.told files.old n }

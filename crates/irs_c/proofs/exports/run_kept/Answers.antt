@@ -1,13 +1,17 @@
-use Rattle.std.proofs.Common.{arith, ◌≡◌, inl, inr, ℕ, List, [], ◌∷◌, Option, Some, None, subst, sym, ◌∙◌}
+use Rattle.std.proofs.Common.{arith, ◌≡◌, inl, inr, ℕ, List, [], ◌∷◌, ◌++◌, Option, Some, None, subst, sym, ◌∙◌}
 use Rattle.irs_outside.specs.Outside.{Grew}
-use Rattle.irs_cli.specs.Commands.{Words, Wanted}
+use Rattle.irs_cli.specs.Commands.{Words, Wanted, texts}
 use Rattle.irs_cli.specs.Due.{Due}
 use Rattle.irs_cli.specs.Fetching.{FailedAt, Gives, NotLong}
 use Rattle.irs_cli.specs.Given.{Reaches}
 use Rattle.irs_cli.specs.Run.{NoFile, source}
 use Rattle.irs_c.specs.Given.{file_in, AbsentAt, IsAbsent}
 use Rattle.irs_c.specs.declared.given.File.{File}
+use Rattle.irs_c.proofs.LentLemmas.{common_for}
 use Rattle.irs_c.proofs.exports.run_kept.Goals as goal
+
+both_parts : {fs own gs go : List File} → gs ≡ fs → go ≡ own → gs ++ go ≡ fs ++ own
+both_parts e k = cc
 
 -- what was written to an empty sink is what it keeps
 kept : (ws : Words) (s : ℕ) (fs gs : List File) (before after : List ℕ) → gs ≡ fs → before ≡ []
@@ -45,21 +49,28 @@ absent ws fs gs hs gives failed faults now before after same told none empty (te
       is_text = missed.is_text;
     }))
 
+pub run_with-requires : goal.run_with-requires
+run_with-requires c =
+    common_for (texts c.args.words.now) c.args.files.now c.args.own.now c.new-source.result.files.now
+    c.new-source.result.own.now c.args.common c.new-source.ensures.files c.new-source.ensures.own c.requires
+
 pub returns-clause-due : goal.returns-clause-due
 returns-clause-due c ne5 =
-    kept _ _ _ _ _ _ c.new-source.ensures c.new-kept.ensures
-    (c.run-status.ensures.ran.due ne5 (rw c.number.ensures at c.if-status-number.false)
+    let same = both_parts c.new-source.ensures.files c.new-source.ensures.own in
+    kept _ _ _ _ _ _ same c.new-kept.ensures
+    (c.run_with-status.ensures.ran.due ne5 (rw c.number.ensures at c.if-status-number.false)
     (rw c.number-else-status-number.ensures at c.if-status-number-2.false))
 
 pub returns-clause-absent : goal.returns-clause-absent
 returns-clause-absent c is5 =
-    absent _ _ _ _ _ _ _ _ _ _ c.new-source.ensures c.run-status.ensures.told c.run-status.new.files.absent
-    c.new-kept.ensures (c.run-status.ensures.ran.failed is5)
+    let same = both_parts c.new-source.ensures.files c.new-source.ensures.own in
+    absent _ _ _ _ _ _ _ _ _ _ same c.run_with-status.ensures.told c.run_with-status.new.files.absent
+    c.new-kept.ensures (c.run_with-status.ensures.ran.failed is5)
 
 pub returns-clause-only_unlisted : goal.returns-clause-only_unlisted
-returns-clause-only_unlisted c is4 = c.run-status.ensures.ran.only_unlisted is4
+returns-clause-only_unlisted c is4 = c.run_with-status.ensures.ran.only_unlisted is4
 
 pub returns-clause-unlisted : goal.returns-clause-unlisted
 returns-clause-unlisted c none =
-    c.run-status.ensures.ran.unlisted none (rw c.number.ensures at c.if-status-number.false)
+    c.run_with-status.ensures.ran.unlisted none (rw c.number.ensures at c.if-status-number.false)
     (rw c.number-else-status-number.ensures at c.if-status-number-2.false)
