@@ -21,7 +21,11 @@ use irs_terms::{FloatTerms, Frequency, Leg, Stream, Swap};
 use std::alloc::Global;
 
 /// The rates that daily rates give for the stream with that number.
-pub(crate) fn overnight_answer(alloc: Global, number: u8, found: &Found<'_>) -> Result<Reply, Refusal>
+pub(crate) fn overnight_answer(
+    alloc: Global,
+    number: u8,
+    found: &Found<'_>,
+) -> Result<Reply, Refusal>
     requires { IsUnfixed found.now.swap found.now.calendars.now found.now.schedule }
     ensures { IfAnswered result
         (Ends (DueOvernight number found.now.swap found.now.calendars.now found.now.fixings.now found.now.schedule)) }

@@ -58,11 +58,7 @@ fn run_each(
 }
 
 // The common files that the words name, read once.
-fn common_of(
-    alloc: Global,
-    words: &Result<Vec<String>, u8>,
-    common: &[File<'_>],
-) -> Option<Common>
+fn common_of(alloc: Global, words: &Result<Vec<String>, u8>, common: &[File<'_>]) -> Option<Common>
     ensures { IfSome result (λ c. IfOk words.now (λ v. IsCommonIn (texts v.items) common.now c)) }
 {
     match words {

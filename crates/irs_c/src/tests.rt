@@ -106,9 +106,23 @@ fn a_command_over_two_trades(rt: HostRuntime) {
     }; 3];
     let mut out = [b'#'; 96];
     let mut needed = 0;
-    irs_run_each(rt.alloc(), &words, &common, &trades, &mut answers, &mut out, &mut needed);
-    assert_eq!(rt; (answers[0].status, answers[0].text, answers[0].sentence), (2, 24, 27));
-    assert_eq!(rt; (answers[1].status, answers[1].text, answers[1].sentence), (5, 10, 19));
+    irs_run_each(
+        rt.alloc(),
+        &words,
+        &common,
+        &trades,
+        &mut answers,
+        &mut out,
+        &mut needed,
+    );
+    assert_eq!(rt;
+        (answers[0].status, answers[0].text, answers[0].sentence),
+        (2, 24, 27)
+    );
+    assert_eq!(rt;
+        (answers[1].status, answers[1].text, answers[1].sentence),
+        (5, 10, 19)
+    );
     assert_eq!(rt; answers[2].status, 99);
     assert_eq!(rt; needed, 80);
     assert_eq!(rt; &out[..24], b"refused K1 0 document 0\n".as_slice());
@@ -123,7 +137,8 @@ const NO_ANSWER: Answer = Answer {
 };
 
 /// Cash flows without a payment.
-const NO_PAYMENT: &[u8] = b"{\"swap\":{\"swapStream\":{\"cashflows\":{\"cashflowsMatchParameters\":\"true\",\"paymentCalculationPeriod\":[]}}}}";
+const NO_PAYMENT: &[u8] =
+    b"{\"swap\":{\"swapStream\":{\"cashflows\":{\"cashflowsMatchParameters\":\"true\",\"paymentCalculationPeriod\":[]}}}}";
 
 /// The name and the bytes of a file.
 type Named<'a> = (&'a [u8], &'a [u8]);
