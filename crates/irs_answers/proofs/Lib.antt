@@ -1,8 +1,8 @@
-pub mod Pushes
 pub mod PageLemmas
 pub mod FirstLemmas
 pub mod SameRates
 pub mod StepLemmas
+pub mod CauseLemmas
 pub mod SameDerived
 pub mod DerivedSame
 pub mod ObservedLemmas

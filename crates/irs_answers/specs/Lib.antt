@@ -12,6 +12,7 @@ pub mod Derived
 pub mod CashFlows
 pub mod Due
 pub mod Replying
+pub mod Causes
 pub mod Outcomes
 pub mod Common
 pub mod Found

@@ -1,8 +1,9 @@
 //! The last step of each task, where no rule is broken.
-ghost use Rattle.std.specs.Prelude.{◌≡◌};
+ghost use Rattle.std.specs.Prelude.{◌≡◌, IfOk};
 ghost use Rattle.irs_emit.specs.Emitted.{emit_text};
 ghost use Rattle.irs_answers.specs.Accrued.{IsAccruing, TellsAccrued, accruing};
 ghost use Rattle.irs_answers.specs.CashFlows.{DueFlows, DueVerdict};
+ghost use Rattle.irs_answers.specs.Causes.{IsJudged, JudgedIf};
 ghost use Rattle.irs_answers.specs.Due.{Answered, Passes};
 ghost use Rattle.irs_answers.specs.Forms.{source_by};
 ghost use Rattle.irs_answers.specs.Found.{facts_by};
@@ -24,9 +25,9 @@ use crate::forms::Source;
 use crate::netting::net_answer;
 use crate::observing::observations_answer;
 use crate::refusals::Refusal;
-use crate::replies::{Reply, verdict_reply};
+use crate::replies::Reply;
 use crate::tasks::Task;
-use irs_base::{Day, Status};
+use irs_base::Day;
 use irs_emit::emit_flows;
 use irs_schedule::Schedule;
 use std::alloc::Global;
@@ -42,8 +43,9 @@ pub(crate) fn answer_by(
     requires asked { IsLawfulTask task.now }
     requires lawful { IsLawful found.swap }
     requires passes { Passes task.now (given_with files.now common.now.files) (facts_by found) }
-    ensures { IfAnswered result
+    ensures due { IfAnswered result
         (Ends (Answered task.now (given_with files.now common.now.files) (facts_by found.entry))) }
+    ensures judged { JudgedIf task.now result }
 {
     match *task {
         Task::Check => check_answer(alloc),
@@ -68,20 +70,20 @@ pub(crate) fn answer_by(
 fn check_answer(alloc: Global) -> Result<Reply, Refusal>
     ensures { IfAnswered result (Ends (Is 0 all_kept)) }
 {
-    Ok(Reply::line(alloc, Status::Done, b"ok\n")?)
+    Ok(Reply::done(alloc, b"ok\n")?)
 }
 
 fn audit_answer(alloc: Global, flows: &Source, schedule: &Schedule) -> Result<Reply, Refusal>
-    ensures { IfAnswered result (Ends (DueFlows (DueVerdict schedule.now) (source_by flows.now))) }
+    ensures due { IfAnswered result (Ends (DueFlows (DueVerdict schedule.now) (source_by flows.now))) }
+    ensures judged { IfOk result IsJudged }
 {
-    let verdict = verdict_on(alloc, schedule, flows)?;
-    Ok(verdict_reply(alloc, verdict)?)
+    Ok(Reply::Verdict(verdict_on(alloc, schedule, flows)?))
 }
 
 fn emit_answer(alloc: Global, schedule: &Schedule) -> Result<Reply, Refusal>
     ensures { IfAnswered result (Ends (Is 0 (emit_text schedule.now))) }
 {
-    Ok(Reply::Text(Status::Done, emit_flows(alloc, schedule)?))
+    Ok(Reply::Text(emit_flows(alloc, schedule)?))
 }
 
 fn accrue_answer(alloc: Global, found: &Found<'_>, date: Day) -> Result<Reply, Refusal>
@@ -89,5 +91,5 @@ fn accrue_answer(alloc: Global, found: &Found<'_>, date: Day) -> Result<Reply, R
     ensures { let x = accruing found.now.swap found.now.calendars.now found.now.fixings.now in
         IfAnswered result (Ends (λ status text. (status ≡ 0) × TellsAccrued date x found.now.schedule text)) }
 {
-    Ok(Reply::Text(Status::Done, accrued_page(alloc, found, date)?))
+    Ok(Reply::Text(accrued_page(alloc, found, date)?))
 }

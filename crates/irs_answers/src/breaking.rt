@@ -3,13 +3,13 @@ ghost use Rattle.std.specs.Prelude.{◌≡◌};
 ghost use Rattle.irs_answers.specs.CashFlows.{DueBreaks, DueFlows, IsStatusOf};
 ghost use Rattle.irs_answers.specs.Forms.{source_by};
 ghost use Rattle.irs_answers.specs.Outcomes.{Ends, IfAnswered};
-ghost use Rattle.irs_base.specs.Statuses.{status_number};
+ghost use Rattle.irs_answers.specs.Replying.{reply_status, reply_text};
 
 use crate::flows::stated_flows;
 use crate::forms::Source;
 use crate::refusals::Refusal;
 use crate::replies::Reply;
-use irs_base::{Day, Status};
+use irs_base::Day;
 use irs_breaks::{BreakList, breaks, breaks_text};
 use irs_schedule::Schedule;
 use std::alloc::Global;
@@ -26,16 +26,17 @@ pub(crate) fn breaks_answer(
     let stated = stated_flows(alloc, flows)?;
     let list = breaks(alloc, from, schedule, &stated)?;
     let text = breaks_text(alloc, from, &list)?;
-    Ok(Reply::Text(status_of(&list), text))
+    Ok(listed(&list, text))
 }
 
-// 1 where there is a break, 0 where there is none.
-fn status_of(list: &BreakList) -> Status
-    ensures { IsStatusOf list.now (status_number result) }
+// The reply with the text of a list: its status is 1 where there is a break, and 0 where there is none.
+fn listed(list: &BreakList, text: Vec<u8>) -> Reply
+    ensures status { IsStatusOf list.now (reply_status result) }
+    ensures text { reply_text result ≡ text.items }
 {
     if list.any() {
-        Status::NotAgreed
+        Reply::Breaks(text)
     } else {
-        Status::Done
+        Reply::Text(text)
     }
 }

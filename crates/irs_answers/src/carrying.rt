@@ -9,7 +9,7 @@ ghost use Rattle.std.specs.Prelude.{◌≡◌, IfOk};
 use crate::forms::read_fpml;
 use crate::refusals::Refusal;
 use crate::replies::Reply;
-use irs_base::{Memory, Status};
+use irs_base::Memory;
 use irs_json::Value;
 use std::alloc::Global;
 
@@ -22,7 +22,7 @@ pub fn carrier(alloc: Global, bytes: &[u8]) -> Result<Reply, Memory>
 {
     match carry(alloc, bytes) {
         Ok(reply) => Ok(reply),
-        Err(refusal) => refusal.reply(alloc),
+        Err(refusal) => refusal.reply(),
     }
 }
 
@@ -32,7 +32,7 @@ fn carry(alloc: Global, bytes: &[u8]) -> Result<Reply, Refusal>
         × (status ≡ 0 → ReadsBack bytes.now text)) }
 {
     let value = read_fpml(alloc, bytes)?;
-    Ok(Reply::Text(Status::Done, line_of(alloc, &value)?))
+    Ok(Reply::Text(line_of(alloc, &value)?))
 }
 
 // The text of a value that was read from XML, and LF.

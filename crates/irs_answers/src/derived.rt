@@ -14,7 +14,7 @@ use crate::due::Found;
 use crate::refusals::Refusal;
 use crate::replies::Reply;
 use irs_average::{Mean, Side, average, interpolate, stub_index};
-use irs_base::{Broken, Line, Memory, Status, Text};
+use irs_base::{Broken, Line, Memory, Text};
 use irs_overnight::{DerivedRow, check_stream, derived_text, overnight, stream_at};
 use irs_schedule::reset_days;
 use irs_terms::{FloatTerms, Frequency, Leg, Stream, Swap};
@@ -35,7 +35,7 @@ pub(crate) fn overnight_answer(
     let days = reset_days(alloc, found.calendars, stream)?;
     let rows = overnight(alloc, &found.schedule, swap, number, &days, found.fixings)?;
     let text = fixings_page(alloc, rows.as_slice(), float.tenor, &float.index)?;
-    Ok(Reply::Text(Status::Done, text))
+    Ok(Reply::Text(text))
 }
 
 /// The averages of the rates of the stream with that number.
@@ -66,7 +66,7 @@ pub(crate) fn average_answer(
         found.fixings,
     )?;
     let text = fixings_page(alloc, rows.as_slice(), float.tenor, &float.index)?;
-    Ok(Reply::Text(Status::Done, text))
+    Ok(Reply::Text(text))
 }
 
 /// The rate of the stub of the stream with that number, on a side, between those of two tenors.
@@ -98,7 +98,7 @@ pub(crate) fn interpolate_answer(
     let Some((index, tenor)) = stub_index(swap, number, side) else {
         unreachable!()
     };
-    Ok(Reply::Text(Status::Done, fixings_page(alloc, &[row], tenor, index)?))
+    Ok(Reply::Text(fixings_page(alloc, &[row], tenor, index)?))
 }
 
 // The floating stream with that number, from 1, and what it pays; K40 where there is none, or where it has

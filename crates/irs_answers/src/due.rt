@@ -4,6 +4,7 @@ ghost use Rattle.serde_json.specs.View.{view};
 ghost use Rattle.irs_base.specs.declared.places.Broken.{Broken as BrokenRule};
 ghost use Rattle.irs_read.specs.Documents.{DocumentFault};
 ghost use Rattle.irs_terms.specs.Lawful.{IsLawful};
+ghost use Rattle.irs_answers.specs.Causes.{IsCauseOf, cause_of};
 ghost use Rattle.irs_answers.specs.Common.{AreRead};
 ghost use Rattle.irs_answers.specs.Given.{IsWithin, given_by, given_with};
 ghost use Rattle.irs_answers.specs.Due.{BreaksSides, DueFor, HasSides, Passes, rates_for};
@@ -45,21 +46,22 @@ pub struct Found<'a> {
     pub schedule: Schedule,
 }
 
-/// The status and the text that a task over its files comes to. The first step that applies decides. The
+/// What a task over its files comes to, its status and its text. The first step that applies decides. The
 /// steps are the document, the parties where the task needs them, the calendars, the fixings and the rules of
 /// the swap. The task's own step comes last. `Memory` comes where memory ran out.
 pub fn reply_of(alloc: Global, task: Task, files: TaskFiles) -> Result<Reply, Memory>
     requires lawful { IsLawfulTask task }
     requires within { IsWithin (given_by files) }
-    ensures { IfOk result (λ r. Ends (DueFor task (given_by files)) (reply_status r) (reply_text r)) }
+    ensures due { IfOk result (λ r. Ends (DueFor task (given_by files)) (reply_status r) (reply_text r)) }
+    ensures cause { IfOk result (λ r. IsCauseOf task (cause_of r) (reply_status r) (reply_text r)) }
 {
     let (own, common) = files.split(alloc);
     let common = Common::read(alloc, common);
     reply_by(alloc, task, &own, &common)
 }
 
-/// The status and the text that a task comes to. The document and the flows are those of `files`; the
-/// calendars and the fixings were read before. It is what `reply_of` gives for all these files.
+/// What a task comes to over the document and the flows of `files`, with the calendars and the fixings that
+/// were read before. It is what `reply_of` gives for all these files.
 pub fn reply_by(
     alloc: Global,
     task: Task,
@@ -68,12 +70,13 @@ pub fn reply_by(
 ) -> Result<Reply, Memory>
     requires lawful { IsLawfulTask task }
     requires read { AreRead common.now }
-    ensures { let given = given_with files.now common.now.files in
+    ensures due { let given = given_with files.now common.now.files in
         IfOk result (λ r. Ends (DueFor task given) (reply_status r) (reply_text r)) }
+    ensures cause { IfOk result (λ r. IsCauseOf task (cause_of r) (reply_status r) (reply_text r)) }
 {
     match carry_out(alloc, task, files, common) {
         Ok(reply) => Ok(reply),
-        Err(refusal) => refusal.reply(alloc),
+        Err(refusal) => refusal.reply(),
     }
 }
 
@@ -86,7 +89,8 @@ fn carry_out(
 ) -> Result<Reply, Refusal>
     requires lawful { IsLawfulTask task }
     requires read { AreRead common.now }
-    ensures { IfAnswered result (Ends (DueFor task (given_with files.now common.now.files))) }
+    ensures due { IfAnswered result (Ends (DueFor task (given_with files.now common.now.files))) }
+    ensures cause { IfOk result (λ r. IsCauseOf task (cause_of r) (reply_status r) (reply_text r)) }
 {
     let found = find(alloc, task, files, common)?;
     answer_by(alloc, &task, files, common, found)

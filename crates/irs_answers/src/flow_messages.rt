@@ -1,78 +1,52 @@
-//! The texts of an audit: the verdict, and the first fault of the flows. Names of fields are FpML's.
-ghost use Rattle.std.specs.Prelude.{◌≡◌, ◌++◌, ◌∷◌, codes, decimal, IfOk};
+//! The lines of an audit: the verdict, and the first fault of the flows. Names of fields are FpML's. They take
+//! no memory.
+ghost use Rattle.std.specs.Prelude.{◌≡◌, ◌≤◌, ◌++◌, ◌∷◌, codes, decimal, length};
 ghost use Rattle.irs_answers.specs.FlowMessages.{bad_flows, departure_text, shape_name};
 
-use crate::messages::{push_number, push_spaced};
 use irs_audit::{Departure, ShapeKind};
-use irs_base::{Memory, Place};
-use std::alloc::Global;
+use irs_base::{Line, Place};
 
 /// The line of flows that agree: `yes ROWS UNFIXED`.
-pub(crate) fn yes_text(alloc: Global, rows: u32, unfixed: u32) -> Result<Vec<u8>, Memory>
-    ensures { IfOk result (λ t. t.items ≡ codes "yes " ++ decimal rows ++ 32 ∷ decimal unfixed ++ codes "\n") }
+pub(crate) fn yes_line(rows: u32, unfixed: u32, line: &mut Line)
+    ensures { line.new ≡ codes "yes " ++ decimal rows ++ 32 ∷ decimal unfixed ++ codes "\n" }
 {
-    let mut text = Vec::from_slice(alloc, b"yes ")?;
-    push_number(&mut text, rows)?;
-    push_spaced(&mut text, unfixed)?;
-    text.push(b'\n')?;
-    Ok(text)
+    line.clear();
+    line.push(b"yes ");
+    line.push_number(rows);
+    line.put_number(unfixed);
+    line.push(b"\n");
 }
 
 /// The line of a departure: `no STREAM KIND ROW FIELD`.
-pub(crate) fn departure_text(alloc: Global, departure: Departure) -> Result<Vec<u8>, Memory>
-    ensures { IfOk result (λ t. t.items ≡ departure_text departure) }
+pub(crate) fn departure_line(departure: Departure, line: &mut Line)
+    ensures { line.new ≡ departure_text departure }
 {
-    let stream = u32::from(departure.stream);
-    let (kind, field) = (departure.kind.name(), departure.field.name());
-    no_line(alloc, stream, kind, departure.row, field)
-}
-
-fn no_line(alloc: Global, stream: u32, kind: &str, row: u32, field: &str) -> Result<Vec<u8>, Memory>
-    ensures { IfOk result (λ t. t.items ≡ codes "no " ++ decimal stream ++ 32 ∷ kind.now ++ 32 ∷ decimal row
-        ++ 32 ∷ field.now ++ codes "\n") }
-{
-    let mut text = Vec::from_slice(alloc, b"no ")?;
-    push_number(&mut text, stream)?;
-    text.push(b' ')?;
-    text.extend_from_slice(kind.as_bytes())?;
-    push_spaced(&mut text, row)?;
-    text.push(b' ')?;
-    text.extend_from_slice(field.as_bytes())?;
-    text.push(b'\n')?;
-    Ok(text)
+    line.clear();
+    line.push(b"no ");
+    line.push_number(u32::from(departure.stream));
+    line.put_field(departure.kind.name().as_bytes());
+    line.put_number(departure.row);
+    line.put_field(departure.field.name().as_bytes());
+    line.push(b"\n");
 }
 
 /// The line of flows that are out of shape: `bad flows KIND STREAM PATH INDEX`.
-pub(crate) fn flows_text(alloc: Global, kind: ShapeKind, place: Place) -> Result<Vec<u8>, Memory>
-    ensures { IfOk result (λ t. t.items ≡ bad_flows kind place) }
+pub(crate) fn bad_flows_line(kind: ShapeKind, place: Place, line: &mut Line)
+    ensures { line.new ≡ bad_flows kind place }
 {
-    let stream = u32::from(place.stream);
     let elem = place.elem;
-    bad_line(alloc, shape_name(kind), stream, elem.path(), place.index)
-}
-
-fn bad_line(
-    alloc: Global,
-    kind: &str,
-    stream: u32,
-    path: &str,
-    index: u32,
-) -> Result<Vec<u8>, Memory>
-    ensures { IfOk result (λ t. t.items ≡ codes "bad flows " ++ kind.now ++ 32 ∷ decimal stream ++ 32 ∷ path.now
-        ++ 32 ∷ decimal index ++ codes "\n") }
-{
-    let mut text = Vec::from_slice(alloc, b"bad flows ")?;
-    text.extend_from_slice(kind.as_bytes())?;
-    push_spaced(&mut text, stream)?;
-    text.push(b' ')?;
-    text.extend_from_slice(path.as_bytes())?;
-    push_spaced(&mut text, index)?;
-    text.push(b'\n')?;
-    Ok(text)
+    line.clear();
+    line.push(b"bad flows ");
+    line.push(shape_name(kind).as_bytes());
+    line.put_number(u32::from(place.stream));
+    line.put_field(elem.path().as_bytes());
+    line.put_number(place.index);
+    line.push(b"\n");
 }
 
 fn shape_name(kind: ShapeKind) -> &'static str
-    ensures { result.now ≡ shape_name kind }
+    ensures text { result.now ≡ shape_name kind }
+    ensures short { length result.now ≤ 7 }
 {
     match kind {
         ShapeKind::NotJson => "notjson",

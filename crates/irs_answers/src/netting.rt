@@ -9,7 +9,7 @@ ghost use Rattle.irs_answers.specs.Outcomes.{Ends, IfAnswered};
 use crate::due::Found;
 use crate::refusals::Refusal;
 use crate::replies::Reply;
-use irs_base::{Line, Memory, Status};
+use irs_base::{Line, Memory};
 use irs_net::{NetRow, Sides, net, net_text};
 use irs_schedule::Schedule;
 use std::alloc::Global;
@@ -24,7 +24,7 @@ pub(crate) fn net_answer(alloc: Global, found: &Found<'_>) -> Result<Reply, Refu
         unreachable!()
     };
     let text = netted_page(alloc, &found.schedule, &sides)?;
-    Ok(Reply::Text(Status::Done, text))
+    Ok(Reply::Text(text))
 }
 
 // The whole text of the table of the schedule.

@@ -14,7 +14,7 @@ ghost use Rattle.irs_answers.specs.Outcomes.{Ends, IfAnswered};
 use crate::due::Found;
 use crate::refusals::Refusal;
 use crate::replies::Reply;
-use irs_base::{Broken, Elem, Fault, Memory, Rule, Status, Stopped};
+use irs_base::{Broken, Elem, Fault, Memory, Rule, Stopped};
 use irs_daily::{ObservedRows, observations_text, observed_rows};
 use irs_overnight::stream_at;
 use irs_periods::regular_span;
@@ -35,7 +35,7 @@ pub(crate) fn observations_answer(
     let (stream, float, parameters) = daily(&found.swap, number)?;
     let rows = rows_of(alloc, number, found, stream, float, parameters)?;
     let text = observations_text(alloc, number, &rows)?;
-    Ok(Reply::Text(Status::Done, text))
+    Ok(Reply::Text(text))
 }
 
 // The rows of a stream that has its part of the schedule.

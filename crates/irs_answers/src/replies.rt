@@ -1,138 +1,150 @@
-//! What is to be written, and the status that goes with it. All memory is taken here.
-ghost use Rattle.std.specs.Prelude.{◌≡◌, ◌++◌, ◌∷◌, codes, decimal, Some, IfOk};
-ghost use Rattle.irs_answers.specs.Outcomes.{answer_of, fixings_answer, calendars_answer, flows_answer};
-ghost use Rattle.irs_answers.specs.FlowMessages.{verdict_status, verdict_text};
-ghost use Rattle.irs_answers.specs.Replying.{reply_status, reply_text};
-ghost use Rattle.irs_base.specs.Statuses.{status_number};
+//! What a task comes to: the text, the schedule, the verdict or the refusal that is to be written.
+ghost use Rattle.std.specs.Prelude.{◌≡◌, Some, IfOk};
+ghost use Rattle.irs_answers.specs.FlowMessages.{verdict_text};
+ghost use Rattle.irs_answers.specs.Causes.{IsJudged};
+ghost use Rattle.irs_answers.specs.Outcomes.{answer_of};
+ghost use Rattle.irs_answers.specs.declared.refusals.Refusal.TheVariants.{Calendars as OfCalendars, Fixings as OfFixings};
+ghost use Rattle.irs_answers.specs.declared.refusals.Refusal.TheVariants.{Flows as OfFlows};
+ghost use Rattle.irs_answers.specs.Replying.{calendars_text, fixings_text, flows_text, refusal_text, reply_status, reply_text};
 
-use crate::flow_messages::{departure_text, flows_text, yes_text};
-use crate::messages::{calendar_text, numbered_text, refused_text};
+use crate::flow_messages::{bad_flows_line, departure_line, yes_line};
+use crate::messages::{bad_calendar_line, bad_fixings_line, refused_line};
 use crate::refusals::Refusal;
 use irs_audit::{FlowErr, Verdict};
-use irs_base::{Memory, Status};
+use irs_base::{Line, Memory};
 use irs_calendar::CalErr;
 use irs_resets::FixErr;
 use irs_schedule::Schedule;
 use std::alloc::Global;
 
-/// What is to be written, and the status that goes with it.
+/// What a task comes to. Its status, its text and what a sentence says of it are made from this one value.
 #[derive(Drop)]
 pub enum Reply {
-    /// A text with its status.
-    Text(Status, Vec<u8>),
-    /// The text of a schedule, with status 0.
+    /// The text of a task that is done.
+    Text(Vec<u8>),
+    /// The schedule of a task that is done; the text is that of the schedule.
     Rows(Schedule),
+    /// The text of a list of breaks that has some.
+    Breaks(Vec<u8>),
+    /// What an audit found; the text is its line.
+    Verdict(Verdict),
+    /// Why the task isn't carried out; the text is its line.
+    Refused(Refusal),
 }
 
 impl Reply {
-    /// The status of the reply.
-    pub fn status(&self) -> u8
-        ensures { result ≡ reply_status self.now }
+    /// A text of a task that is done. `Memory` comes where memory ran out.
+    pub(crate) fn done(alloc: Global, text: &[u8]) -> Result<Reply, Memory>
+        ensures { IfOk result (λ r. (reply_status r ≡ 0) × (reply_text r ≡ text.now)) }
     {
-        match self {
-            Reply::Text(status, _) => status.number(),
-            Reply::Rows(_) => 0,
-        }
+        Ok(Reply::Text(Vec::from_slice(alloc, text)?))
     }
+}
 
-    /// A text with its status. `Memory` comes where memory ran out.
-    pub fn line(alloc: Global, status: Status, text: &[u8]) -> Result<Reply, Memory>
-        ensures { IfOk result (λ r. (reply_status r ≡ status_number status) × (reply_text r ≡ text.now)) }
-    {
-        Ok(Reply::Text(status, Vec::from_slice(alloc, text)?))
-    }
-
-    /// A number in decimal digits between two texts, with their status. `Memory` comes where memory ran
-    /// out.
-    pub fn numbered(
-        alloc: Global,
-        status: Status,
-        before: &[u8],
-        n: u32,
-        after: &[u8],
-    ) -> Result<Reply, Memory>
-        ensures { IfOk result (λ r. (reply_status r ≡ status_number status)
-            × (reply_text r ≡ before.now ++ decimal n ++ after.now)) }
-    {
-        Ok(Reply::Text(status, numbered_text(alloc, before, n, after)?))
+/// Replaces what the line holds with the line of a verdict. It takes no memory.
+pub fn verdict_line(verdict: Verdict, line: &mut Line)
+    ensures { line.new ≡ verdict_text verdict }
+{
+    match verdict {
+        Verdict::Yes { rows, unfixed } => yes_line(rows, unfixed, line),
+        Verdict::No(departure) => departure_line(departure, line),
     }
 }
 
 impl Refusal {
-    /// The line that reports a refusal, with its status. `Memory` comes where the refusal is `Memory`, which
-    /// has no line, and where memory ran out.
-    pub fn reply(self, alloc: Global) -> Result<Reply, Memory>
-        ensures { IfOk result (λ r. answer_of self ≡ Some (reply_status r, reply_text r)) }
+    /// The reply that a refusal is. `Memory` comes where memory ran out, which has no line.
+    pub fn reply(self) -> Result<Reply, Memory>
+        ensures answer { IfOk result (λ r. answer_of self ≡ Some (reply_status r, reply_text r)) }
+        ensures judged { IfOk result IsJudged }
     {
         match self {
-            Refusal::Rule(broken) => {
-                Ok(Reply::Text(Status::RuleBroken, refused_text(alloc, broken)?))
-            }
-            Refusal::Calendars(e) => calendars_reply(alloc, e),
-            Refusal::Fixings(e) => fixings_reply(alloc, e),
-            Refusal::Flows(e) => flows_reply(alloc, e),
+            Refusal::Rule(_) => Ok(Reply::Refused(self)),
+            Refusal::Calendars(e) => calendars_reply(e),
+            Refusal::Fixings(e) => fixings_reply(e),
+            Refusal::Flows(e) => flows_reply(e),
             Refusal::Memory => Err(Memory),
         }
     }
-}
 
-/// The reply to an audit.
-pub(crate) fn verdict_reply(alloc: Global, verdict: Verdict) -> Result<Reply, Memory>
-    ensures { IfOk result (λ r. (reply_status r ≡ verdict_status verdict) × (reply_text r ≡ verdict_text verdict)) }
-{
-    match verdict {
-        Verdict::Yes { rows, unfixed } => {
-            Ok(Reply::Text(Status::Done, yes_text(alloc, rows, unfixed)?))
-        }
-        Verdict::No(departure) => {
-            Ok(Reply::Text(Status::NotAgreed, departure_text(alloc, departure)?))
+    /// Replaces what the line holds with the line of a refusal. It takes no memory.
+    pub fn line(self, line: &mut Line)
+        ensures { line.new ≡ refusal_text self }
+    {
+        match self {
+            Refusal::Rule(broken) => refused_line(broken, line),
+            Refusal::Calendars(e) => calendars_line(e, line),
+            Refusal::Fixings(e) => fixings_line(e, line),
+            Refusal::Flows(e) => flows_line(e, line),
+            Refusal::Memory => line.clear(),
         }
     }
 }
 
-fn calendars_reply(alloc: Global, e: CalErr) -> Result<Reply, Memory>
-    ensures { IfOk result (λ r. calendars_answer e ≡ Some (reply_status r, reply_text r)) }
+// The reply that a faulty calendar file is.
+fn calendars_reply(e: CalErr) -> Result<Reply, Memory>
+    ensures answer { IfOk result (λ r. answer_of (OfCalendars e) ≡ Some (reply_status r, reply_text r)) }
+    ensures judged { IfOk result IsJudged }
 {
     match e {
-        CalErr::Syntax(file, line) => bad_calendar(alloc, file, line, "syntax"),
-        CalErr::Repeat(file, line) => bad_calendar(alloc, file, line, "repeat"),
-        CalErr::TooMany(file, line) => bad_calendar(alloc, file, line, "toomany"),
+        CalErr::Syntax(_, _) => Ok(Reply::Refused(Refusal::Calendars(e))),
+        CalErr::Repeat(_, _) => Ok(Reply::Refused(Refusal::Calendars(e))),
+        CalErr::TooMany(_, _) => Ok(Reply::Refused(Refusal::Calendars(e))),
         CalErr::Memory => Err(Memory),
     }
 }
 
-fn bad_calendar(alloc: Global, file: u32, line: u32, fault: &str) -> Result<Reply, Memory>
-    ensures { IfOk result (λ r. (reply_status r ≡ 3)
-        × (reply_text r ≡ codes "bad calendar " ++ decimal file ++ 32 ∷ decimal line ++ 32 ∷ fault.now ++ codes "\n")) }
-{
-    let text = calendar_text(alloc, file, line, fault)?;
-    Ok(Reply::Text(Status::BadFile, text))
-}
-
-fn fixings_reply(alloc: Global, e: FixErr) -> Result<Reply, Memory>
-    ensures { IfOk result (λ r. fixings_answer e ≡ Some (reply_status r, reply_text r)) }
+// The reply that a faulty file of fixings is.
+fn fixings_reply(e: FixErr) -> Result<Reply, Memory>
+    ensures answer { IfOk result (λ r. answer_of (OfFixings e) ≡ Some (reply_status r, reply_text r)) }
+    ensures judged { IfOk result IsJudged }
 {
     match e {
-        FixErr::Syntax(line) => bad_fixings(alloc, line, b" syntax\n"),
-        FixErr::Repeat(line) => bad_fixings(alloc, line, b" repeat\n"),
+        FixErr::Syntax(_) => Ok(Reply::Refused(Refusal::Fixings(e))),
+        FixErr::Repeat(_) => Ok(Reply::Refused(Refusal::Fixings(e))),
         FixErr::Memory => Err(Memory),
     }
 }
 
-fn bad_fixings(alloc: Global, line: u32, fault: &[u8]) -> Result<Reply, Memory>
-    ensures { IfOk result (λ r. (reply_status r ≡ 3)
-        × (reply_text r ≡ codes "bad fixings " ++ decimal line ++ fault.now)) }
-{
-    Reply::numbered(alloc, Status::BadFile, b"bad fixings ", line, fault)
-}
-
-fn flows_reply(alloc: Global, e: FlowErr) -> Result<Reply, Memory>
-    ensures { IfOk result (λ r. flows_answer e ≡ Some (reply_status r, reply_text r)) }
+// The reply that faulty cash flows are.
+fn flows_reply(e: FlowErr) -> Result<Reply, Memory>
+    ensures answer { IfOk result (λ r. answer_of (OfFlows e) ≡ Some (reply_status r, reply_text r)) }
+    ensures judged { IfOk result IsJudged }
 {
     match e {
-        FlowErr::Shape(kind, place) => {
-            Ok(Reply::Text(Status::BadFile, flows_text(alloc, kind, place)?))
-        }
+        FlowErr::Shape(_, _) => Ok(Reply::Refused(Refusal::Flows(e))),
         FlowErr::Memory => Err(Memory),
+    }
+}
+
+// The line of a faulty calendar file.
+fn calendars_line(e: CalErr, line: &mut Line)
+    ensures { line.new ≡ calendars_text e }
+{
+    match e {
+        CalErr::Syntax(file, number) => bad_calendar_line(file, number, "syntax", line),
+        CalErr::Repeat(file, number) => bad_calendar_line(file, number, "repeat", line),
+        CalErr::TooMany(file, number) => bad_calendar_line(file, number, "toomany", line),
+        CalErr::Memory => line.clear(),
+    }
+}
+
+// The line of a faulty file of fixings.
+fn fixings_line(e: FixErr, line: &mut Line)
+    ensures { line.new ≡ fixings_text e }
+{
+    match e {
+        FixErr::Syntax(number) => bad_fixings_line(number, b" syntax\n", line),
+        FixErr::Repeat(number) => bad_fixings_line(number, b" repeat\n", line),
+        FixErr::Memory => line.clear(),
+    }
+}
+
+// The line of faulty cash flows.
+fn flows_line(e: FlowErr, line: &mut Line)
+    ensures { line.new ≡ flows_text e }
+{
+    match e {
+        FlowErr::Shape(kind, place) => bad_flows_line(kind, place, line),
+        FlowErr::Memory => line.clear(),
     }
 }

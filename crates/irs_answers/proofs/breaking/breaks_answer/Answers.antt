@@ -1,9 +1,10 @@
+use Rattle.std.proofs.Common.{◌∙◌}
 use Rattle.irs_base.specs.Order.{Only}
-use Rattle.irs_base.specs.Statuses.{status_number}
 use Rattle.irs_breaks.specs.BreakLists.{IsBreakList}
 use Rattle.irs_answers.specs.CashFlows.{DueBreaks, DueFlows}
 use Rattle.irs_answers.specs.Forms.{source_by}
 use Rattle.irs_answers.specs.Outcomes.{Ends}
+use Rattle.irs_answers.specs.Replying.{reply_status, reply_text}
 use Rattle.irs_answers.specs.declared.refusals.Refusal.TheVariants.{Flows}
 use Rattle.irs_answers.proofs.FlowLemmas.{due_breaks, refuse_flows}
 use Rattle.irs_answers.proofs.StepLemmas.{answered_by}
@@ -26,5 +27,5 @@ returns c =
     let list = c.in_ok-list.list in
     let one : Only (IsBreakList from s flows) list =
     record { is = c.in_ok-list.ensures.list; only = λ l k. c.breaks.ensures.only l list k c.in_ok-list.ensures.list } in
-    due_breaks (source_by c.args.flows.now) from s flows list (status_number c.status_of.result) c.in_ok-text.text.items
-    c.in_ok-stated.ensures.spells one c.status_of.ensures c.in_ok-text.ensures
+    due_breaks (source_by c.args.flows.now) from s flows list (reply_status c.listed.result) (reply_text c.listed.result)
+    c.in_ok-stated.ensures.spells one c.listed.ensures.status (c.listed.ensures.text ∙ c.in_ok-text.ensures)

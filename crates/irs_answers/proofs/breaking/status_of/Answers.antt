@@ -1,6 +1,0 @@
-use Rattle.std.proofs.Common.{inr, refl}
-use Rattle.irs_answers.proofs.FlowLemmas.{not_true}
-use Rattle.irs_answers.proofs.breaking.status_of.Goals as goal
-
-pub returns-else-any : goal.returns-else-any
-returns-else-any c = inr ((λ h. not_true c.any.result c.if-any.false (c.any.ensures.1 h)), refl)
