@@ -18,7 +18,7 @@ ghost use Rattle.irs_bulk.specs.Documents.{document_text, most_bulk};
 use crate::{Totals, bulk_calendar, bulk_doc, bulk_text};
 use irs_answers::{Form, Refusal, Reply, Source, read_document, schedule_of};
 use irs_audit::{Verdict, audit, flows_of, sums_of};
-use irs_base::{Line, Memory, Status};
+use irs_base::{Line, Memory};
 use irs_calendar::{CalErr, Calendars};
 use irs_read::read_swap;
 use irs_resets::Fixings;
@@ -41,7 +41,7 @@ pub fn bulk(alloc: Global, n: u32) -> Result<Reply, Memory>
 {
     match run(alloc, n) {
         Ok(reply) => Ok(reply),
-        Err(refusal) => refusal.reply(alloc),
+        Err(refusal) => refusal.reply(),
     }
 }
 
@@ -52,7 +52,7 @@ fn run(alloc: Global, n: u32) -> Result<Reply, Refusal>
 {
     let calendars = calendars(alloc);
     let totals = totals(alloc, n, &calendars)?;
-    Ok(Reply::Text(Status::Done, line(alloc, &totals)?))
+    Ok(Reply::Text(line(alloc, &totals)?))
 }
 
 fn line(alloc: Global, totals: &Totals) -> Result<Vec<u8>, Memory>

@@ -24,4 +24,4 @@ returns-in-Err-clause-one c = λ s u t v h k. one_bulk s u t v c.args.n h k
 
 pub returns-in-Err-clause-due : goal.returns-in-Err-clause-due
 returns-in-Err-clause-due c =
-    replied c.reply.result c.in-Err.refusal (Ends (DueBulk c.args.n)) c.reply.ensures c.in-Err.ensures
+    replied c.reply.result c.in-Err.refusal (Ends (DueBulk c.args.n)) c.reply.ensures.answer c.in-Err.ensures
