@@ -1,5 +1,5 @@
 -- What a run says whose common files were read before.
-use Rattle.std.proofs.Common.{◌≡◌, ℕ, List, Option, sym, subst, arith}
+use Rattle.std.proofs.Common.{◌≡◌, ℕ, List, Option, true, false, sym, subst, arith}
 use Rattle.irs_answers.specs.Common.{AreRead}
 use Rattle.irs_answers.specs.Given.{Given, IsWithin, given_by, no_files}
 use Rattle.irs_answers.specs.Outcomes.{Ends}

@@ -8,3 +8,6 @@ pub mod HandedReplies
 pub mod OneAnswer
 pub mod SharingLemmas
 pub mod CommonLemmas
+pub mod CauseLemmas
+pub mod NamingLemmas
+pub mod NamedLemmas

@@ -8,3 +8,5 @@ pub mod Due
 pub mod Outcomes
 pub mod Run
 pub mod Pages
+pub mod Causes
+pub mod Naming

@@ -76,7 +76,7 @@ pub(crate) enum Request {
 
 /// What a file is to a command.
 #[derive(Clone, Copy)]
-pub(crate) enum Role {
+pub enum Role {
     /// The document of the swap.
     Document,
     /// The observed rates; `-` means none.
@@ -108,7 +108,7 @@ pub(crate) struct Command<'w> {
 }
 
 /// The command that a word names.
-fn kind_of(word: &str) -> Option<Kind>
+pub(crate) fn kind_of(word: &str) -> Option<Kind>
     ensures { result ≡ kind_of word.now }
 {
     if word == "check" {
@@ -144,7 +144,7 @@ fn kind_of(word: &str) -> Option<Kind>
 
 impl Kind {
     /// How many words after the command are parameters.
-    fn params(self) -> usize
+    pub(crate) fn params(self) -> usize
         ensures { result ≡ params_of self }
     {
         match self {
@@ -165,7 +165,7 @@ impl Kind {
     }
 
     /// The roles of the files before the calendars.
-    fn roles(self) -> &'static [Role]
+    pub(crate) fn roles(self) -> &'static [Role]
         ensures { result.now ≡ roles_of self }
     {
         match self {

@@ -2,8 +2,10 @@
 //! any sink.
 #![tactic(auto)]
 
+mod causes;
 mod commands;
 mod fetching;
+mod naming;
 mod page;
 mod params;
 mod program;
@@ -12,11 +14,14 @@ mod refusals;
 mod rows;
 mod sharing;
 
-pub use irs_answers::Common;
+pub use causes::{RunCause, RunReply};
+pub use commands::Role;
+pub use irs_answers::{Cause, Common};
 pub use irs_base::Status;
 pub use irs_bulk::{bulk_calendar, bulk_doc};
 pub use irs_outside::{
     FetchErr, Files, MemFiles, MemSink, PutFailed, RealFiles, RealSink, Sink, SureFiles, SureSink,
 };
-pub use program::{run, run_with};
+pub use naming::{file_name, files_are_named};
+pub use program::{cause_of_run, reply_for, run, run_with};
 pub use sharing::read_common;

@@ -8,19 +8,23 @@ ghost use Rattle.irs_answers.specs.Common.{AreRead};
 ghost use Rattle.irs_answers.specs.Given.{IsWithin, given_by, given_with};
 ghost use Rattle.irs_answers.specs.Outcomes.{Ends};
 ghost use Rattle.irs_answers.specs.Replying.{reply_status, reply_text};
+ghost use Rattle.irs_answers.specs.Causes.{cause_of};
+ghost use Rattle.irs_cli.specs.Causes.{IsCauseFor, IsCauseOfWritten, IsReplyCause, IsRunCause, run_cause_of};
+ghost use Rattle.irs_cli.specs.Causes.{run_reply_status, run_reply_text, run_status};
 ghost use Rattle.irs_cli.specs.Due.{DueOf, IsLawfulRequest};
 ghost use Rattle.irs_cli.specs.Outcomes.{IfAnswered};
 ghost use Rattle.irs_cli.specs.Run.{Ran, Replies, source, written};
 ghost use Rattle.irs_cli.specs.Sharing.{IsCommon};
 
+use crate::causes::{RunCause, RunReply};
 use crate::commands::{Request, command_of};
 use crate::fetching::fetch_all;
-use crate::putting::put_reply;
+use crate::putting::put_run_reply;
 use crate::refusals::Refusal;
 use crate::sharing::names_with;
 use crate::{Files, Sink};
 use irs_answers::{Common, Reply, TaskFiles, carrier, reply_by, reply_of};
-use irs_base::{Memory, Status};
+use irs_base::Memory;
 use irs_bulk::bulk;
 use std::alloc::Global;
 
@@ -63,31 +67,55 @@ pub fn run_with<F: Files, S: Sink>(
         let written = written (S.written out.old) (S.written out.new) (S.faults out.old) (S.faults out.new) in
         Ran (texts words.now) source written result }
 {
-    match answer(alloc, words, common, files) {
-        Ok(reply) => match put_reply(out, &reply) {
-            Ok(()) => reply.status(),
-            Err(_) => Status::PutFailed.number(),
-        },
-        Err(Memory) => Status::NoMemory.number(),
-    }
+    cause_of_run(alloc, words, common, files, out).status()
 }
 
-// What is to be written for the words.
-fn answer<F: Files>(
+/// Does what `run_with` does, and returns what the run comes to: a sentence about it says that. Its status is
+/// that of the run.
+pub fn cause_of_run<F: Files, S: Sink>(
     alloc: Global,
     words: &[String],
     common: Option<&Common>,
     files: &mut F,
-) -> Result<Reply, Memory>
+    out: &mut S,
+) -> RunCause
+    requires { IfSome common (λ c. IsCommon (texts words.now) (F.told files.old) (F.gives files.old) c.now) }
+    ensures told { (n : List ℕ) → F.told files.new n ≡ F.told files.old n }
+    ensures ran { let source = source (F.told files.old) (F.gives files.old) (F.failed files.new) (F.faults files.old)
+        (F.faults files.new) in
+        let written = written (S.written out.old) (S.written out.new) (S.faults out.old) (S.faults out.new) in
+        Ran (texts words.now) source written (run_status result) }
+    // It is that of the text that was written.
+    ensures cause { IsCauseOfWritten (texts words.now) result (S.written out.old) (S.written out.new) }
+{
+    match reply_for(alloc, words, common, files) {
+        Ok(reply) => match put_run_reply(out, &reply) {
+            Ok(()) => reply.cause(),
+            Err(_) => RunCause::PutFailed,
+        },
+        Err(Memory) => RunCause::NoMemory,
+    }
+}
+
+/// What the words come to, before anything is written: the reply that is to be written, and what a sentence says
+/// of it. `Memory` comes where memory ran out.
+pub fn reply_for<F: Files>(
+    alloc: Global,
+    words: &[String],
+    common: Option<&Common>,
+    files: &mut F,
+) -> Result<RunReply, Memory>
     requires { IfSome common (λ c. IsCommon (texts words.now) (F.told files.old) (F.gives files.old) c.now) }
     ensures told { (n : List ℕ) → F.told files.new n ≡ F.told files.old n }
     ensures replies { IfOk result
         (λ r. Replies (texts words.now) (source (F.told files.old) (F.gives files.old) (F.failed files.new)
-        (F.faults files.old) (F.faults files.new)) (reply_status r) (reply_text r)) }
+        (F.faults files.old) (F.faults files.new)) (run_reply_status r) (run_reply_text r)) }
+    ensures cause { IfOk result
+        (λ r. IsRunCause (texts words.now) (run_cause_of r) (run_reply_status r) (run_reply_text r)) }
 {
     match carry_out(alloc, words, common, files) {
-        Ok(reply) => Ok(reply),
-        Err(refusal) => refusal.reply(alloc),
+        Ok(reply) => Ok(RunReply::Replied(reply)),
+        Err(refusal) => refusal.reply(),
     }
 }
 
@@ -103,6 +131,7 @@ fn carry_out<F: Files>(
     ensures answered { IfAnswered result
         (Replies (texts words.now) (source (F.told files.old) (F.gives files.old) (F.failed files.new)
         (F.faults files.old) (F.faults files.new))) }
+    ensures cause { IfOk result (λ r. IsReplyCause (texts words.now) (cause_of r) (reply_status r) (reply_text r)) }
 {
     let Some(command) = command_of(alloc, words)? else {
         return Err(Refusal::BadWords);
@@ -124,7 +153,8 @@ fn carry_out<F: Files>(
 fn reply_to(alloc: Global, request: Request, files: TaskFiles) -> Result<Reply, Memory>
     requires lawful { IsLawfulRequest request }
     requires within { IsWithin (given_by files) }
-    ensures { IfOk result (λ r. Ends (DueOf request (given_by files)) (reply_status r) (reply_text r)) }
+    ensures due { IfOk result (λ r. Ends (DueOf request (given_by files)) (reply_status r) (reply_text r)) }
+    ensures cause { IfOk result (λ r. IsCauseFor request (cause_of r) (reply_status r) (reply_text r)) }
 {
     match request {
         Request::OverFiles(task) => reply_of(alloc, task, files),
@@ -142,8 +172,9 @@ fn reply_with(
 ) -> Result<Reply, Memory>
     requires lawful { IsLawfulRequest request }
     requires read { AreRead common.now }
-    ensures { let given = given_with files.now common.now.files in
+    ensures due { let given = given_with files.now common.now.files in
         IfOk result (λ r. Ends (DueOf request given) (reply_status r) (reply_text r)) }
+    ensures cause { IfOk result (λ r. IsCauseFor request (cause_of r) (reply_status r) (reply_text r)) }
 {
     match request {
         Request::OverFiles(task) => reply_by(alloc, task, files, common),

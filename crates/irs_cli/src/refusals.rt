@@ -1,13 +1,13 @@
 //! Why a request isn't carried out over files, and what is written then.
 ghost use Rattle.std.specs.Prelude.{◌≡◌, Some, IfOk};
-ghost use Rattle.irs_answers.specs.Replying.{reply_status, reply_text};
+ghost use Rattle.irs_cli.specs.Causes.{IsRunCause, run_cause_of, run_reply_status, run_reply_text};
+ghost use Rattle.irs_cli.specs.Commands.{Words};
 ghost use Rattle.irs_cli.specs.Outcomes.{answer_of, of_fetch};
 ghost use Rattle.irs_cli.specs.declared.refusals.Refusal.TheVariants.{Memory as OfMemory};
 
+use crate::causes::RunReply;
 use crate::fetching::Unfetched;
-use irs_answers::Reply;
-use irs_base::{Memory, Status};
-use std::alloc::Global;
+use irs_base::Memory;
 
 /// Why a request isn't carried out over files.
 #[derive(Clone, Copy)]
@@ -43,18 +43,16 @@ impl From<Memory> for Refusal {
 }
 
 impl Refusal {
-    /// The line that reports a refusal, with its status; `Memory` has no line.
-    pub(crate) fn reply(self, alloc: Global) -> Result<Reply, Memory>
-        ensures { IfOk result (λ r. answer_of self ≡ Some (reply_status r, reply_text r)) }
+    /// What a refusal comes to; `Memory` has no line.
+    pub(crate) fn reply(self) -> Result<RunReply, Memory>
+        ensures answer { IfOk result (λ r. answer_of self ≡ Some (run_reply_status r, run_reply_text r)) }
+        ensures cause { IfOk result
+            (λ r. (ws : Words) → IsRunCause ws (run_cause_of r) (run_reply_status r) (run_reply_text r)) }
     {
         match self {
-            Refusal::BadWords => Reply::line(alloc, Status::BadWords, b"bad words\n"),
-            Refusal::NoFile(place) => {
-                Reply::numbered(alloc, Status::NoFile, b"no file ", place, b"\n")
-            }
-            Refusal::TooLong(place) => {
-                Reply::numbered(alloc, Status::TooLong, b"too long ", place, b"\n")
-            }
+            Refusal::BadWords => Ok(RunReply::BadWords),
+            Refusal::NoFile(place) => Ok(RunReply::NoFile(place)),
+            Refusal::TooLong(place) => Ok(RunReply::TooLong(place)),
             Refusal::Memory => Err(Memory),
         }
     }

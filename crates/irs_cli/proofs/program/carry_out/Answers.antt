@@ -80,7 +80,7 @@ returns-in-None-clause-answered g c =
     ended_replies ws told gives (asked_by k) f (g.F.Files.failed c.fetch_all.new.files)
     (g.F.Files.faults c.args.files.now) (g.F.Files.faults c.fetch_all.new.files) asks held fetched
     c.in_ok-fetched-in-None.ensures.all.1 (reply_status reply)
-    (reply_text reply) c.in_ok-reply_to-in-None.ensures
+    (reply_text reply) c.in_ok-reply_to-in-None.ensures.due
 
 pub returns-in_err-fetched-in-Some-common-clause-answered : goal.returns-in_err-fetched-in-Some-common-clause-answered
 returns-in_err-fetched-in-Some-common-clause-answered g c =
@@ -134,4 +134,4 @@ returns-clause-answered g c =
     replies_with ws told gives (asked_by k) c.in-Some-common.common.now asks common own
     (g.F.Files.failed c.fetch_all-in-Some-common.new.files) (g.F.Files.faults c.args.files.now)
     (g.F.Files.faults c.fetch_all-in-Some-common.new.files) held given c.in_ok-fetched-in-Some-common.ensures.all.1
-    (reply_status reply) (reply_text reply) c.in_ok-reply_with-in-Some-common.ensures
+    (reply_status reply) (reply_text reply) c.in_ok-reply_with-in-Some-common.ensures.due

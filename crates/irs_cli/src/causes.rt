@@ -1,0 +1,71 @@
+//! What the words of a run come to, and what a run comes to, for the sentence about it.
+ghost use Rattle.std.specs.Prelude.{◌≡◌};
+ghost use Rattle.irs_cli.specs.Causes.{run_cause_of, run_status};
+
+use irs_answers::{Cause, Reply};
+use irs_base::Status;
+
+/// What the words come to, before anything is written. The status, the text and what a sentence says of them are
+/// made from this one value.
+#[derive(Drop)]
+pub enum RunReply {
+    /// What the request comes to over its files.
+    Replied(Reply),
+    /// The words are no listed command.
+    BadWords,
+    /// The file of the word at this place after the command can't be read.
+    NoFile(u32),
+    /// The file of the word at this place after the command is too long.
+    TooLong(u32),
+}
+
+impl RunReply {
+    /// What the reply says.
+    pub fn cause(&self) -> RunCause
+        ensures { result ≡ run_cause_of self.now }
+    {
+        match self {
+            RunReply::Replied(reply) => RunCause::Replied(reply.cause()),
+            RunReply::BadWords => RunCause::BadWords,
+            RunReply::NoFile(place) => RunCause::NoFile(*place),
+            RunReply::TooLong(place) => RunCause::TooLong(*place),
+        }
+    }
+}
+
+/// What a run comes to, for the sentence about it.
+#[derive(Clone, Copy)]
+pub enum RunCause {
+    /// The request has a reply, which says this.
+    Replied(Cause),
+    /// The words are no listed command.
+    BadWords,
+    /// The file of the word at this place after the command can't be read.
+    NoFile(u32),
+    /// A write failed.
+    PutFailed,
+    /// Memory ran out.
+    NoMemory,
+    /// The file of the word at this place after the command is too long.
+    TooLong(u32),
+    /// A word isn't text, and has this place where it is known. It comes where the words can't be gathered, and
+    /// from no run.
+    NotText(Option<u32>),
+}
+
+impl RunCause {
+    /// The status.
+    pub fn status(self) -> u8
+        ensures { result ≡ run_status self }
+    {
+        match self {
+            RunCause::Replied(cause) => cause.status(),
+            RunCause::BadWords => Status::BadWords.number(),
+            RunCause::NoFile(_) => Status::NoFile.number(),
+            RunCause::PutFailed => Status::PutFailed.number(),
+            RunCause::NoMemory => Status::NoMemory.number(),
+            RunCause::TooLong(_) => Status::TooLong.number(),
+            RunCause::NotText(_) => Status::NotText.number(),
+        }
+    }
+}
