@@ -1,6 +1,6 @@
 pub mod TableLaws
-pub mod KeptLemmas
-pub mod StatusLemmas
+pub mod NameLaws
 pub mod CutLemmas
+pub mod PieceLemmas
 pub mod ShownLaws
 pub mod SlipLemmas

@@ -1,15 +1,10 @@
 -- The code's lists are those of the specification.
-use Rattle.irs_plain.specs.Rules.{codes_of, rows, texts_after, texts_before}
+use Rattle.irs_plain.specs.Rules.{rows, texts_after, texts_before}
 use Rattle.irs_plain.specs.Usage.{commands, parameters}
 use Rattle.irs_plain.specs.declared.help.TheConstants.{COMMANDS}
 use Rattle.irs_plain.specs.declared.usage.TheConstants.{PARAMETERS}
-use Rattle.irs_plain.specs.declared.table.TheConstants.{AFTER, BEFORE, RULES}
+use Rattle.irs_plain.specs.declared.table.TheConstants.{AFTER, BEFORE}
 use Rattle.std.proofs.Common.{◌≡◌, map, refl}
-
--- the code's rules are those of the specification
-pub rules_are : map (λ n. n.now) RULES ≡ codes_of
-unfolding codes_of rows
-rules_are = refl
 
 -- the code's words before an element are those of the specification
 pub before_are : map (λ n. n.now) BEFORE ≡ texts_before

@@ -1,4 +1,4 @@
--- Cutting a text at a byte: the fields of a line, and the names of a path.
+-- Cutting a text at a byte: the names of a path, and the words of a command's line.
 use Rattle.std.specs.Prelude.{ℕ, ◌+◌, ◌==◌, List, [], ◌∷◌, take, drop, if◌then◌else◌}
 
 -- how many bytes come before the first one that is `end`; all of them where there is none
@@ -13,23 +13,3 @@ front end text = take (length_before end text) text
 -- the text after the first byte that is `end`
 abbrev pub behind : ℕ → List ℕ → List ℕ
 behind end text = drop (length_before end text + 1) text
-
--- the second field of a line; fields are separated by a space
-abbrev pub second : List ℕ → List ℕ
-second line = front 32 (behind 32 line)
-
--- the third field of a line
-abbrev pub third : List ℕ → List ℕ
-third line = second (behind 32 line)
-
--- the fourth field of a line
-abbrev pub fourth : List ℕ → List ℕ
-fourth line = third (behind 32 line)
-
--- the fifth field of a line
-abbrev pub fifth : List ℕ → List ℕ
-fifth line = fourth (behind 32 line)
-
--- the sixth field of a line
-abbrev pub sixth : List ℕ → List ℕ
-sixth line = fifth (behind 32 line)

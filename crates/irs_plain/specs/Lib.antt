@@ -3,8 +3,8 @@ pub mod Elements
 pub mod Rules
 pub mod Lookup
 pub mod Words
+pub mod Parts
 pub mod Sentences
-pub mod Kept
 pub mod Shown
 pub mod Usage
 pub mod Slips

@@ -1,97 +1,130 @@
--- The sentence for a line that the program wrote, as parts that are joined.
-use Rattle.irs_plain.specs.Cuts.{fifth, fourth, front, second, sixth, third}
+-- The sentence on what a run comes to, as texts that are joined.
+use Rattle.irs_answers.specs.declared.causes.Cause.{Cause}
+use Rattle.irs_answers.specs.declared.causes.Cause.TheVariants as reply
+use Rattle.irs_answers.specs.declared.refusals.Refusal.{Refusal}
+use Rattle.irs_answers.specs.declared.refusals.Refusal.TheVariants as refusal
+use Rattle.irs_audit.specs.RowNames.{field_name, row_name}
+use Rattle.irs_audit.specs.declared.departures.Departure.{Departure}
+use Rattle.irs_audit.specs.declared.error.FlowErr.{FlowErr}
+use Rattle.irs_audit.specs.declared.error.FlowErr.TheVariants as flowing
+use Rattle.irs_audit.specs.declared.error.ShapeKind.{ShapeKind}
+use Rattle.irs_audit.specs.declared.error.ShapeKind.TheVariants.{NotJson}
+use Rattle.irs_base.specs.Paths.{path_of}
+use Rattle.irs_base.specs.Rules.{rule_number}
+use Rattle.irs_base.specs.declared.places.Broken.{Broken}
+use Rattle.irs_base.specs.declared.places.Place.{Place}
+use Rattle.irs_base.specs.declared.places.Rule.{Rule}
+use Rattle.irs_base.specs.declared.places.Rule.TheVariants.{K1}
+use Rattle.irs_calendar.specs.declared.calendars.CalErr.{CalErr}
+use Rattle.irs_calendar.specs.declared.calendars.CalErr.TheVariants as calendar
+use Rattle.irs_cli.specs.Naming.{file_name}
+use Rattle.irs_cli.specs.declared.causes.RunCause.{RunCause}
+use Rattle.irs_cli.specs.declared.causes.RunCause.TheVariants as cause
+use Rattle.irs_cli.specs.declared.commands.Role.TheVariants as role
+use Rattle.irs_resets.specs.declared.fixings.FixErr.{FixErr}
+use Rattle.irs_resets.specs.declared.fixings.FixErr.TheVariants as fixing
 use Rattle.irs_plain.specs.Elements.{holder, name_words, possessive}
-use Rattle.irs_plain.specs.Lookup.{after, before}
-use Rattle.irs_plain.specs.Words.{calendar_name, command, document_name, fixings_name, flows_name, named}
+use Rattle.irs_plain.specs.Lookup.{after, before, row_of_rule, row_of_shape}
+use Rattle.irs_plain.specs.Parts.{joined}
+use Rattle.irs_plain.specs.Words.{word_at}
 use Rattle.irs_plain.specs.WrongWords.{is_help, unlisted}
-use Rattle.irs_plain.specs.declared.lines.Sentence.{Sentence}
-use Rattle.std.specs.Prelude.{ℕ, ◌==◌, ◌||◌, ◌&&◌, nat_eq, Bool, not, List, [], ◌∷◌, ◌++◌, map, codes, if◌then◌else◌}
+use Rattle.std.specs.Prelude.{ℕ, ◌-◌, ◌==◌, ◌||◌, ◌&&◌, nat_eq, Bool, true, false, not, List, [], ◌∷◌, Option, Some, None, codes}
+use Rattle.std.specs.Prelude.{decimal, if◌then◌else◌}
 use Rattle.std.specs.List.{ends_with}
 use Rattle.std.specs.Str.{bytes_eq}
-
--- parts one after the other
-abbrev pub joined : List (List ℕ) → List ℕ
-joined [] = []
-joined (part ∷ parts) = part ++ joined parts
-
--- what a sentence says
-abbrev pub said : Sentence → List ℕ
-said s = joined (map (λ p. p.now) s.parts)
 
 -- ---- a broken rule
 
 -- a text, unless the number is 0
-abbrev pub unless_zero : List ℕ → List ℕ → List ℕ
-unless_zero number text = if bytes_eq number (codes "0") then [] else text
+abbrev pub unless_zero : ℕ → List ℕ → List ℕ
+unless_zero number text = if number == 0 then [] else text
 
--- the number of a place, or 0 for a centre (K12), whose sentence doesn't give it
-abbrev pub number_told : List ℕ → List ℕ → List ℕ
-number_told rule index = if bytes_eq rule (codes "K12") then codes "0" else index
+-- a number, unless it is 0
+abbrev pub number_unless_zero : ℕ → List ℕ
+number_unless_zero number = if number == 0 then [] else decimal number
 
--- a text has no reading: the rule of a document, or the fault of cash flows
-abbrev pub is_unread : List ℕ → Bool
-is_unread rule = bytes_eq rule (codes "K1") || bytes_eq rule (codes "notjson")
+-- the index of a place, or 0 for a centre (K12), whose sentence doesn't give it
+abbrev pub index_told : Rule → ℕ → ℕ
+index_told rule index = if rule_number rule == 12 then 0 else index
+
+-- the row is that of a text without a reading, a document or cash flows
+abbrev pub is_unread : ℕ → Bool
+is_unread row = (row == row_of_rule K1) || (row == row_of_shape NotJson)
 
 -- what is said after the element of a text in the file of this name; an XML text without a reading has its
 -- own
-abbrev pub after_in : List ℕ → List ℕ → List ℕ
-after_in file rule =
-    if ends_with nat_eq file (codes ".xml") && is_unread rule then codes " isn't XML that this program reads"
-    else after rule
+abbrev pub after_in : List ℕ → ℕ → List ℕ
+after_in file row =
+    if ends_with nat_eq file (codes ".xml") && is_unread row then codes " isn't XML that this program reads"
+    else after row
 
--- what a rule says of an element of a text in the file of this name, after three opening parts
-abbrev pub about : List ℕ → List ℕ → List ℕ → List ℕ → List ℕ → List ℕ → List ℕ → List ℕ → List (List ℕ)
-about one two three file rule stream path index =
+-- what a row of the table says of an element of a text in the file of this name, after three opening texts
+abbrev pub about : List ℕ → List ℕ → List ℕ → List ℕ → ℕ → ℕ → List ℕ → ℕ → List (List ℕ)
+about one two three file row stream path index =
     one ∷ two ∷ three
-    ∷ before rule ∷ holder path ∷ possessive (holder path) ∷ name_words path ∷ after_in file rule
-    ∷ unless_zero stream (codes " (stream ") ∷ unless_zero stream stream
-    ∷ unless_zero index (codes ", number ") ∷ unless_zero index index
+    ∷ before row ∷ holder path ∷ possessive (holder path) ∷ name_words path ∷ after_in file row
+    ∷ unless_zero stream (codes " (stream ") ∷ number_unless_zero stream
+    ∷ unless_zero index (codes ", number ") ∷ number_unless_zero index
     ∷ unless_zero stream (codes ")")
     ∷ []
 
--- `refused RULE STREAM PATH INDEX`
-abbrev pub refused : List (List ℕ) → List ℕ → List (List ℕ)
-refused words line =
-    about (second line) (codes ": ") [] (document_name words) (second line) (third line) (fourth line)
-    (number_told (second line) (fifth line))
+-- a rule is broken
+abbrev pub refused : List (List ℕ) → Broken → List (List ℕ)
+refused words b =
+    about (codes "K") (decimal (rule_number b.rule)) (codes ": ") (file_name words role.Document 0)
+    (row_of_rule b.rule) b.place.stream (path_of b.place.elem) (index_told b.rule b.place.index)
+
+-- ---- memory
+
+-- memory ran out
+abbrev pub no_memory : List (List ℕ)
+no_memory = codes "there wasn't enough memory" ∷ []
 
 -- ---- a file at fault
 
--- what is wrong with a line of a calendar file
-abbrev pub calendar_fault : List ℕ → List ℕ
-calendar_fault fault =
-    if bytes_eq fault (codes "repeat") then codes "this centre is there already"
-    else (if bytes_eq fault (codes "toomany") then codes "a centre has at most 20,000 holidays" else codes
-    "this line isn't allowed here")
+-- a line of the calendar file with that number is at fault
+abbrev pub bad_calendar : List (List ℕ) → ℕ → ℕ → List ℕ → List (List ℕ)
+bad_calendar words file line fault =
+    codes "calendar file " ∷ decimal file ∷ codes " (" ∷ file_name words role.Calendar (file - 1) ∷ codes "), line "
+    ∷ decimal line ∷ codes ": " ∷ fault ∷ []
 
--- what is wrong with a line of a fixing file
-abbrev pub fixing_fault : List ℕ → List ℕ
-fixing_fault fault =
-    if bytes_eq fault (codes "repeat") then codes "this date, tenor and index are there already" else codes
-    "this line isn't DATE RATE TENOR INDEX"
+-- a calendar file is at fault
+abbrev pub bad_calendars : List (List ℕ) → CalErr → List (List ℕ)
+bad_calendars words (calendar.Syntax file line) = bad_calendar words file line (codes "this line isn't allowed here")
+bad_calendars words (calendar.Repeat file line) = bad_calendar words file line (codes "this centre is there already")
+bad_calendars words (calendar.TooMany file line) =
+    bad_calendar words file line (codes "a centre has at most 20,000 holidays")
+bad_calendars words calendar.Memory = no_memory
 
--- `bad calendar FILE LINE FAULT`
-abbrev pub bad_calendar : List (List ℕ) → List ℕ → List (List ℕ)
-bad_calendar words line =
-    codes "calendar file " ∷ third line ∷ codes " (" ∷ calendar_name words (third line) ∷ codes "), line " ∷ fourth line
-    ∷ codes ": " ∷ calendar_fault (fifth line) ∷ []
+-- a line of the fixing file is at fault
+abbrev pub bad_fixing : List (List ℕ) → ℕ → List ℕ → List (List ℕ)
+bad_fixing words line fault =
+    codes "fixing file (" ∷ file_name words role.Fixings 0 ∷ codes "), line " ∷ decimal line ∷ codes ": " ∷ fault ∷ []
 
--- `bad fixings LINE FAULT`
-abbrev pub bad_fixings : List (List ℕ) → List ℕ → List (List ℕ)
-bad_fixings words line =
-    codes "fixing file (" ∷ fixings_name words ∷ codes "), line " ∷ third line ∷ codes ": "
-    ∷ fixing_fault (fourth line) ∷ []
+-- the fixing file is at fault
+abbrev pub bad_fixings : List (List ℕ) → FixErr → List (List ℕ)
+bad_fixings words (fixing.Syntax line) = bad_fixing words line (codes "this line isn't DATE RATE TENOR INDEX")
+bad_fixings words (fixing.Repeat line) = bad_fixing words line (codes "this date, tenor and index are there already")
+bad_fixings words fixing.Memory = no_memory
 
--- `bad flows KIND STREAM PATH INDEX`
-abbrev pub bad_flows : List (List ℕ) → List ℕ → List (List ℕ)
-bad_flows words line =
-    about (codes "cash flows (") (flows_name words) (codes "): ") (flows_name words) (third line) (fourth line) (fifth line) (sixth line)
+-- the cash flows are out of shape
+abbrev pub bad_shape : List (List ℕ) → ShapeKind → Place → List (List ℕ)
+bad_shape words kind place =
+    about (codes "cash flows (") (file_name words role.Flows 0) (codes "): ") (file_name words role.Flows 0)
+    (row_of_shape kind) place.stream (path_of place.elem) place.index
 
--- a file that is outside its grammar or its limits
-abbrev pub bad_file : List (List ℕ) → List ℕ → List (List ℕ)
-bad_file words line =
-    if bytes_eq (second line) (codes "calendar") then bad_calendar words line
-    else (if bytes_eq (second line) (codes "fixings") then bad_fixings words line else bad_flows words line)
+-- the cash flows are at fault
+abbrev pub bad_flows : List (List ℕ) → FlowErr → List (List ℕ)
+bad_flows words (flowing.Shape kind place) = bad_shape words kind place
+bad_flows words flowing.Memory = no_memory
+
+-- a task isn't carried out
+abbrev pub refused_by : List (List ℕ) → Refusal → List (List ℕ)
+refused_by words (refusal.Rule b) = refused words b
+refused_by words (refusal.Calendars e) = bad_calendars words e
+refused_by words (refusal.Fixings e) = bad_fixings words e
+refused_by words (refusal.Flows e) = bad_flows words e
+refused_by words refusal.Memory = no_memory
 
 -- ---- cash flows that depart from the schedule
 
@@ -113,6 +146,10 @@ of_field field text = if is_of_field field then text else []
 abbrev pub unless_stream : List ℕ → List ℕ → List ℕ
 unless_stream kind text = if bytes_eq kind (codes "stream") then [] else text
 
+-- the number of the row where that isn't a stream as a whole
+abbrev pub number_unless_stream : List ℕ → ℕ → List ℕ
+number_unless_stream kind row = if bytes_eq kind (codes "stream") then [] else decimal row
+
 -- what comes before the number of the stream
 abbrev pub stream_words : List ℕ → List ℕ
 stream_words kind = if bytes_eq kind (codes "stream") then codes "stream " else codes " of stream "
@@ -121,40 +158,39 @@ stream_words kind = if bytes_eq kind (codes "stream") then codes "stream " else 
 abbrev pub ending : List ℕ → List ℕ
 ending field = if bytes_eq field (codes "extra") then codes ", and the schedule doesn't" else []
 
--- `no STREAM KIND ROW FIELD`
-abbrev pub departure : List (List ℕ) → List ℕ → List (List ℕ)
-departure words line =
-    codes "the cash flows (" ∷ flows_name words ∷ verb (fifth line)
-    ∷ of_field (fifth line) (fifth line) ∷ of_field (fifth line) (codes " of ")
-    ∷ unless_stream (third line) (third line) ∷ unless_stream (third line) (codes " ")
-    ∷ unless_stream (third line) (fourth line)
-    ∷ stream_words (third line) ∷ second line ∷ ending (fifth line) ∷ []
+-- the cash flows depart from the schedule, in a field or a row of these names
+abbrev pub departs : List (List ℕ) → ℕ → List ℕ → ℕ → List ℕ → List (List ℕ)
+departs words stream kind row field =
+    codes "the cash flows (" ∷ file_name words role.Flows 0 ∷ verb field
+    ∷ of_field field field ∷ of_field field (codes " of ")
+    ∷ unless_stream kind kind ∷ unless_stream kind (codes " ") ∷ number_unless_stream kind row
+    ∷ stream_words kind ∷ decimal stream ∷ ending field ∷ []
 
--- the list of `breaks`
-abbrev pub broken : List (List ℕ) → List (List ℕ)
-broken words =
-    codes "the cash flows (" ∷ flows_name words ∷ codes ") depart from the schedule: each line of the list is one break"
-    ∷ []
+-- what an audit found
+abbrev pub not_agreed : List (List ℕ) → Departure → List (List ℕ)
+not_agreed words d = departs words d.stream (row_name d.kind) d.row (field_name d.field)
 
--- what `audit` or `breaks` found
-abbrev pub not_agreed : List (List ℕ) → List ℕ → List (List ℕ)
-not_agreed words line = if bytes_eq (command words) (codes "breaks") then broken words else departure words line
+-- the list of `breaks` has some
+abbrev pub some_break : List (List ℕ) → List (List ℕ)
+some_break words =
+    codes "the cash flows (" ∷ file_name words role.Flows 0
+    ∷ codes ") depart from the schedule: each line of the list is one break" ∷ []
 
 -- ---- cash flows that agree as far as they were compared
 
--- the line of an audit says that amounts lack a fixing, so they were compared with nothing: `yes ROWS UNFIXED`
-abbrev pub lacks_fixings : List (List ℕ) → List ℕ → Bool
-lacks_fixings words line = bytes_eq (command words) (codes "audit") && not (bytes_eq (third line) (codes "0"))
+-- how many amounts weren't compared, as they lack a fixing
+abbrev pub uncompared : List (List ℕ) → ℕ → List (List ℕ)
+uncompared words unfixed =
+    codes "the cash flows (" ∷ file_name words role.Flows 0
+    ∷ codes ") agree, but amounts that lack a fixing weren't compared: " ∷ decimal unfixed ∷ []
 
--- how many amounts of an audit weren't compared
-abbrev pub uncompared : List (List ℕ) → List ℕ → List (List ℕ)
-uncompared words line =
-    codes "the cash flows (" ∷ flows_name words
-    ∷ codes ") agree, but amounts that lack a fixing weren't compared: " ∷ third line ∷ []
-
--- what is said of a command that is done: nothing, unless amounts of an audit weren't compared
-abbrev pub done : List (List ℕ) → List ℕ → List (List ℕ)
-done words line = if lacks_fixings words line then uncompared words line else []
+-- what a reply says
+abbrev pub replied : List (List ℕ) → Cause → List (List ℕ)
+replied words reply.Done = []
+replied words (reply.Uncompared unfixed) = uncompared words unfixed
+replied words (reply.NotAgreed d) = not_agreed words d
+replied words reply.Breaks = some_break words
+replied words (reply.Refused r) = refused_by words r
 
 -- ---- a file that couldn't be read, and a word that isn't text
 
@@ -162,35 +198,45 @@ done words line = if lacks_fixings words line then uncompared words line else []
 abbrev pub help_hint : List ℕ → List ℕ
 help_hint name = if is_help name then codes " (irs --help explains the commands)" else []
 
--- the file at this place couldn't be read
+-- the file of this name couldn't be read
 abbrev pub unreadable : List ℕ → List (List ℕ)
 unreadable name = codes "couldn't be read: " ∷ name ∷ help_hint name ∷ []
 
 -- which word isn't text, where its place is known
-abbrev pub no_text : List ℕ → List (List ℕ)
-no_text [] = codes "a word of the command line isn't text" ∷ []
-no_text (b ∷ bs) = codes "word " ∷ (b ∷ bs) ∷ codes " isn't text" ∷ []
+abbrev pub no_text : Option ℕ → List (List ℕ)
+no_text None = codes "a word of the command line isn't text" ∷ []
+no_text (Some place) = codes "word " ∷ decimal place ∷ codes " isn't text" ∷ []
 
--- ---- every status
+-- ---- what a run comes to
 
--- there is nothing to say of what the program wrote with a status
-abbrev pub is_silent : List (List ℕ) → ℕ → List ℕ → Bool
-is_silent words status written = (status == 0) && not (lacks_fixings words (front 10 written))
+-- a reply leaves nothing to say
+abbrev pub is_done : Cause → Bool
+is_done reply.Done = true
+is_done (reply.Uncompared unfixed) = false
+is_done (reply.NotAgreed d) = false
+is_done reply.Breaks = false
+is_done (reply.Refused r) = false
 
--- the sentence for a line without its end
-abbrev pub told : List (List ℕ) → ℕ → List ℕ → List (List ℕ)
-told words status line =
-    if status == 1 then not_agreed words line
-    else (if status == 2 then refused words line
-    else (if status == 3 then bad_file words line
-    else (if status == 4 then unlisted words
-    else (if status == 5 then unreadable (named words (third line))
-    else (if status == 6 then codes "the text couldn't be written to standard output" ∷ []
-    else (if status == 7 then codes "there wasn't enough memory" ∷ []
-    else (if status == 8 then named words (third line) ∷ codes " has more than 4,194,304 bytes" ∷ []
-    else (if status == 9 then no_text (third line)
-    else (if status == 0 then done words line else [])))))))))
+-- there is nothing to say of what a run comes to
+abbrev pub is_silent : RunCause → Bool
+is_silent (cause.Replied c) = is_done c
+is_silent cause.BadWords = false
+is_silent (cause.NoFile place) = false
+is_silent cause.PutFailed = false
+is_silent cause.NoMemory = false
+is_silent (cause.TooLong place) = false
+is_silent (cause.NotText place) = false
 
--- the sentence for what the program wrote with a status
-abbrev pub sentence_of : List (List ℕ) → ℕ → List ℕ → List ℕ
-sentence_of words status written = joined (told words status (front 10 written))
+-- the texts of the sentence; none where there is nothing to say
+abbrev pub told : List (List ℕ) → RunCause → List (List ℕ)
+told words (cause.Replied c) = replied words c
+told words cause.BadWords = unlisted words
+told words (cause.NoFile place) = unreadable (word_at words place)
+told words cause.PutFailed = codes "the text couldn't be written to standard output" ∷ []
+told words cause.NoMemory = no_memory
+told words (cause.TooLong place) = word_at words place ∷ codes " has more than 4,194,304 bytes" ∷ []
+told words (cause.NotText place) = no_text place
+
+-- the sentence
+abbrev pub sentence_of : List (List ℕ) → RunCause → List ℕ
+sentence_of words c = joined (told words c)

@@ -1,13 +1,13 @@
-//! What a person reads. On standard error it is one plain sentence for the line that the program wrote on
-//! standard output. The texts of `--help` and `--version` are here too.
+//! What a person reads. On standard error it is one plain sentence on what a run came to. The texts of `--help`
+//! and `--version` are here too.
 #![tactic(auto)]
 
 mod cuts;
 mod elements;
 mod help;
-mod kept;
-mod lines;
 mod lookup;
+mod parts;
+mod sentences;
 mod shown;
 mod slips;
 mod table;
@@ -16,8 +16,7 @@ mod words;
 mod wrong_words;
 
 pub use help::{COMMANDS, HELP, VERSION};
-pub use kept::Kept;
-pub use lines::{Sentence, is_silent, meaning};
+pub use sentences::{is_silent, put_sentence};
 pub use shown::shown_words;
 pub use slips::slips_are_found;
 pub use table::rules_listed;

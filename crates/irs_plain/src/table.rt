@@ -1,15 +1,12 @@
-//! The sentences of the rules K1 to K49 and of the faults of cash flows, as three parallel lists. They hold
-//! the word that the program prints, and what is said before and after the element.
+//! The sentences of the rules K1 to K49 and of the faults of cash flows, as two parallel lists. They hold what
+//! is said before the element, and after it.
+ghost use Rattle.irs_answers.specs.FlowMessages.{shape_name};
+ghost use Rattle.irs_audit.specs.declared.error.ShapeKind.{ShapeKind as ShapeSpec};
+ghost use Rattle.irs_base.specs.Rules.{rule_number};
+ghost use Rattle.irs_base.specs.declared.places.Rule.{Rule as RuleSpec};
+ghost use Rattle.irs_plain.specs.Lookup.{row_of_rule, row_of_shape, text_at};
 ghost use Rattle.irs_plain.specs.Rules.{codes_of, texts_after, texts_before};
-ghost use Rattle.std.specs.Prelude.{◌≡◌, map};
-
-/// The rules, then the kinds of fault of cash flows.
-pub const RULES: [&str; 47] = [
-    "K1", "K2", "K3", "K4", "K5", "K6", "K7", "K8", "K10", "K11", "K12", "K13", "K14", "K15",
-    "K16", "K17", "K18", "K19", "K20", "K21", "K30", "K31", "K32", "K33", "K34", "K35", "K36",
-    "K37", "K38", "K39", "K40", "K41", "K42", "K43", "K44", "K45", "K46", "K47", "K48", "K49",
-    "notjson", "missing", "kind", "unknown", "profile", "value", "count",
-];
+ghost use Rattle.std.specs.Prelude.{◌≡◌, ◌++◌, [], codes, decimal, map};
 
 /// What is said before the element.
 pub const BEFORE: [&str; 47] = [
@@ -113,10 +110,12 @@ pub const AFTER: [&str; 47] = [
     " appears too often, or has two members that don't go together",
 ];
 
-/// The lists are those of the specification.
-#[tactic(auto, using(crate::proofs::TableLaws::rules_are, crate::proofs::TableLaws::before_are, crate::proofs::TableLaws::after_are))]
+/// The lists are those of the specification. In its table the row of a rule has the name that is printed, and so
+/// has that of a fault of cash flows.
+#[tactic(auto, using(crate::proofs::TableLaws::before_are, crate::proofs::TableLaws::after_are, crate::proofs::NameLaws::rules_named, crate::proofs::NameLaws::shapes_named))]
 pub fn rules_listed()
-    ensures rules { map (λ n. n.now) RULES ≡ codes_of }
     ensures before { map (λ n. n.now) BEFORE ≡ texts_before }
     ensures after { map (λ n. n.now) AFTER ≡ texts_after }
+    ensures rules { (r : RuleSpec) → text_at codes_of (row_of_rule r) [] ≡ codes "K" ++ decimal (rule_number r) }
+    ensures shapes { (k : ShapeSpec) → text_at codes_of (row_of_shape k) [] ≡ shape_name k }
 {}

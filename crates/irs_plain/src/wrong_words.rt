@@ -1,6 +1,6 @@
 //! What is said of words that are no listed command: what is lacking, what is too much, or what may be meant.
 ghost use Rattle.irs_plain.specs.Lookup.{texts as texts_in};
-ghost use Rattle.irs_plain.specs.Sentences.{joined, said};
+ghost use Rattle.irs_plain.specs.Parts.{joined, said};
 ghost use Rattle.irs_plain.specs.Usage.{commands};
 ghost use Rattle.irs_plain.specs.Words.{texts};
 ghost use Rattle.irs_plain.specs.WrongWords.{field_at as field_at_of, fields as fields_of, helped as helped_of};
@@ -13,7 +13,7 @@ ghost use Rattle.std.specs.Prelude.{◌≡◌, ◌≤◌, ◌+◌, length};
 
 use crate::cuts::{front, is};
 use crate::help::COMMANDS;
-use crate::lines::{Sentence, of_five, short};
+use crate::parts::{Sentence, of_five, short};
 use crate::slips::is_slip;
 use crate::usage::{needs, usage};
 use crate::words::{command, word_at};
