@@ -1,2 +1,2 @@
-pub mod PieceLemmas
+pub mod LineLemmas
 pub mod TellLemmas

@@ -1,79 +1,79 @@
-//! What the program does around `run`. It prints its texts about itself, and says what each status
-//! but 0 means.
+//! What the program does around a run. It prints its texts about itself, and says what a run came to that
+//! isn't done.
 //!
 //! Words, texts and statuses are our rule.
 ghost use Rattle.std.specs.Prelude.{◌≡◌, ℕ, ◌<◌, List, Some, None, true, false, map, option_map, OnOk, OnErr};
 ghost use Rattle.irs_outside.specs.Outside.{Grew, GrewByFront, Rose};
-ghost use Rattle.irs_plain.specs.Kept.{front_of, sink_of};
 ghost use Rattle.irs_plain.specs.Sentences.{is_silent as is_silent_of};
 ghost use Rattle.irs_plain.specs.Shown.{shown};
 ghost use Rattle.irs_plain.specs.Words.{texts};
+ghost use Rattle.irs_cli.specs.Causes.{IsCauseOfWritten, run_status};
 ghost use Rattle.irs_cli.specs.Run.{Ran, source, written};
-ghost use Rattle.irs_main.specs.Answering.{Explained, Printed, explanation_of, itself_of};
+ghost use Rattle.irs_main.specs.Answering.{Explained, IsPlain, Printed, explanation_of, itself_of};
 
-use crate::pieces::{put_lines, put_parts};
-use irs_cli::{Files, PutFailed, Sink, Status, run};
-use irs_plain::{COMMANDS, HELP, Kept, VERSION, is_silent, meaning, shown_words};
+use crate::pieces::put_lines;
+use irs_cli::{Cause, Files, PutFailed, RunCause, Sink, Status, cause_of_run};
+use irs_plain::{COMMANDS, HELP, VERSION, is_silent, put_sentence, shown_words};
 use std::alloc::Global;
 
-/// Answers the words: prints what they ask for, and says on `errors` what a status other than 0 means.
+/// Answers the words: prints what they ask for, and says on `errors` what that means. It returns what the words
+/// came to, whose status is the exit status.
 ///
-/// For the single word `--help` or `--version` it prints its text and returns 0, or 6 where a write
-/// failed. All other words are run, as `run` says, once their shown form is made. Where memory runs
-/// out for that, the status is 7. On every status but 0 the sentence for it goes to `errors` as a
-/// line, with each word as `shown_words` shows it. For words that are no listed command, the listed
-/// commands follow, a line each. Nothing is written to `errors` after a write that failed.
+/// For the single word `--help` or `--version` it prints its text, and the status is 0, or 6 where a write
+/// failed. All other words are run, as `run` says, once their shown form is made. Where memory runs out for
+/// that, the status is 7. What the run came to goes to `errors` as a line, with each word as `shown_words` shows
+/// it, unless there is nothing to say. For words that are no listed command, the listed commands follow, a line
+/// each. Nothing is written to `errors` after a write that failed.
 pub fn answer<F: Files, S: Sink, E: Sink>(
     alloc: Global,
     words: &[String],
     files: &mut F,
-    out: &mut Kept<S>,
+    out: &mut S,
     errors: &mut E,
-) -> u8
+) -> RunCause
     // The statuses are 0 to 8, and what is known of the files is the same afterwards.
-    ensures listed { result < 9 }
+    ensures listed { run_status result < 9 }
     ensures told { (n : List ℕ) → F.told files.new n ≡ F.told files.old n }
 
     // The words ask about the program itself: that text is printed, and no file is fetched.
     ensures itself { (text : List ℕ) → itself_of HELP.now VERSION.now (texts words.now) ≡ Some text
-        → Printed text (S.written (sink_of out.old)) (S.written (sink_of out.new))
-        (S.faults (sink_of out.old)) (S.faults (sink_of out.new)) result
+        → Printed text (S.written out.old) (S.written out.new) (S.faults out.old) (S.faults out.new) (run_status result)
         × (files.new ≡ files.old) }
 
     // Any other words are run.
     ensures ran { itself_of HELP.now VERSION.now (texts words.now) ≡ None →
         let source = source (F.told files.old) (F.gives files.old) (F.failed files.new) (F.faults files.old)
         (F.faults files.new) in
-        let written = written (S.written (sink_of out.old)) (S.written (sink_of out.new))
-        (S.faults (sink_of out.old)) (S.faults (sink_of out.new)) in
-        Ran (texts words.now) source written result }
+        let written = written (S.written out.old) (S.written out.new) (S.faults out.old) (S.faults out.new) in
+        Ran (texts words.now) source written (run_status result) }
 
-    // The meaning of the status and of the first bytes that were written is said, with the words as
-    // they are shown.
+    // What is explained is the cause of exactly the text that was printed.
+    ensures cause { itself_of HELP.now VERSION.now (texts words.now) ≡ None
+        → IsCauseOfWritten (texts words.now) result (S.written out.old) (S.written out.new) }
+
+    // What the words came to is said, with the words as they are shown.
     ensures explained { Explained
-        (explanation_of (map (λ c. c.now) COMMANDS) (map shown (texts words.now)) result (front_of out.new))
+        (explanation_of (map (λ c. c.now) COMMANDS) (map shown (texts words.now)) result)
         (E.written errors.old) (E.written errors.new) (E.faults errors.old) (E.faults errors.new) }
 
     // Where all is done, and compared, nothing is written there.
-    ensures silent { is_silent_of (map shown (texts words.now)) result (front_of out.new) ≡ true
-        → errors.new ≡ errors.old }
+    ensures silent { is_silent_of result ≡ true → errors.new ≡ errors.old }
 {
     match about_itself(words) {
         Some(text) => {
-            let status = print(out, text);
-            explain(errors, &[], status, out.front());
-            status
+            let cause = print(out, text);
+            explain(errors, &[], cause);
+            cause
         }
         None => match shown_words(alloc, words) {
             Ok(shown) => {
-                let status = run(alloc, words, files, out);
-                explain(errors, &shown, status, out.front());
-                status
+                let cause = cause_of_run(alloc, words, None, files, out);
+                explain(errors, &shown, cause);
+                cause
             }
             Err(_) => {
-                let status = Status::NoMemory.number();
-                explain(errors, &[], status, &[]);
-                status
+                explain(errors, &[], RunCause::NoMemory);
+                RunCause::NoMemory
             }
         },
     }
@@ -95,42 +95,43 @@ fn about_itself(words: &[String]) -> Option<&'static str>
     }
 }
 
-// Prints a text, and returns the status.
-fn print<S: Sink>(out: &mut S, text: &str) -> u8
-    ensures { Printed text.now (S.written out.old) (S.written out.new) (S.faults out.old) (S.faults out.new) result }
+// Prints a text, and returns what that came to.
+fn print<S: Sink>(out: &mut S, text: &str) -> RunCause
+    ensures printed { Printed text.now (S.written out.old) (S.written out.new) (S.faults out.old) (S.faults out.new)
+        (run_status result) }
+    ensures plain { IsPlain result }
 {
     match out.put(text.as_bytes()) {
-        Ok(()) => Status::Done.number(),
-        Err(_) => Status::PutFailed.number(),
+        Ok(()) => RunCause::Replied(Cause::Done),
+        Err(_) => RunCause::PutFailed,
     }
 }
 
-/// Says what a status and the line that was printed with it mean, as far as `errors` takes it.
-pub(crate) fn explain<E: Sink>(errors: &mut E, words: &[String], status: u8, line: &[u8])
-    ensures said { Explained
-        (explanation_of (map (λ c. c.now) COMMANDS) (texts words.now) status line.now)
+/// Says what the words came to, as far as `errors` takes it.
+pub(crate) fn explain<E: Sink>(errors: &mut E, words: &[String], cause: RunCause)
+    ensures said { Explained (explanation_of (map (λ c. c.now) COMMANDS) (texts words.now) cause)
         (E.written errors.old) (E.written errors.new) (E.faults errors.old) (E.faults errors.new) }
-    ensures silent { is_silent_of (texts words.now) status line.now ≡ true → errors.new ≡ errors.old }
+    ensures silent { is_silent_of cause ≡ true → errors.new ≡ errors.old }
 {
-    if !is_silent(words, status, line) {
+    if !is_silent(cause) {
         // A standard error that can't be written changes no answer.
-        let _ = tell(errors, words, status, line);
+        let _ = tell(errors, words, cause);
     }
 }
 
-// Writes the sentence for a status and, where the words are no listed command, the listed ones.
-fn tell<E: Sink>(errors: &mut E, words: &[String], status: u8, line: &[u8]) -> Result<(), PutFailed>
-    requires { is_silent_of (texts words.now) status line.now ≡ false }
+// Writes the sentence on what the words came to and, where they are no listed command, the listed ones.
+fn tell<E: Sink>(errors: &mut E, words: &[String], cause: RunCause) -> Result<(), PutFailed>
+    requires { is_silent_of cause ≡ false }
     ensures ok { OnOk result (Grew (E.written errors.old) (E.written errors.new)
-        (explanation_of (map (λ c. c.now) COMMANDS) (texts words.now) status line.now)) }
+        (explanation_of (map (λ c. c.now) COMMANDS) (texts words.now) cause)) }
     ensures quiet { OnOk result (E.faults errors.new ≡ E.faults errors.old) }
     ensures err { OnErr result (GrewByFront (E.written errors.old) (E.written errors.new)
-        (explanation_of (map (λ c. c.now) COMMANDS) (texts words.now) status line.now)) }
+        (explanation_of (map (λ c. c.now) COMMANDS) (texts words.now) cause)) }
     ensures rose { OnErr result (Rose (E.faults errors.old) (E.faults errors.new)) }
 {
-    put_parts(errors, &meaning(words, status, line).parts)?;
+    put_sentence(errors, words, cause)?;
     errors.put(b"\n")?;
-    if status == Status::BadWords.number() {
+    if cause.status() == Status::BadWords.number() {
         put_lines(errors, &COMMANDS)?;
     }
     Ok(())

@@ -1,25 +1,9 @@
-//! Writing a text in pieces: nothing is written after a write that failed.
+//! Writing lines one after the other: nothing is written after a write that failed.
 ghost use Rattle.std.specs.Prelude.{◌≡◌, ◌++◌, codes, map, OnOk, OnErr};
 ghost use Rattle.irs_outside.specs.Outside.{Grew, GrewByFront, Rose};
-ghost use Rattle.irs_plain.specs.Sentences.{joined};
 ghost use Rattle.irs_main.specs.Answering.{lines_of};
 
 use irs_cli::{PutFailed, Sink};
-
-/// Writes parts, one after the other.
-pub(crate) fn put_parts<S: Sink>(out: &mut S, parts: &[&[u8]]) -> Result<(), PutFailed>
-    ensures ok { OnOk result
-        (Grew (S.written out.old) (S.written out.new) (joined (map (λ p. p.now) parts.now))) }
-    ensures quiet { OnOk result (S.faults out.new ≡ S.faults out.old) }
-    ensures err { OnErr result
-        (GrewByFront (S.written out.old) (S.written out.new) (joined (map (λ p. p.now) parts.now))) }
-    ensures rose { OnErr result (Rose (S.faults out.old) (S.faults out.new)) }
-{
-    for part in parts {
-        out.put(part)?;
-    }
-    Ok(())
-}
 
 /// Writes texts, each with a line feed after it.
 pub(crate) fn put_lines<S: Sink>(out: &mut S, lines: &[&str]) -> Result<(), PutFailed>

@@ -1,12 +1,11 @@
 //! From the runtime to the answer: the words, the files of the system, standard output and standard
 //! error.
 ghost use Rattle.std.specs.Prelude.{◌≡◌, ◌⊎◌, ◌<◌, IfErr};
+ghost use Rattle.irs_cli.specs.Causes.{run_status};
 
 use crate::answering::{answer, explain};
 use crate::standard_error::StandardError;
-use irs_base::Line;
-use irs_cli::{RealFiles, RealSink, Status};
-use irs_plain::Kept;
+use irs_cli::{RealFiles, RealSink, RunCause};
 use std::env;
 use std::env::Env;
 use std::io::ErrorKind;
@@ -24,28 +23,15 @@ pub fn status_of(rt: &HostRuntime) -> u8
     match words_of(rt) {
         Ok(words) => {
             let mut files = RealFiles::new(rt);
-            let mut out = Kept::new(RealSink::new(rt));
-            answer(rt.alloc(), &words, &mut files, &mut out, &mut errors)
+            let mut out = RealSink::new(rt);
+            let cause = answer(rt.alloc(), &words, &mut files, &mut out, &mut errors);
+            cause.status()
         }
-        Err(status) => {
-            let line = line_of(rt, status);
-            explain(&mut errors, &[], status, line.bytes());
-            status
+        Err(cause) => {
+            explain(&mut errors, &[], cause);
+            cause.status()
         }
     }
-}
-
-// What the sentence is made of where the words can't be gathered: for 9 it is `not text N`, where N is the
-// number of the word. Nothing of it is printed. Else it is empty.
-fn line_of(rt: &HostRuntime, status: u8) -> Line {
-    let mut line = Line::new();
-    if status == Status::NotText.number()
-        && let Some(number) = odd_word(rt)
-    {
-        line.push(b"not text ");
-        line.push_number(number);
-    }
-    line
 }
 
 // The number of the first word after the program's name that isn't text. `None` where there is none, as
@@ -61,20 +47,19 @@ fn odd_word(rt: &HostRuntime) -> Option<u32> {
     None
 }
 
-// The words after the program's name. Where they can't be had, the status is 7 where memory ran
-// out, or 9 where a word isn't text.
-fn words_of(rt: &HostRuntime) -> Result<Vec<String>, u8>
-    ensures { IfErr result (λ s. (s ≡ 7) ⊎ (s ≡ 9)) }
+// The words after the program's name, or why they can't be had: memory ran out, or a word isn't text.
+fn words_of(rt: &HostRuntime) -> Result<Vec<String>, RunCause>
+    ensures { IfErr result (λ c. (run_status c ≡ 7) ⊎ (run_status c ≡ 9)) }
 {
     let args = match env::args(rt) {
         Ok(args) => args,
-        Err(e) if e.kind() == ErrorKind::OutOfMemory => return Err(Status::NoMemory.number()),
-        Err(_) => return Err(Status::NotText.number()),
+        Err(e) if e.kind() == ErrorKind::OutOfMemory => return Err(RunCause::NoMemory),
+        Err(_) => return Err(RunCause::NotText(odd_word(rt))),
     };
     let mut words = Vec::new(rt.alloc());
     for word in args.skip(1) {
         if words.push(word).is_err() {
-            return Err(Status::NoMemory.number());
+            return Err(RunCause::NoMemory);
         }
     }
     Ok(words)
