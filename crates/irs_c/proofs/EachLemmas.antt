@@ -9,9 +9,8 @@ use Rattle.std.proofs.lemmas.List.{append-nil, take_all}
 use Rattle.irs_cli.specs.Commands.{IsListed, Words, texts}
 use Rattle.irs_cli.specs.Due.{Due}
 use Rattle.irs_cli.proofs.OneAnswer.{one_answer}
-use Rattle.irs_plain.specs.Sentences.{sentence_of}
-use Rattle.irs_plain.specs.Shown.{shown}
-use Rattle.irs_c.specs.Each.{AreOutcomes, AreRuns, IsOutcome, IsRun, Made, Outcome, RunFor, no_text, said_by, slot_of}
+use Rattle.irs_c.specs.Each.{AreOutcomes, AreRuns, IsExplained, IsOutcome, IsRun, Made, Outcome}
+use Rattle.irs_c.specs.Each.{RunFor, no_text, said_by, slot_of}
 use Rattle.irs_c.specs.Given.{AreText, IsAbsent, file_in, words_in}
 use Rattle.irs_c.specs.declared.each.Answer.{Answer}
 use Rattle.irs_c.specs.declared.given.Bytes.{Bytes}
@@ -124,14 +123,14 @@ memory_run ws fs = record {
   unlisted = λ _ no. absurd (no refl);
   listed = (omega arith, λ e. omega (arith, e));
   one = one_answer ws (file_in fs);
-  sentence = λ no. absurd (no refl);
+  explained = λ no. absurd (no refl);
 }
 
 -- what a run comes to, and its sentence
 pub text_run : (ws : Words) (fs : List File) (status : ℕ) (text sentence : List ℕ)
     → (status ≢ 5 → Due ws (file_in fs) status text) → (status ≡ 5 → IsAbsent ws (file_in fs) text)
     → (status ≡ 4 → IsListed ws → ⊥) → ((IsListed ws → ⊥) → status ≡ 4)
-    → (status < 9) × (status ≢ 6) × (status ≢ 7) → sentence ≡ sentence_of (map shown ws) status text
+    → (status < 9) × (status ≢ 6) × (status ≢ 7) → IsExplained ws status text sentence
     → IsRun ws fs (record { status = status; text = text; sentence = sentence })
 text_run ws fs status text sentence due absent listed unlisted few is =
     record {
@@ -142,7 +141,7 @@ text_run ws fs status text sentence due absent listed unlisted few is =
       unlisted = λ none _. unlisted none;
       listed = (few.0, few.1.0);
       one = one_answer ws (file_in fs);
-      sentence = λ _. is;
+      explained = λ _. is;
     }
 
 -- what a run of words that were made into text comes to

@@ -1,4 +1,3 @@
-pub mod Joined
 pub mod Texts
 pub mod EachLemmas
 pub mod LentLemmas

@@ -2,10 +2,12 @@
 use Rattle.std.specs.Prelude.{◌≡◌, ◌≢◌, ◌⊎◌, ℕ, ◌<◌, List, [], ◌∷◌, ◌++◌, length, take, drop, map, Result, Ok, Err, Vec}
 use Rattle.std.specs.Prelude.{String}
 use Rattle.std.specs.declared.alloc.Global.{Global}
+use Rattle.irs_cli.specs.Causes.{IsRunCause}
 use Rattle.irs_cli.specs.Commands.{IsListed, Words, texts}
 use Rattle.irs_cli.specs.Due.{Due, IsOneAnswer}
 use Rattle.irs_cli.specs.Given.{TellsAll}
 use Rattle.irs_cli.specs.Sharing.{IsCommon}
+use Rattle.irs_cli.specs.declared.causes.RunCause.{RunCause}
 use Rattle.irs_answers.specs.declared.common.Common.{Common}
 use Rattle.irs_outside.specs.Outside.{IsFrontUnder}
 use Rattle.irs_plain.specs.Sentences.{sentence_of}
@@ -16,6 +18,7 @@ use Rattle.irs_c.specs.declared.each.Answer.{Answer}
 use Rattle.irs_c.specs.declared.given.Bytes.{Bytes}
 use Rattle.irs_c.specs.declared.given.File.{File}
 use Rattle.irs_c.specs.declared.given.Trade.{Trade}
+use Rattle.irs_c.specs.declared.telling.Told.{Told}
 
 -- what a trade comes to: a status, the text, and the sentence that says what the text means
 pub record Outcome : Type 0 where
@@ -36,6 +39,16 @@ abbrev pub said_by : List Outcome → List ℕ
 said_by [] = []
 said_by (o ∷ os) = (o.text ++ o.sentence) ++ said_by os
 
+-- the sentence is that of the cause of a status and a text, with the words as they are shown
+pub record IsExplained (ws : Words) (status : ℕ) (text sentence : List ℕ) : Type 0 where
+  pub cause : RunCause
+  pub is : IsRunCause ws cause status text
+  pub sentence_is : sentence ≡ sentence_of (map shown ws) cause
+
+-- what the code keeps of what a run comes to
+abbrev pub outcome_by : Told → Outcome
+outcome_by t = record { status = t.status; text = t.text.items; sentence = t.sentence.items }
+
 -- what the words come to over the files, where each word is text: the status and the text that `irs_run` gives
 pub record IsRun (ws : Words) (fs : List File) (o : Outcome) : Type 0 where
   -- out of memory: no text
@@ -51,8 +64,8 @@ pub record IsRun (ws : Words) (fs : List File) (o : Outcome) : Type 0 where
   pub listed : (o.status < 9) × (o.status ≢ 6)
   -- where every file that the words name is lent, one status and one text are due
   pub one : TellsAll ws (file_in fs) → IsOneAnswer ws (file_in fs)
-  -- the sentence is that of the text, with the words as they are shown
-  pub sentence : o.status ≢ 7 → o.sentence ≡ sentence_of (map shown ws) o.status o.text
+  -- the sentence is that of the status and the text
+  pub explained : o.status ≢ 7 → IsExplained ws o.status o.text o.sentence
 
 -- the same for words as they are lent; 9 where one isn't UTF-8
 abbrev pub IsOutcome : List Bytes → List File → Outcome → Type 0

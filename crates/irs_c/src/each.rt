@@ -3,8 +3,9 @@ ghost use Rattle.std.specs.Prelude.{◌≡◌, ◌++◌, List, IfOk, IfErr, IfSo
 ghost use Rattle.irs_c.specs.Each.{AreOutcomes, AreRuns, IsCommonIn, IsRun, Outcome, RunFor, no_text, said_by, slot_of};
 ghost use Rattle.irs_cli.specs.Commands.{texts};
 
-use crate::exports::{append, run_kept, sentence_for, words_of};
+use crate::exports::{append, words_of};
 use crate::given::{Bytes, File, GivenFiles, Trade};
+use crate::telling::{Told, tell};
 use irs_cli::{Common, read_common};
 use std::alloc::Global;
 
@@ -109,8 +110,11 @@ fn outcome_of(
         Ok(words) => words,
         Err(status) => return Err(*status),
     };
-    let (status, mut text) = run_kept(alloc, words, read.as_ref(), common, own)?;
-    let sentence = sentence_for(alloc, words, status, &text)?;
+    let Told {
+        status,
+        mut text,
+        sentence,
+    } = tell(alloc, words, read.as_ref(), common, own)?;
     let answer = Answer {
         status,
         text: text.len(),

@@ -1,20 +1,17 @@
 //! The functions that C calls. Their form is our rule; `bindings/irs.h` declares them in C.
-ghost use Rattle.std.specs.Prelude.{◌≡◌, ◌≢◌, ◌⊎◌, ℕ, ◌<◌, List, ◌++◌, length, take, drop, map, OnOk, OnErr, IfOk, IfErr, IfSome};
+ghost use Rattle.std.specs.Prelude.{◌≡◌, ◌≢◌, ◌⊎◌, ℕ, ◌<◌, List, ◌++◌, length, take, drop, OnOk, OnErr, IfOk, IfErr};
 ghost use Rattle.irs_cli.specs.Commands.{IsListed, texts};
 ghost use Rattle.irs_cli.specs.Due.{Due, IsOneAnswer};
 ghost use Rattle.irs_cli.specs.Given.{TellsAll};
-ghost use Rattle.irs_c.specs.Each.{IsCommonIn, Said};
+ghost use Rattle.irs_c.specs.Each.{IsExplained, IsRun, Said, outcome_by};
 ghost use Rattle.irs_c.specs.Given.{words_in, file_in, AreText, IsAbsent};
 ghost use Rattle.irs_c.specs.Shown.{Shown};
-ghost use Rattle.irs_plain.specs.Sentences.{joined as joined_of, sentence_of};
-ghost use Rattle.irs_plain.specs.Shown.{shown};
 
 use crate::each::{Answer, answer_each};
-use crate::given::{Bytes, File, GivenFiles, Trade};
-use crate::kept::Kept;
+use crate::given::{Bytes, File, Trade};
+use crate::telling::{Told, tell};
 use irs_base::Status;
-use irs_cli::{Common, run_with};
-use irs_plain::{VERSION, meaning, shown_words};
+use irs_plain::VERSION;
 use std::alloc::Global;
 
 /// Runs a command of the program over lent words and files, and returns its status. 0: done. 1: the
@@ -23,8 +20,12 @@ use std::alloc::Global;
 /// 7: out of memory. 8: a file is too long. 9: a word isn't UTF-8. Status 6 never comes.
 ///
 /// The text that the program would print goes to `out` as far as it has room, and its length to
-/// `needed`. Where `needed` is more than `out` has, a second call with that much room gives all of
-/// the text. At 7 and 9 there is no text. The call keeps nothing for the next one.
+/// `needed`. The sentence that says what the text means goes to `said` in the same way, and its length to
+/// `said_needed`. Where a length is more than there is room for, a second call with that much room gives all.
+/// At 7 and 9 there is no text and no sentence. The call keeps nothing for the next one.
+///
+/// The sentence is one line without its end. It has each word as `shown_words` of irs_plain shows it, without
+/// controls. It is empty where there is nothing to say: at 0, unless an audit says that amounts lack a fixing.
 #[unsafe(no_mangle)]
 pub extern "C" fn irs_run(
     alloc: Global,
@@ -32,13 +33,20 @@ pub extern "C" fn irs_run(
     files: &[File<'_>],
     out: &mut [u8],
     needed: &mut usize,
+    said: &mut [u8],
+    said_needed: &mut usize,
 ) -> u8
     // Out of memory, or a word that isn't UTF-8: no text.
     ensures memory { result ≡ 7 → (out.new ≡ out.old) × (needed.new ≡ 0) }
     ensures not_text { result ≡ 9 → (AreText words.now → ⊥) × (out.new ≡ out.old)
         × (needed.new ≡ 0) }
+    ensures unsaid { (result ≡ 7) ⊎ (result ≡ 9) → (said.new ≡ said.old) × (said_needed.new ≡ 0) }
     // Any other status comes only where each word is UTF-8.
     ensures text { result ≢ 7 → result ≢ 9 → AreText words.now }
+    // The sentence is that of the status and the text, with the words as they are shown.
+    ensures said { result ≢ 7 → result ≢ 9 → (text : List ℕ) × ((sentence : List ℕ)
+        × IsExplained (words_in words.now) result text sentence
+        × (Shown out.old out.new needed.new text × Shown said.old said.new said_needed.new sentence)) }
     // A file that the words name isn't lent, and the text says which.
     ensures absent { result ≡ 5 → (text : List ℕ)
         × IsAbsent (words_in words.now) (file_in files.now) text
@@ -56,25 +64,25 @@ pub extern "C" fn irs_run(
     ensures one { TellsAll (words_in words.now) (file_in files.now)
         → IsOneAnswer (words_in words.now) (file_in files.now) }
 {
-    match answer(alloc, words, files) {
-        Ok((status, text)) => {
-            show(&text, out);
-            *needed = text.len();
-            status
+    match told_for(alloc, words, files) {
+        Ok(told) => {
+            show_text(&told, out, needed);
+            show_sentence(&told, said, said_needed);
+            told.status
         }
         Err(status) => {
             *needed = 0;
+            *said_needed = 0;
             status
         }
     }
 }
 
 /// Runs one command for each of many trades: over the common files, and after them the trade's own. What a
-/// trade comes to is what `irs_run` gives for these files, and its sentence what `irs_meaning` gives for that.
-/// The fixings and the calendars that the words name are read once, if all of them are common.
+/// trade comes to is what `irs_run` gives for these files: the status, the text and the sentence. The fixings and the calendars that the words name are read once, if all of them are common.
 ///
-/// As many trades are run as `answers` has room for. The texts and the sentences go to `out` as far as it has
-/// room, those of a trade one after the other. The length of all goes to `needed`. A trade with 7 or 9 has no
+/// As many trades are run as `answers` has room for. The texts and the sentences go to `out`, those of a trade
+/// one after the other, as far as it has room; and the length of all to `needed`. A trade with 7 or 9 has no
 /// text and no sentence.
 #[unsafe(no_mangle)]
 pub extern "C" fn irs_run_each(
@@ -89,48 +97,7 @@ pub extern "C" fn irs_run_each(
     ensures { Said words.now common.now trades.now answers.old answers.new out.old out.new needed.new }
 {
     let said = answer_each(alloc, words, common, trades, answers);
-    show(&said, out);
-    *needed = said.len();
-}
-
-/// What the line of an answer means, in one plain sentence. `words` are those of the command;
-/// `status` and `line` are what `irs_run` returned. It returns 0 when done, 7 where memory ran out,
-/// and 9 where a word isn't UTF-8.
-///
-/// The sentence has each word as `shown_words` of irs_plain shows it: one line, without controls. It
-/// goes to `out` as far as it has room, and its length to `needed`, as the text of `irs_run` does. At
-/// 0 as `status` it is empty, but for an audit whose line says that amounts lack a fixing.
-#[unsafe(no_mangle)]
-pub extern "C" fn irs_meaning(
-    alloc: Global,
-    words: &[Bytes<'_>],
-    status: u8,
-    line: &[u8],
-    out: &mut [u8],
-    needed: &mut usize,
-) -> u8
-    // Out of memory, or a word that isn't UTF-8: no sentence.
-    ensures memory { result ≡ 7 → (out.new ≡ out.old) × (needed.new ≡ 0) }
-    ensures not_text { result ≡ 9 → (AreText words.now → ⊥) × (out.new ≡ out.old)
-        × (needed.new ≡ 0) }
-    // The sentence comes only where each word is UTF-8.
-    ensures text { result ≡ 0 → AreText words.now }
-    // It is that of the words as they are shown.
-    ensures done { result ≡ 0 → Shown out.old out.new needed.new
-        (sentence_of (map shown (words_in words.now)) status line.now) }
-    ensures listed { (result ≡ 0) ⊎ ((result ≡ 7) ⊎ (result ≡ 9)) }
-{
-    match sentence(alloc, words, status, line) {
-        Ok(text) => {
-            show(&text, out);
-            *needed = text.len();
-            Status::Done.number()
-        }
-        Err(status) => {
-            *needed = 0;
-            status
-        }
-    }
+    fill(&said, out, needed);
 }
 
 /// Writes what `irs --version` prints: the versions of the program and of the schedule text, and the logic
@@ -141,47 +108,7 @@ pub extern "C" fn irs_meaning(
 pub extern "C" fn irs_version(out: &mut [u8], needed: &mut usize)
     ensures { Shown out.old out.new needed.new VERSION.now }
 {
-    show(VERSION.as_bytes(), out);
-    *needed = VERSION.len();
-}
-
-// The sentence, or 7 or 9 where there is none.
-fn sentence(alloc: Global, words: &[Bytes<'_>], status: u8, line: &[u8]) -> Result<Vec<u8>, u8>
-    ensures done { IfOk result (λ t. t.items ≡ sentence_of (map shown (words_in words.now)) status line.now) }
-    ensures text { IfOk result (λ _. AreText words.now) }
-    ensures not_text { IfErr result (λ s. s ≡ 9 → AreText words.now → ⊥) }
-    ensures err { IfErr result (λ s. (s ≡ 7) ⊎ (s ≡ 9)) }
-{
-    let words = words_of(alloc, words)?;
-    sentence_for(alloc, &words, status, line)
-}
-
-// The sentence for words as text, or 7 where memory ran out.
-pub(crate) fn sentence_for(
-    alloc: Global,
-    words: &[String],
-    status: u8,
-    line: &[u8],
-) -> Result<Vec<u8>, u8>
-    ensures done { IfOk result (λ t. t.items ≡ sentence_of (map shown (texts words.now)) status line.now) }
-    ensures err { IfErr result (λ s. s ≡ 7) }
-{
-    let Ok(shown) = shown_words(alloc, words) else {
-        return Err(Status::NoMemory.number());
-    };
-    joined(alloc, &meaning(&shown, status, line).parts)
-}
-
-// The parts of a sentence one after the other, or 7 where memory ran out.
-fn joined(alloc: Global, parts: &[&[u8]]) -> Result<Vec<u8>, u8>
-    ensures text { IfOk result (λ t. t.items ≡ joined_of (map (λ p. p.now) parts.now)) }
-    ensures err { IfErr result (λ s. s ≡ 7) }
-{
-    let mut text = Vec::new(alloc);
-    for part in parts {
-        append(&mut text, part)?;
-    }
-    Ok(text)
+    fill(VERSION.as_bytes(), out, needed);
 }
 
 // Appends a part, or returns 7 where memory ran out.
@@ -196,44 +123,16 @@ pub(crate) fn append(text: &mut Vec<u8>, part: &[u8]) -> Result<(), u8>
     }
 }
 
-// Status and text, or the status alone where there is no text: 7 or 9.
-fn answer(alloc: Global, words: &[Bytes<'_>], files: &[File<'_>]) -> Result<(u8, Vec<u8>), u8>
-    ensures due { IfOk result (λ r. r.0 ≢ 5 → Due (words_in words.now) (file_in files.now) r.0 r.1.items) }
-    ensures absent { IfOk result (λ r. r.0 ≡ 5 → IsAbsent (words_in words.now) (file_in files.now) r.1.items) }
-    ensures only_unlisted { IfOk result (λ r. r.0 ≡ 4 → IsListed (words_in words.now) → ⊥) }
-    ensures unlisted { IfOk result (λ r. (IsListed (words_in words.now) → ⊥) → r.0 ≡ 4) }
-    ensures ok { IfOk result (λ r. (r.0 < 9) × (r.0 ≢ 6) × (r.0 ≢ 7)) }
+// What the run comes to, or the status alone where there is no text: 7 or 9.
+fn told_for(alloc: Global, words: &[Bytes<'_>], files: &[File<'_>]) -> Result<Told, u8>
+    ensures run { IfOk result (λ t. IsRun (words_in words.now) files.now (outcome_by t)) }
+    ensures ok { IfOk result (λ t. (t.status < 9) × (t.status ≢ 6) × (t.status ≢ 7)) }
     ensures text { IfOk result (λ _. AreText words.now) }
     ensures not_text { IfErr result (λ s. s ≡ 9 → AreText words.now → ⊥) }
     ensures err { IfErr result (λ s. (s ≡ 7) ⊎ (s ≡ 9)) }
 {
     let words = words_of(alloc, words)?;
-    run_kept(alloc, &words, None, files, &[])
-}
-
-// Status and text of a run over the lent files, or 7 where memory ran out.
-pub(crate) fn run_kept(
-    alloc: Global,
-    words: &[String],
-    common: Option<&Common>,
-    files: &[File<'_>],
-    own: &[File<'_>],
-) -> Result<(u8, Vec<u8>), u8>
-    requires { IfSome common (λ c. IsCommonIn (texts words.now) files.now c.now) }
-    ensures due { IfOk result (λ r. r.0 ≢ 5 → Due (texts words.now) (file_in (files.now ++ own.now)) r.0 r.1.items) }
-    ensures absent { IfOk result (λ r. r.0 ≡ 5 → IsAbsent (texts words.now) (file_in (files.now ++ own.now)) r.1.items) }
-    ensures only_unlisted { IfOk result (λ r. r.0 ≡ 4 → IsListed (texts words.now) → ⊥) }
-    ensures unlisted { IfOk result (λ r. (IsListed (texts words.now) → ⊥) → r.0 ≡ 4) }
-    ensures ok { IfOk result (λ r. (r.0 < 9) × (r.0 ≢ 6) × (r.0 ≢ 7)) }
-    ensures err { IfErr result (λ s. s ≡ 7) }
-{
-    let mut source = GivenFiles::new(files, own);
-    let mut kept = Kept::new(alloc);
-    let status = run_with(alloc, words, common, &mut source, &mut kept);
-    if status == Status::PutFailed.number() || status == Status::NoMemory.number() {
-        return Err(Status::NoMemory.number());
-    }
-    Ok((status, kept.text))
+    tell(alloc, &words, None, files, &[])
 }
 
 // The words as text, or 9 where one isn't UTF-8, or 7 where memory ran out.
@@ -256,6 +155,28 @@ pub(crate) fn words_of(alloc: Global, words: &[Bytes<'_>]) -> Result<Vec<String>
         }
     }
     Ok(made)
+}
+
+// Shows a caller the text of a run.
+fn show_text(told: &Told, out: &mut [u8], needed: &mut usize)
+    ensures { Shown out.old out.new needed.new told.now.text.items }
+{
+    fill(&told.text, out, needed);
+}
+
+// Shows a caller the sentence of a run.
+fn show_sentence(told: &Told, said: &mut [u8], needed: &mut usize)
+    ensures { Shown said.old said.new needed.new told.now.sentence.items }
+{
+    fill(&told.sentence, said, needed);
+}
+
+// Copies the front of a text that fits, and sets its length.
+fn fill(text: &[u8], out: &mut [u8], needed: &mut usize)
+    ensures { Shown out.old out.new needed.new text.now }
+{
+    show(text, out);
+    *needed = text.len();
 }
 
 // Copies the front of the text that fits.

@@ -1,6 +1,6 @@
 //! The calls, over words and files in memory.
 use crate::each::Answer;
-use crate::exports::{irs_meaning, irs_run, irs_run_each, irs_version};
+use crate::exports::{irs_run, irs_run_each, irs_version};
 use crate::given::{Bytes, File, Trade};
 use irs_cli::{bulk_calendar, bulk_doc};
 use std::alloc::Global;
@@ -18,20 +18,46 @@ fn words_with_controls() -> [Bytes<'static>; 2] {
     [lent(b"check"), lent(b"\x1b[2J")]
 }
 
+// The status of a run, with the lengths of its text and of its sentence.
+fn run(
+    rt: &HostRuntime,
+    words: &[Bytes<'_>],
+    files: &[File<'_>],
+    out: &mut [u8],
+    said: &mut [u8],
+) -> (u8, usize, usize) {
+    let (mut needed, mut said_needed) = (0, 0);
+    let status = irs_run(
+        rt.alloc(),
+        words,
+        files,
+        out,
+        &mut needed,
+        said,
+        &mut said_needed,
+    );
+    (status, needed, said_needed)
+}
+
 #[test]
 fn a_document_that_is_no_json(rt: HostRuntime) {
     let files = [File {
         name: lent(b"D"),
         bytes: lent(b"["),
     }];
-    let mut out = [b'#'; 32];
-    let mut needed = 0;
-    let status = irs_run(rt.alloc(), &words(), &files, &mut out, &mut needed);
-    assert_eq!(rt; (status, needed), (2, 24));
+    let (mut out, mut said) = ([b'#'; 32], [b'#'; 32]);
+    assert_eq!(rt;
+        run(&rt, &words(), &files, &mut out, &mut said),
+        (2, 24, 27)
+    );
     assert_eq!(rt; &out[..25], b"refused K1 0 document 0\n#".as_slice());
-    let status = irs_run(rt.alloc(), &words(), &[], &mut out[..3], &mut needed);
-    assert_eq!(rt; (status, needed), (5, 10));
+    assert_eq!(rt; &said[..28], b"K1: the document isn't JSON#".as_slice());
+    assert_eq!(rt;
+        run(&rt, &words(), &[], &mut out[..3], &mut said[..2]),
+        (5, 10, 19)
+    );
     assert_eq!(rt; &out[..4], b"no u".as_slice());
+    assert_eq!(rt; &said[..3], b"co:".as_slice());
 }
 
 #[test]
@@ -41,38 +67,20 @@ fn a_document_in_xml(rt: HostRuntime) {
         bytes: lent(b"<swap/>"),
     }];
     let words = [lent(b"carrier"), lent(b"d.xml")];
-    let mut out = [b'#'; 32];
-    let mut needed = 0;
-    let status = irs_run(rt.alloc(), &words, &files, &mut out, &mut needed);
-    assert_eq!(rt; (status, needed), (0, 12));
+    let (mut out, mut said) = ([b'#'; 32], [b'#'; 32]);
+    assert_eq!(rt; run(&rt, &words, &files, &mut out, &mut said), (0, 12, 0));
     assert_eq!(rt; &out[..13], b"{\"swap\":\"\"}\n#".as_slice());
-}
-
-#[test]
-fn what_a_line_means(rt: HostRuntime) {
-    let mut out = [b'#'; 64];
-    let mut needed = 0;
-    let line = b"no file 1\n";
-    let status = irs_meaning(rt.alloc(), &words(), 5, line, &mut out, &mut needed);
-    assert_eq!(rt; (status, needed), (0, 19));
-    assert_eq!(rt; &out[..20], b"couldn't be read: D#".as_slice());
+    assert_eq!(rt; &said[..1], b"#".as_slice());
 }
 
 #[test]
 fn a_name_with_controls(rt: HostRuntime) {
-    let mut out = [b'#'; 64];
-    let mut needed = 0;
-    let line = b"no file 1\n";
-    let status = irs_meaning(
-        rt.alloc(),
-        &words_with_controls(),
-        5,
-        line,
-        &mut out,
-        &mut needed,
+    let (mut out, mut said) = ([b'#'; 32], [b'#'; 32]);
+    assert_eq!(rt;
+        run(&rt, &words_with_controls(), &[], &mut out, &mut said),
+        (5, 10, 25)
     );
-    assert_eq!(rt; (status, needed), (0, 25));
-    assert_eq!(rt; &out[..26], b"couldn't be read: \\x1b[2J#".as_slice());
+    assert_eq!(rt; &said[..26], b"couldn't be read: \\x1b[2J#".as_slice());
 }
 
 #[test]
@@ -156,17 +164,22 @@ fn alone(
     words: &[Bytes<'_>],
     common: Named<'_>,
     own: [Named<'_>; 2],
-    said: &mut Vec<u8>,
+    all: &mut Vec<u8>,
 ) -> Option<u8> {
     let files = [file(common), file(own[0]), file(own[1])];
-    let mut out = [b'#'; 128];
-    let mut needed = 0;
-    let status = irs_run(alloc, words, &files, &mut out, &mut needed);
-    let text = out.get(..needed)?;
-    said.extend_from_slice(text).ok()?;
-    let mut sentence = [b'#'; 128];
-    irs_meaning(alloc, words, status, text, &mut sentence, &mut needed);
-    said.extend_from_slice(sentence.get(..needed)?).ok()?;
+    let (mut out, mut said) = ([b'#'; 128], [b'#'; 128]);
+    let (mut needed, mut said_needed) = (0, 0);
+    let status = irs_run(
+        alloc,
+        words,
+        &files,
+        &mut out,
+        &mut needed,
+        &mut said,
+        &mut said_needed,
+    );
+    all.extend_from_slice(out.get(..needed)?).ok()?;
+    all.extend_from_slice(said.get(..said_needed)?).ok()?;
     Some(status)
 }
 

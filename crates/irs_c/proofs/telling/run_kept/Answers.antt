@@ -4,11 +4,13 @@ use Rattle.irs_cli.specs.Commands.{Words, Wanted, texts}
 use Rattle.irs_cli.specs.Due.{Due}
 use Rattle.irs_cli.specs.Fetching.{FailedAt, Gives, NotLong}
 use Rattle.irs_cli.specs.Given.{Reaches}
-use Rattle.irs_cli.specs.Run.{NoFile, source}
+use Rattle.irs_cli.specs.Causes.{IsCauseOfWritten, IsRunCause, run_status}
+use Rattle.irs_cli.specs.Run.{NoFile, Ran, Source, Written, source}
+use Rattle.irs_cli.specs.declared.causes.RunCause.{RunCause}
 use Rattle.irs_c.specs.Given.{file_in, AbsentAt, IsAbsent}
 use Rattle.irs_c.specs.declared.given.File.{File}
 use Rattle.irs_c.proofs.LentLemmas.{common_for}
-use Rattle.irs_c.proofs.exports.run_kept.Goals as goal
+use Rattle.irs_c.proofs.telling.run_kept.Goals as goal
 
 both_parts : {fs own gs go : List File} → gs ≡ fs → go ≡ own → gs ++ go ≡ fs ++ own
 both_parts e k = cc
@@ -49,28 +51,50 @@ absent ws fs gs hs gives failed faults now before after same told none empty (te
       is_text = missed.is_text;
     }))
 
-pub run_with-requires : goal.run_with-requires
-run_with-requires c =
+-- what a run comes to, by an equal status
+ran_as : (ws : Words) (files : Source) (out : Written) (s t : ℕ) → s ≡ t → Ran ws files out t → Ran ws files out s
+ran_as ws files out s t e h = subst (λ (n : ℕ). Ran ws files out n) (sym e) h
+
+-- the cause of what was written to an empty sink is that of what it keeps
+cause_kept : (ws : Words) (c : RunCause) (s : ℕ) (before after : List ℕ) → s ≡ run_status c → before ≡ []
+    → (s ≡ 6 → ⊥) → (s ≡ 7 → ⊥) → IsCauseOfWritten ws c (Some before) (Some after) → IsRunCause ws c s after
+cause_kept ws c s before after same empty no6 no7 written =
+    let (text, cause, grew) = written (λ e. no6 (same ∙ e)) (λ e. no7 (same ∙ e)) in
+    let is : text ≡ after = grind arith in
+    subst (λ (t : List ℕ). IsRunCause ws c s t) is (subst (λ (n : ℕ). IsRunCause ws c n text) (sym same) cause)
+
+pub cause_of_run-cause-requires : goal.cause_of_run-cause-requires
+cause_of_run-cause-requires c =
     common_for (texts c.args.words.now) c.args.files.now c.args.own.now c.new-source.result.files.now
     c.new-source.result.own.now c.args.common c.new-source.ensures.files c.new-source.ensures.own c.requires
 
 pub returns-clause-due : goal.returns-clause-due
 returns-clause-due c ne5 =
     let same = both_parts c.new-source.ensures.files c.new-source.ensures.own in
+    let ran = ran_as _ _ _ _ _ c.status-status.ensures c.cause_of_run-cause.ensures.ran in
     kept _ _ _ _ _ _ same c.new-kept.ensures
-    (c.run_with-status.ensures.ran.due ne5 (rw c.number.ensures at c.if-status-number.false)
+    (ran.due ne5 (rw c.number.ensures at c.if-status-number.false)
     (rw c.number-else-status-number.ensures at c.if-status-number-2.false))
 
 pub returns-clause-absent : goal.returns-clause-absent
 returns-clause-absent c is5 =
     let same = both_parts c.new-source.ensures.files c.new-source.ensures.own in
-    absent _ _ _ _ _ _ _ _ _ _ same c.run_with-status.ensures.told c.run_with-status.new.files.absent
-    c.new-kept.ensures (c.run_with-status.ensures.ran.failed is5)
+    let ran = ran_as _ _ _ _ _ c.status-status.ensures c.cause_of_run-cause.ensures.ran in
+    absent _ _ _ _ _ _ _ _ _ _ same c.cause_of_run-cause.ensures.told c.cause_of_run-cause.new.files.absent
+    c.new-kept.ensures (ran.failed is5)
 
 pub returns-clause-only_unlisted : goal.returns-clause-only_unlisted
-returns-clause-only_unlisted c is4 = c.run_with-status.ensures.ran.only_unlisted is4
+returns-clause-only_unlisted c is4 =
+    let ran = ran_as _ _ _ _ _ c.status-status.ensures c.cause_of_run-cause.ensures.ran in ran.only_unlisted is4
 
 pub returns-clause-unlisted : goal.returns-clause-unlisted
 returns-clause-unlisted c none =
-    c.run_with-status.ensures.ran.unlisted none (rw c.number.ensures at c.if-status-number.false)
+    let ran = ran_as _ _ _ _ _ c.status-status.ensures c.cause_of_run-cause.ensures.ran in
+    ran.unlisted none (rw c.number.ensures at c.if-status-number.false)
     (rw c.number-else-status-number.ensures at c.if-status-number-2.false)
+
+pub returns-clause-cause : goal.returns-clause-cause
+returns-clause-cause c =
+    cause_kept _ _ _ _ _ c.status-status.ensures c.new-kept.ensures
+    (rw c.number.ensures at c.if-status-number.false)
+    (rw c.number-else-status-number.ensures at c.if-status-number-2.false) c.cause_of_run-cause.ensures.cause
