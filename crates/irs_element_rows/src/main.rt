@@ -14,6 +14,7 @@ use table_lines::tell_tables;
 use told::Told;
 
 mod answers;
+mod causes;
 mod edits;
 mod file_rows;
 mod flow_lines;

@@ -8,18 +8,26 @@ use irs_elements::{comes_before, earlier};
 // A rule by its name; the rows have these.
 fn rule_of(name: &str) -> Option<Rule> {
     match name {
+        "K1" => Some(Rule::K1),
         "K2" => Some(Rule::K2),
         "K3" => Some(Rule::K3),
+        "K4" => Some(Rule::K4),
+        "K5" => Some(Rule::K5),
         "K6" => Some(Rule::K6),
         "K7" => Some(Rule::K7),
         "K10" => Some(Rule::K10),
+        "K12" => Some(Rule::K12),
+        "K13" => Some(Rule::K13),
+        "K38" => Some(Rule::K38),
         "K39" => Some(Rule::K39),
+        "K46" => Some(Rule::K46),
+        "K49" => Some(Rule::K49),
         _ => None,
     }
 }
 
-// The element with a path.
-fn elem_of(path: &str) -> Option<Elem> {
+/// The element with a path.
+pub fn elem_of(path: &str) -> Option<Elem> {
     for place in 0..u8::MAX {
         let elem = Elem::at(place)?;
         if elem.path() == path {
@@ -29,8 +37,8 @@ fn elem_of(path: &str) -> Option<Elem> {
     None
 }
 
-// The broken rule of a text: the rule, the number of the stream, the element and the index.
-fn broken_of(text: &str) -> Option<Broken> {
+/// The broken rule of a text: the rule, the number of the stream, the element and the index.
+pub fn broken_of(text: &str) -> Option<Broken> {
     let (rule, rest) = text.split_once(' ')?;
     let (stream, rest) = rest.split_once(' ')?;
     let (path, index) = rest.split_once(' ')?;

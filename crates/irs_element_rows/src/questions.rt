@@ -24,9 +24,9 @@ pub enum Subject {
     Order,
     /// Files in memory and real ones, by irs_outside.
     Files,
-    /// Sinks in memory, by irs_outside and irs_plain.
+    /// Sinks in memory, by irs_outside.
     Sinks,
-    /// The sentences for lines of the program, by irs_plain.
+    /// The sentences on what runs came to, by irs_plain.
     Sentences,
 }
 

@@ -1,34 +1,27 @@
 //! The rows of sentences. Each has a status, the words of a command line and the line that the
 //! program wrote, and says the sentence for them.
+use crate::causes::cause_of;
 use crate::told::Told;
 use crate::words::words_of;
-use irs_plain::{Sentence, meaning};
+use irs_outside::MemSink;
+use irs_plain::put_sentence;
 use std::alloc::Global;
 
-// The line with its end, or nothing where there is no line.
-fn line_of(alloc: Global, text: &str) -> Option<String> {
-    let end = if text.is_empty() { "" } else { "\n" };
-    format!(in alloc; "{text}{end}").ok()
-}
+/// The most bytes of a sentence of the rows.
+const ROOM: usize = 512;
 
-// The parts of a sentence, one after the other; `none` where they are empty.
-fn tell_parts(told: &mut Told, sentence: &Sentence) {
-    let mut is_empty = true;
-    for part in &sentence.parts {
-        told.bytes(part);
-        is_empty = is_empty && part.is_empty();
-    }
-    if is_empty {
-        told.text("none");
-    }
-}
-
-/// Reports the sentence for a status, the words of a command and a line, `|` between the two.
+/// Reports the sentence for a status, the words of a command and a line, `|` between the two; `none` where it is
+/// empty.
 pub fn tell_sentence(told: &mut Told, alloc: Global, kind: &str, given: &str) -> Option<()> {
     let status = kind.strip_prefix("status ")?.parse::<u8>().ok()?;
     let (words, line) = given.split_once(" | ")?;
     let words = words_of(alloc, words)?;
-    let line = line_of(alloc, line)?;
-    tell_parts(told, &meaning(&words, status, line.as_bytes()));
+    let mut said = MemSink::with_room(alloc, ROOM).ok()?;
+    put_sentence(&mut said, &words, cause_of(status, line)?).ok()?;
+    if said.bytes().is_empty() {
+        told.text("none");
+    } else {
+        told.bytes(said.bytes());
+    }
     Some(())
 }

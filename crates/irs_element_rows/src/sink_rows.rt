@@ -3,7 +3,6 @@
 use crate::answers::Answers;
 use crate::told::Told;
 use irs_outside::{MemSink, PutFailed, Sink, SureSink};
-use irs_plain::Kept;
 use std::alloc::Global;
 
 /// A sink that is tried.
@@ -11,8 +10,6 @@ use std::alloc::Global;
 enum Tried {
     /// `memory ROOM`: a sink in memory, with room for ROOM bytes.
     Memory(MemSink),
-    /// `kept ROOM`: one that keeps the first bytes, over a sink in memory.
-    Kept(Kept<MemSink>),
     /// `sure`: a sink that never fails.
     Sure(SureSink),
 }
@@ -37,7 +34,6 @@ fn sink_of(alloc: Global, name: &str) -> Option<Tried> {
     let room = room.parse::<usize>().ok()?;
     match kind {
         "memory" => Some(Tried::Memory(MemSink::with_room(alloc, room).ok()?)),
-        "kept" => Some(Tried::Kept(Kept::new(MemSink::with_room(alloc, room).ok()?))),
         "sure" => Some(Tried::Sure(SureSink::new())),
         _ => None,
     }
@@ -73,14 +69,13 @@ impl Tried {
                 sink.fail_at(call);
                 Some(())
             }
-            Tried::Kept(_) | Tried::Sure(_) => None,
+            Tried::Sure(_) => None,
         }
     }
 
     fn put(&mut self, bytes: &[u8]) -> Result<(), PutFailed> {
         match self {
             Tried::Memory(sink) => sink.put(bytes),
-            Tried::Kept(sink) => sink.put(bytes),
             Tried::Sure(sink) => sink.put(bytes),
         }
     }
@@ -89,7 +84,6 @@ impl Tried {
     fn bytes(&self) -> Option<&[u8]> {
         match self {
             Tried::Memory(sink) => Some(sink.bytes()),
-            Tried::Kept(sink) => Some(sink.front()),
             Tried::Sure(_) => None,
         }
     }

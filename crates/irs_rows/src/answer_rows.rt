@@ -4,7 +4,6 @@ use crate::named_files::files_of;
 use anyhow::Result;
 use irs_cli::MemSink;
 use irs_main::answer;
-use irs_plain::Kept;
 
 // Prints after `!` what is said, where anything is.
 fn print_said(rt: &HostRuntime, said: &[u8]) -> Result<()> {
@@ -16,17 +15,17 @@ fn print_said(rt: &HostRuntime, said: &[u8]) -> Result<()> {
 }
 
 /// `answer ROOM ROOM WORDS`: standard output has room for the first number of bytes, standard error
-/// for the second. Prints the first 512 bytes that were written to standard output, also those
-/// without room. Then come what is said on standard error, and the status.
+/// for the second. Prints what standard output has, then what is said on standard error, and the
+/// status.
 pub fn run_answer(rt: &HostRuntime, rest: &str) -> Result<()> {
     let (out_room, rest) = first_number(rest)?;
     let (error_room, command) = first_number(rest)?;
     let words = words_of(rt.alloc(), command)?;
     let mut files = files_of(rt, &words)?;
-    let mut out = Kept::new(MemSink::with_room(rt.alloc(), out_room as usize)?);
+    let mut out = MemSink::with_room(rt.alloc(), out_room as usize)?;
     let mut errors = MemSink::with_room(rt.alloc(), error_room as usize)?;
-    let status = answer(rt.alloc(), &words, &mut files, &mut out, &mut errors);
-    print_text(rt, out.front())?;
+    let cause = answer(rt.alloc(), &words, &mut files, &mut out, &mut errors);
+    print_text(rt, out.bytes())?;
     print_said(rt, errors.bytes())?;
-    print_status(rt, status)
+    print_status(rt, cause.status())
 }
