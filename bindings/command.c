@@ -32,12 +32,14 @@ int main(int argc, char **argv) {
     size_t room = 1 << 16, needed = 0;
     uint8_t *out = malloc(room);
     if (!out) return 7;
-    int status = irs_run(words, n_words, files, n_files, out, room, &needed);
+    size_t said_needed = 0;
+    uint8_t said[1];
+    int status = irs_run(words, n_words, files, n_files, out, room, &needed, said, 0, &said_needed);
     if (needed > room) {
         free(out);
         room = needed;
         if (!(out = malloc(room))) return 7;
-        status = irs_run(words, n_words, files, n_files, out, room, &needed);
+        status = irs_run(words, n_words, files, n_files, out, room, &needed, said, 0, &said_needed);
     }
     fwrite(out, 1, needed, stdout);
     for (size_t i = 0; i < n_files; i++) free((void *)files[i].bytes.at);

@@ -9,36 +9,44 @@ int main(void) {
     struct irs_bytes words[] = { S("check"), S("D") };
     struct irs_file files[] = { { S("C"), S("") }, { S("D"), S("[") }, { S("D"), S("third") } };
     const char *refused = "refused K1 0 document 0\n";
-    size_t length = strlen(refused), needed = 99;
-    uint8_t out[64];
+    size_t length = strlen(refused), needed = 99, told = 99;
+    const char *sentence = "K1: the document isn't JSON";
+    uint8_t out[64], said[64];
     memset(out, '#', sizeof out);
-    CHECK(irs_run(words, 2, files, 3, out, sizeof out, &needed) == 2);
+    memset(said, '#', sizeof said);
+    CHECK(irs_run(words, 2, files, 3, out, sizeof out, &needed, said, sizeof said, &told) == 2);
     CHECK(needed == length && memcmp(out, refused, length) == 0 && out[length] == '#');
+    CHECK(told == strlen(sentence) && memcmp(said, sentence, told) == 0 && said[told] == '#');
     /* a short buffer */
     memset(out, '#', sizeof out);
-    CHECK(irs_run(words, 2, files, 3, out, 3, &needed) == 2);
+    CHECK(irs_run(words, 2, files, 3, out, 3, &needed, said, sizeof said, &told) == 2);
     CHECK(needed == length && memcmp(out, "ref#", 4) == 0);
     /* no buffer: only the length */
-    CHECK(irs_run(words, 2, files, 3, out, 0, &needed) == 2 && needed == length);
+    CHECK(irs_run(words, 2, files, 3, out, 0, &needed, said, sizeof said, &told) == 2 && needed == length);
     /* a file that isn't lent */
-    CHECK(irs_run(words, 2, files, 1, out, 64, &needed) == 5 && needed == 10 && !memcmp(out, "no file 1\n", 10));
-    CHECK(irs_run(words, 2, files, 0, out, 64, &needed) == 5);
+    CHECK(irs_run(words, 2, files, 1, out, 64, &needed, said, sizeof said, &told) == 5 && needed == 10 && !memcmp(out, "no file 1\n", 10));
+    CHECK(irs_run(words, 2, files, 0, out, 64, &needed, said, sizeof said, &told) == 5);
     /* no words, and words that are no command */
-    CHECK(irs_run(words, 0, files, 3, out, 64, &needed) == 4 && needed == 10 && !memcmp(out, "bad words\n", 10));
-    CHECK(irs_run(words, 1, files, 3, out, 64, &needed) == 4);
+    CHECK(irs_run(words, 0, files, 3, out, 64, &needed, said, sizeof said, &told) == 4 && needed == 10 && !memcmp(out, "bad words\n", 10));
+    CHECK(irs_run(words, 1, files, 3, out, 64, &needed, said, sizeof said, &told) == 4);
     /* a word that isn't UTF-8 */
     struct irs_bytes bad[] = { S("check"), S("\xff\xfe") };
     memset(out, '#', sizeof out);
-    CHECK(irs_run(bad, 2, files, 3, out, 64, &needed) == 9 && needed == 0 && out[0] == '#');
-    /* what a line means: one line, with the controls of a word shown by their numbers */
+    CHECK(irs_run(bad, 2, files, 3, out, 64, &needed, said, sizeof said, &told) == 9 && needed == 0 && out[0] == '#');
+    CHECK(told == 0);
+    /* what the text means: one line, with the controls of a word shown by their numbers */
     struct irs_bytes named[] = { S("check"), S("\x1b[2J\n") };
-    memset(out, '#', sizeof out);
-    CHECK(irs_meaning(named, 2, 5, (const uint8_t *)"no file 1\n", 10, out, sizeof out, &needed) == 0);
-    CHECK(needed == 29 && !memcmp(out, "couldn't be read: \\x1b[2J\\x0a#", 30));
-    CHECK(irs_meaning(bad, 2, 5, (const uint8_t *)"no file 1\n", 10, out, sizeof out, &needed) == 9 && needed == 0);
+    memset(said, '#', sizeof said);
+    CHECK(irs_run(named, 2, files, 3, out, sizeof out, &needed, said, sizeof said, &told) == 5);
+    CHECK(told == 29 && !memcmp(said, "couldn't be read: \\x1b[2J\\x0a#", 30));
+    /* little room for the sentence, and none */
+    memset(said, '#', sizeof said);
+    CHECK(irs_run(words, 2, files, 3, out, sizeof out, &needed, said, 2, &told) == 2);
+    CHECK(told == strlen(sentence) && needed == length && !memcmp(said, "K1#", 3));
+    CHECK(irs_run(words, 2, files, 3, out, sizeof out, &needed, said, 0, &told) == 2 && told == strlen(sentence));
     /* any bytes in the name and the contents of a file that no word names */
     struct irs_file odd[] = { { S("\xff\0\xc0"), S("x") }, { S("D"), S("\0\xff\xfe\0") } };
-    CHECK(irs_run(words, 2, odd, 2, out, 64, &needed) == 2 && needed == length);
+    CHECK(irs_run(words, 2, odd, 2, out, 64, &needed, said, sizeof said, &told) == 2 && needed == length);
     /* many trades: each its own answer, one more than there is room for, a short buffer, and words that aren't UTF-8 */
     struct irs_file own[] = { { S("D"), S("[") } };
     struct irs_trade trades[] = { { own, 1 }, { own, 0 }, { own, 1 } };

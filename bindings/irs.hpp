@@ -111,19 +111,6 @@ template <typename Call> std::pair<int, std::string> filled(std::size_t room, Ca
 
 } // namespace detail
 
-// What the line of an answer means, in one plain sentence; empty at status 0, but for an audit whose amounts lack
-// fixings.
-inline std::string meaning(const words &asked, int status, std::string_view line) {
-    const std::vector<irs_bytes> lent_words = detail::lent(asked);
-    const irs_bytes lent_line = detail::lent(line);
-    auto told = detail::filled(1024, [&](uint8_t *out, std::size_t length, std::size_t *needed) {
-        return irs_meaning(lent_words.data(), asked.size(), static_cast<uint8_t>(status), lent_line.at, lent_line.len,
-                           out, length, needed);
-    });
-    if (told.first == 7) throw std::bad_alloc();
-    return std::move(told.second);
-}
-
 // What `irs --version` prints: the versions, and the logic sum of the kit that proves the library.
 inline std::string version() {
     auto told = detail::filled(256, [](uint8_t *out, std::size_t length, std::size_t *needed) {
@@ -141,12 +128,22 @@ inline answer run(const words &asked, const files &lent_files) {
     pairs.reserve(lent_files.size() + 1);
     for (const file &each : lent_files) pairs.push_back({detail::lent(each.name), detail::lent(each.bytes)});
     pairs.push_back({detail::lent(std::string_view()), detail::lent(std::string_view())});
+    std::string sentence(1024, '\0');
+    std::size_t said = 0;
     auto told = detail::filled(std::size_t(1) << 16, [&](uint8_t *out, std::size_t length, std::size_t *needed) {
-        return irs_run(lent_words.data(), asked.size(), pairs.data(), lent_files.size(), out, length, needed);
+        const auto call = [&] {
+            return irs_run(lent_words.data(), asked.size(), pairs.data(), lent_files.size(), out, length, needed,
+                           reinterpret_cast<uint8_t *>(&sentence[0]), sentence.size(), &said);
+        };
+        int status = call();
+        if (said > sentence.size()) {
+            sentence.resize(said);
+            status = call();
+        }
+        return status;
     });
     if (told.first == 7) throw std::bad_alloc();
-    const std::string_view text = told.second;
-    std::string sentence = told.first == 0 ? std::string() : meaning(asked, told.first, text.substr(0, text.find('\n')));
+    sentence.resize(said);
     return answer(told.first, std::move(told.second), std::move(sentence));
 }
 

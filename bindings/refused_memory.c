@@ -23,29 +23,32 @@ static struct irs_bytes read_file(const char *name) {
 }
 
 int main(int argc, char **argv) {
-    enum { ROOM = 1 << 16 };
+    enum { ROOM = 1 << 16, SAID = 1 << 10 };
     static struct irs_bytes words[32];
     static struct irs_file files[32];
-    static uint8_t want[ROOM], out[ROOM];
-    size_t n = (size_t)argc - 1, needed, whole;
+    static uint8_t want[ROOM], out[ROOM], want_said[SAID], said[SAID];
+    size_t n = (size_t)argc - 1, needed, whole, said_needed, said_whole;
     for (size_t i = 0; i < n && i < 32; i++) {
         words[i] = irs_lend(argv[i + 1], strlen(argv[i + 1]));
         files[i].name = words[i];
         files[i].bytes = i ? read_file(argv[i + 1]) : irs_lend("", 0);
     }
     calls = 0;
-    uint8_t own = irs_run(words, n, files, n, want, ROOM, &whole);
+    uint8_t own = irs_run(words, n, files, n, want, ROOM, &whole, want_said, SAID, &said_whole);
     long all = calls, refused = 0;
     for (long k = 0; k < all; k++) {
         memset(out, '#', ROOM);
-        needed = 77;
+        memset(said, '#', SAID);
+        needed = said_needed = 77;
         left = k;
-        uint8_t status = irs_run(words, n, files, n, out, ROOM, &needed);
+        uint8_t status = irs_run(words, n, files, n, out, ROOM, &needed, said, SAID, &said_needed);
         left = -1;
         if (status == 7) {
             refused++;
-            if (needed != 0 || out[0] != '#') return printf("allocation %ld: something was written\n", k), 1;
-        } else if (status != own || needed != whole || memcmp(out, want, whole < ROOM ? whole : ROOM)) {
+            if (needed != 0 || out[0] != '#' || said_needed != 0 || said[0] != '#')
+                return printf("allocation %ld: something was written\n", k), 1;
+        } else if (status != own || needed != whole || memcmp(out, want, whole < ROOM ? whole : ROOM)
+                   || said_needed != said_whole || memcmp(said, want_said, said_whole < SAID ? said_whole : SAID)) {
             return printf("allocation %ld: status %d\n", k, status), 1;
         }
     }

@@ -5,19 +5,20 @@
 #include <stdio.h>
 #include <stdlib.h>
 #include <string.h>
-enum { ROOM = 1 << 16, THREADS = 8 };
+enum { ROOM = 1 << 16, SAID = 1 << 10, THREADS = 8 };
 static struct irs_bytes words[32];
 static struct irs_file files[32];
-static size_t n, whole;
+static size_t n, whole, said_whole;
 static long count;
-static uint8_t want[ROOM], own;
+static uint8_t want[ROOM], want_said[SAID], own;
 
 static void *work(void *p) {
-    uint8_t *out = malloc(ROOM);
+    uint8_t *out = malloc(ROOM), said[SAID];
     for (long k = 0; k < count; k++) {
-        size_t needed;
-        uint8_t status = irs_run(words, n, files, n, out, ROOM, &needed);
+        size_t needed, told;
+        uint8_t status = irs_run(words, n, files, n, out, ROOM, &needed, said, SAID, &told);
         if (status != own || needed != whole || memcmp(out, want, whole)) return (void *)1;
+        if (told != said_whole || memcmp(said, want_said, told < SAID ? told : SAID)) return (void *)1;
     }
     free(out);
     return p;
@@ -36,7 +37,7 @@ int main(int argc, char **argv) {
             fclose(file);
         }
     }
-    own = irs_run(words, n, files, n, want, ROOM, &whole);
+    own = irs_run(words, n, files, n, want, ROOM, &whole, want_said, SAID, &said_whole);
     if (whole > ROOM) return puts("the text is too long for this test"), 1;
     pthread_t threads[THREADS];
     int bad = 0;

@@ -18,8 +18,8 @@ struct input {
 
 struct answer {
     uint8_t status;
-    uint8_t *text;
-    size_t length;
+    uint8_t *text, *said;
+    size_t length, said_length;
 };
 
 static void broken(const char *what) {
@@ -79,20 +79,35 @@ static void drop(struct input *in) {
     }
 }
 
-/* The answer to the words: first with no room for the text, then with all of it. */
+/* Room for a text of this length, with a byte after it that nobody may write. */
+static uint8_t *room_for(size_t length) {
+    uint8_t *room = malloc(length + 1);
+    if (!room) abort();
+    room[length] = UNTOUCHED;
+    return room;
+}
+
+/* The answer to the words: first with no room for the text and the sentence, then with all of it. */
 static struct answer run(const struct irs_bytes *words, size_t n_words, const struct irs_file *files, size_t n_files) {
     struct answer is;
-    size_t again = 0;
+    size_t again = 0, said_again = 0;
     uint8_t none[1] = {UNTOUCHED};
-    is.status = irs_run(words, n_words, files, n_files, none, 0, &is.length);
+    is.status = irs_run(words, n_words, files, n_files, none, 0, &is.length, none, 0, &is.said_length);
     if (none[0] != UNTOUCHED) broken("a byte is written where there is no room");
-    is.text = malloc(is.length + 1);
-    if (!is.text) abort();
-    is.text[is.length] = UNTOUCHED;
-    if (irs_run(words, n_words, files, n_files, is.text, is.length + 1, &again) != is.status || again != is.length)
+    is.text = room_for(is.length);
+    is.said = room_for(is.said_length);
+    uint8_t status = irs_run(words, n_words, files, n_files, is.text, is.length + 1, &again, is.said,
+                             is.said_length + 1, &said_again);
+    if (status != is.status || again != is.length || said_again != is.said_length)
         broken("the second call answers otherwise");
-    if (is.text[is.length] != UNTOUCHED) broken("a byte is written after the text");
+    if (is.text[is.length] != UNTOUCHED || is.said[is.said_length] != UNTOUCHED)
+        broken("a byte is written after the text");
     return is;
+}
+
+static void let_go(struct answer *is) {
+    free(is->text);
+    free(is->said);
 }
 
 /* Whether a text has a form: `%d` is a number, `%w` a word, and every other character is itself. */
@@ -199,24 +214,18 @@ static void look_at(const struct answer *is, const struct input *in) {
     }
 }
 
-/* The meaning of an answer is one line without controls, and none where all is done. */
-static void look_at_meaning(const struct answer *is, const struct input *in) {
-    size_t length = 0, again = 0;
-    uint8_t done = irs_meaning(in->words, in->n_words, is->status, is->text, is->length, (uint8_t *)"", 0, &length);
+/* The sentence of an answer is one line without controls. There is none where all is done, but for an audit that
+   lacks fixings, and none where a word isn't text. */
+static void look_at_sentence(const struct answer *is, const struct input *in) {
     if (is->status == 9) {
-        if (done != 9 || length) broken("a meaning for words that aren't text");
+        if (is->said_length) broken("a meaning for words that aren't text");
         return;
     }
-    if (done != 0 || (length == 0) != (is->status == 0)) broken("a status without a meaning, or 0 with one");
-    uint8_t *text = malloc(length + 1);
-    if (!text) abort();
-    text[length] = UNTOUCHED;
-    irs_meaning(in->words, in->n_words, is->status, is->text, is->length, text, length + 1, &again);
-    if (again != length || text[length] != UNTOUCHED) broken("the second call means otherwise");
-    if (memchr(text, '\n', length)) broken("a meaning of several lines");
-    for (size_t i = 0; i < length; i++)
-        if (text[i] < ' ' || text[i] == 127) broken("a control character in a meaning");
-    free(text);
+    int may_speak = is->status == 0 && is_word(in->words[0], "audit");
+    if ((is->said_length == 0) != (is->status == 0) && !may_speak) broken("a status without a meaning, or 0 with one");
+    if (memchr(is->said, '\n', is->said_length)) broken("a meaning of several lines");
+    for (size_t i = 0; i < is->said_length; i++)
+        if (is->said[i] < ' ' || is->said[i] == 127) broken("a control character in a meaning");
 }
 
 /* `schedule` without fixings keeps and breaks the rules that `check` does. */
@@ -231,7 +240,7 @@ static void compare_with_schedule(const struct answer *is, const struct input *i
     if (made.status != is->status) broken("check and schedule differ in their status");
     if (made.status != 0 && (made.length != is->length || memcmp(made.text, is->text, made.length)))
         broken("check and schedule differ in their line");
-    free(made.text);
+    let_go(&made);
 }
 
 /* What is emitted is audited with yes. */
@@ -249,7 +258,7 @@ static void audit_emitted(const struct answer *is, const struct input *in) {
     memcpy(files + 1, in->files, in->n_files * sizeof *files);
     struct answer audited = run(words, in->n_words + 1, files, in->n_files + 1);
     if (audited.status != 0 || !begins(&audited, "yes ")) broken("what is emitted isn't audited with yes");
-    free(audited.text);
+    let_go(&audited);
 }
 
 int LLVMFuzzerTestOneInput(const uint8_t *at, size_t length) {
@@ -259,10 +268,10 @@ int LLVMFuzzerTestOneInput(const uint8_t *at, size_t length) {
     if (in.n_words > 0 && !is_word(in.words[0], "bulk")) {
         struct answer is = run(in.words, in.n_words, in.files, in.n_files);
         look_at(&is, &in);
-        look_at_meaning(&is, &in);
+        look_at_sentence(&is, &in);
         if (is_word(in.words[0], "check")) compare_with_schedule(&is, &in);
         if (is_word(in.words[0], "emit")) audit_emitted(&is, &in);
-        free(is.text);
+        let_go(&is);
     }
     drop(&in);
     return 0;

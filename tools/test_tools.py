@@ -447,7 +447,7 @@ class Fuzz(InRoom):
             memcpy(out, text, *needed < room ? *needed : room);
         }
         uint8_t irs_run(const struct irs_bytes *words, size_t n_words, const struct irs_file *files, size_t n_files,
-                        uint8_t *out, size_t room, size_t *needed) {
+                        uint8_t *out, size_t room, size_t *needed, uint8_t *said, size_t said_room, size_t *said_needed) {
             int audit = words[0].len == 5 && words[0].at[0] == 'a', emit = words[0].at[0] == 'e';
             uint8_t status = 4;
             const char *text = "bad words\n";
@@ -456,13 +456,8 @@ class Fuzz(InRoom):
             if (audit) status = 0, text = "yes 4 0\n";
             MISTAKE;
             show(text, out, room, needed);
+            show(status ? MEANING : "", said, said_room, said_needed);
             return status;
-        }
-        uint8_t irs_meaning(const struct irs_bytes *words, size_t n_words, uint8_t status, const uint8_t *line,
-                            size_t length, uint8_t *out, size_t room, size_t *needed) {
-            (void)words, (void)n_words, (void)line, (void)length;
-            show(status ? MEANING : "", out, room, needed);
-            return 0;
         }
     """
 

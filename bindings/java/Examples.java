@@ -43,7 +43,7 @@ public final class Examples {
         Irs.Answer answer = Irs.run(words, files);
         check(answer.status() == status, folder + ": status " + answer.status());
         check(Arrays.equals(answer.text(), Files.readAllBytes(folder.resolve("output"))), folder + ": text");
-        check(Irs.meaning(words, answer).isEmpty() == (status == 0), folder + ": sentence");
+        check(answer.sentence().isEmpty() == (status == 0), folder + ": sentence");
         try {
             check(Irs.ask(words, files).equals(answer.string()) && status <= 1, folder + ": ask");
         } catch (Irs.Refused refused) {

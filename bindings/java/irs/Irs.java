@@ -11,15 +11,18 @@ import java.util.List;
 import java.util.Map;
 
 /**
- * libirs for Java 17, by JNA: words and files in, status and text out. Words, files, texts and statuses are those of
+ * libirs for Java 17, by JNA: words and files in, status, text and sentence out. Words, files, texts and statuses are those of
  * the program (docs/FORMATS.md).
  *
  * <p>The system property {@code irs.library} names the library's file; without it {@code libirs.so.1} is looked
  * for where the system's linker looks. Nothing is kept between calls, so threads may call side by side.
  */
 public final class Irs {
-    /** What a command comes to: the status of the program, and the text that it prints, in UTF-8. */
-    public record Answer(int status, byte[] text) {
+    /**
+     * What a command comes to: the status of the program, the text that it prints, in UTF-8, and what that means in
+     * one plain sentence. The sentence is empty at status 0, but for an audit whose amounts lack fixings.
+     */
+    public record Answer(int status, byte[] text, String sentence) {
         /** The text as a string. */
         public String string() {
             return new String(text, StandardCharsets.UTF_8);
@@ -64,20 +67,18 @@ public final class Irs {
     /** The calls of irs.h. */
     interface Calls extends Library {
         byte irs_run(Pointer words, Size wordCount, Pointer files, Size fileCount, Pointer out, Size outLength,
-                     Pointer needed);
-
-        byte irs_meaning(Pointer words, Size wordCount, byte status, Pointer line, Size lineLength, Pointer out,
-                         Size outLength, Pointer needed);
+                     Pointer needed, Pointer said, Size saidLength, Pointer saidNeeded);
 
         void irs_version(Pointer out, Size outLength, Pointer needed);
     }
 
-    /** A call of the library that fills a buffer. */
+    /** A call of the library that fills a buffer with a text, and one with a sentence. */
     private interface Filled {
-        byte call(Pointer out, Size length, Pointer needed);
+        byte call(Pointer out, Size length, Pointer needed, Pointer said, Size saidLength, Pointer saidNeeded);
     }
 
     private static final int ROOM = 1 << 16;
+    private static final int SENTENCE_ROOM = 1 << 10;
     private static final int PAIR = Native.POINTER_SIZE + Native.SIZE_T_SIZE;
     private static final Calls CALLS = Native.load(System.getProperty("irs.library", "libirs.so.1"), Calls.class);
 
@@ -94,9 +95,9 @@ public final class Irs {
         Pairs lentFiles = new Pairs(2 * files.size());
         files.forEach((name, bytes) -> lentFiles.add(utf8(name)).add(bytes));
         try {
-            return filled((out, length, needed) -> CALLS.irs_run(
+            return filled((out, length, needed, said, saidLength, saidNeeded) -> CALLS.irs_run(
                 lentWords.memory, new Size(words.size()), lentFiles.memory, new Size(files.size()), out, length,
-                needed));
+                needed, said, saidLength, saidNeeded));
         } finally {
             // The bytes are native memory that the collector frees: they stay until the call is over.
             Reference.reachabilityFence(lentWords);
@@ -104,24 +105,9 @@ public final class Irs {
         }
     }
 
-    /** What the line of an answer means, in one plain sentence; empty at status 0, but for an audit whose amounts
-     * lack fixings. */
-    public static String meaning(List<String> words, Answer answer) {
-        Pairs lentWords = wordsOf(words);
-        byte[] line = utf8(answer.line());
-        Pointer lentLine = bytesOf(line);
-        try {
-            return filled((out, length, needed) -> CALLS.irs_meaning(
-                lentWords.memory, new Size(words.size()), (byte) answer.status(), lentLine, new Size(line.length), out,
-                length, needed)).string();
-        } finally {
-            Reference.reachabilityFence(lentWords);
-        }
-    }
-
     /** What {@code irs --version} prints: the versions, and the logic sum of the kit that proves the library. */
     public static String version() {
-        return filled((out, length, needed) -> {
+        return filled((out, length, needed, said, saidLength, saidNeeded) -> {
             CALLS.irs_version(out, length, needed);
             return 0;
         }).string();
@@ -131,24 +117,31 @@ public final class Irs {
     public static String ask(List<String> words, Map<String, byte[]> files) throws Refused {
         Answer answer = run(words, files);
         if (answer.status() > 1) {
-            throw new Refused(answer.status(), answer.line(), meaning(words, answer));
+            throw new Refused(answer.status(), answer.line(), answer.sentence());
         }
         return answer.string();
     }
 
     private static Answer filled(Filled call) {
-        try (Memory needed = new Memory(Native.SIZE_T_SIZE)) {
-            for (long room = ROOM;;) {
-                try (Memory out = new Memory(room)) {
-                    int status = call.call(out, new Size(room), needed) & 0xff;
+        try (Memory needed = new Memory(Native.SIZE_T_SIZE); Memory saidNeeded = new Memory(Native.SIZE_T_SIZE)) {
+            saidNeeded.clear();
+            long room = ROOM;
+            long saidRoom = SENTENCE_ROOM;
+            for (;;) {
+                try (Memory out = new Memory(room); Memory said = new Memory(saidRoom)) {
+                    int status = call.call(out, new Size(room), needed, said, new Size(saidRoom), saidNeeded) & 0xff;
                     if (status == 7) {
                         throw new OutOfMemoryError("libirs ran out of memory");
                     }
                     long length = needed.getLong(0);
-                    if (length <= room) {
-                        return new Answer(status, out.getByteArray(0, Math.toIntExact(length)));
+                    long saidLength = saidNeeded.getLong(0);
+                    if (length <= room && saidLength <= saidRoom) {
+                        byte[] sentence = said.getByteArray(0, Math.toIntExact(saidLength));
+                        return new Answer(status, out.getByteArray(0, Math.toIntExact(length)),
+                            new String(sentence, StandardCharsets.UTF_8));
                     }
-                    room = length;
+                    room = Math.max(room, length);
+                    saidRoom = Math.max(saidRoom, saidLength);
                 }
             }
         }

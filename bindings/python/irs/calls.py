@@ -21,7 +21,7 @@ from typing import Any, Dict, Iterable, Iterator, List, Mapping, NamedTuple, Opt
 
 from .documents import word_for
 from .errors import error_of
-from .library import Answer, Text, Told, meaning, run, runs_each
+from .library import Answer, Text, Told, run, runs_each
 from .library import run_each as library_run_each
 from .looks import Looks
 from .rows import (
@@ -197,7 +197,8 @@ def _asked(parts: List[Text], files: Dict[str, Text], calendars: Iterable[File])
     answer = run(words, files)
     if answer.status > 1:
         line = answer.text.decode().rstrip("\n")
-        raise error_of(answer.status, line, meaning(words, answer.status, line))
+        sentence = "there wasn't enough memory" if answer.status == 7 else answer.sentence
+        raise error_of(answer.status, line, sentence)
     return answer
 
 
@@ -272,11 +273,7 @@ def _words_of(
 
 def _run_alone(words: Sequence[Text], common: Mapping[str, Text], trades: Sequence[Mapping[str, Text]]) -> List[Told]:
     """What `library.run_each` does, by a call a trade."""
-    told: List[Told] = []
-    for own in trades:
-        answer = run(words, {**own, **common})
-        told.append(Told(answer.status, answer.text, meaning(words, answer.status, answer.text)))
-    return told
+    return [run(words, {**own, **common}) for own in trades]
 
 
 def run_each(

@@ -9,7 +9,7 @@ import json
 from collections.abc import Mapping
 from typing import Any, Iterator, List, Optional, Union
 
-from .library import Text, as_bytes, meaning, run
+from .library import Text, as_bytes, run
 
 Document = Union[Text, Mapping[str, Any]]
 
@@ -39,7 +39,7 @@ def json_of(document: bytes) -> bytes:
     words = ["carrier", word_for("document", document)]
     answer = run(words, {words[1]: document})
     if answer.status:
-        raise NotRead(meaning(words, answer.status, answer.text) or "memory ran out")
+        raise NotRead(answer.sentence or "memory ran out")
     return answer.text
 
 

@@ -1,4 +1,4 @@
-"""The calls of libirs, by ctypes: words and files in, status and text out.
+"""The calls of libirs, by ctypes: words and files in, status, text and sentence out.
 
 It keeps nothing between calls, so threads may call side by side.
 """
@@ -24,8 +24,8 @@ ROOM_OF = {"emit": 1 << 20, "schedule": 1 << 18}
 #: How much room `run_each` has for a trade of another command, in bytes.
 ROOM_OF_EACH = 1 << 12
 
-#: No line that a status other than 0 has is longer than this, in bytes.
-LONGEST_LINE = 512
+#: How much room the first call of :func:`run` has for the sentence, in bytes.
+SENTENCE_ROOM = 1 << 10
 
 
 class _Bytes(ctypes.Structure):
@@ -45,19 +45,16 @@ class _Slot(ctypes.Structure):
 
 
 class Answer(NamedTuple):
-    """What a command comes to: the status of the program, and the text that it prints."""
-
-    status: int
-    text: bytes
-
-
-class Told(NamedTuple):
-    """What a trade comes to: status, text, and what the first line means in one sentence (empty at status 0, but for an
-    audit whose amounts lack fixings)."""
+    """What a command comes to: the status of the program, the text that it prints, and what that means in one sentence
+    (empty at status 0, but for an audit whose amounts lack fixings)."""
 
     status: int
     text: bytes
     sentence: str
+
+
+#: What a trade comes to.
+Told = Answer
 
 
 @functools.lru_cache(maxsize=None)
@@ -74,6 +71,9 @@ def _library() -> ctypes.CDLL:
         ctypes.c_size_t,
         ctypes.POINTER(_File),
         ctypes.c_size_t,
+        ctypes.c_void_p,
+        ctypes.c_size_t,
+        ctypes.POINTER(ctypes.c_size_t),
         ctypes.c_void_p,
         ctypes.c_size_t,
         ctypes.POINTER(ctypes.c_size_t),
@@ -96,17 +96,6 @@ def _library() -> ctypes.CDLL:
     if hasattr(library, "irs_version"):
         library.irs_version.restype = None
         library.irs_version.argtypes = [ctypes.c_void_p, ctypes.c_size_t, ctypes.POINTER(ctypes.c_size_t)]
-    library.irs_meaning.restype = ctypes.c_uint8
-    library.irs_meaning.argtypes = [
-        ctypes.POINTER(_Bytes),
-        ctypes.c_size_t,
-        ctypes.c_uint8,
-        ctypes.c_char_p,
-        ctypes.c_size_t,
-        ctypes.c_void_p,
-        ctypes.c_size_t,
-        ctypes.POINTER(ctypes.c_size_t),
-    ]
     return library
 
 
@@ -152,11 +141,11 @@ def run_each(
 ) -> List[Told]:
     """Does what `run` does for each trade, over the common files and then the trade's own.
 
-    The fixings and the calendars that the words name are read once, where all of them are common. The sentence is that
-    of `meaning`. Where memory runs out the status of a trade is 7, without text and sentence.
+    The fixings and the calendars that the words name are read once, where all of them are common. Where memory runs
+    out the status of a trade is 7, without text and sentence.
 
     >>> run_each(["check", "document"], {}, [{"document": b"["}])
-    [Told(status=2, text=b'refused K1 0 document 0\\n', sentence="K1: the document isn't JSON")]
+    [Answer(status=2, text=b'refused K1 0 document 0\\n', sentence="K1: the document isn't JSON")]
     """
     lent_words = (_Bytes * max(1, len(words)))(*[_lent(word) for word in words])
     lent_common = _lent_files(common)
@@ -198,46 +187,34 @@ def run(words: Sequence[Text], files: Optional[Mapping[str, Text]] = None) -> An
     """Does what the program does on a command line, with files from memory.
 
     `words` are the words after the program's name, `files` the bytes of each file that they name. A
-    file that isn't in `files` is one that can't be read: status 5. Where memory runs out the status is 7.
+    file that isn't in `files` is one that can't be read: status 5. Where memory runs out the status is 7, without text
+    and sentence.
 
     >>> run(["check", "document"], {"document": b"["})
-    Answer(status=2, text=b'refused K1 0 document 0\\n')
+    Answer(status=2, text=b'refused K1 0 document 0\\n', sentence="K1: the document isn't JSON")
     """
     lent_words = (_Bytes * max(1, len(words)))(*[_lent(word) for word in words])
     pairs = [_File(_lent(name), _lent(content)) for name, content in (files or {}).items()]
     lent_files = (_File * max(1, len(pairs)))(*pairs)
-    needed = ctypes.c_size_t()
+    needed, said_needed = ctypes.c_size_t(), ctypes.c_size_t()
     library = _library()
     room = ROOM_OF.get(str(words[0]), ROOM) if words else ROOM
+    said_room = SENTENCE_ROOM
     while True:
-        out = ctypes.create_string_buffer(room)
-        status = library.irs_run(lent_words, len(words), lent_files, len(pairs), out, room, ctypes.byref(needed))
-        if needed.value <= room:
-            return Answer(status, ctypes.string_at(out, needed.value))
-        room = needed.value
-
-
-def meaning(words: Sequence[Text], status: int, line: Text) -> str:
-    """What the line of an answer means, in one plain sentence; empty at status 0, but for an audit whose
-    amounts lack fixings.
-
-    Of a text with several lines it is the first that counts.
-
-    >>> meaning(["check", "document"], 2, "refused K1 0 document 0")
-    "K1: the document isn't JSON"
-    """
-    if status == 0 and as_bytes(words[0] if words else b"") != b"audit":
-        return ""
-    lent_words = (_Bytes * max(1, len(words)))(*[_lent(word) for word in words])
-    said = as_bytes(line)[:LONGEST_LINE]
-    library = _library()
-    needed = ctypes.c_size_t()
-    room = 1024
-    while True:
-        out = ctypes.create_string_buffer(room)
-        done = library.irs_meaning(lent_words, len(words), status, said, len(said), out, room, ctypes.byref(needed))
-        if done != 0:
-            return ""
-        if needed.value <= room:
-            return ctypes.string_at(out, needed.value).decode(errors="replace")
-        room = needed.value
+        out, said = ctypes.create_string_buffer(room), ctypes.create_string_buffer(said_room)
+        status = library.irs_run(
+            lent_words,
+            len(words),
+            lent_files,
+            len(pairs),
+            out,
+            room,
+            ctypes.byref(needed),
+            said,
+            said_room,
+            ctypes.byref(said_needed),
+        )
+        if needed.value <= room and said_needed.value <= said_room:
+            sentence = ctypes.string_at(said, said_needed.value).decode(errors="replace")
+            return Answer(status, ctypes.string_at(out, needed.value), sentence)
+        room, said_room = max(room, needed.value), max(said_room, said_needed.value)

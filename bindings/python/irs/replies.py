@@ -6,7 +6,7 @@ from typing import Dict, List, NamedTuple, Optional
 
 from .documents import XML, is_xml
 from .inputs import Inputs, Named
-from .library import Text, meaning, run
+from .library import Text, run
 from .plain import brief
 
 #: What each command takes after the document (docs/FORMATS.md, 'Commands, lines and statuses').
@@ -76,6 +76,5 @@ def ask(command: str, inputs: Inputs) -> Reply:
         add(calendar)
     contents: Dict[str, Text] = {word: file.content for word, file in files.items()}
     answer = run(words, contents)
-    line = answer.text.decode(errors="replace").partition("\n")[0]
-    sentence = "memory ran out" if answer.status == 7 else meaning(words, answer.status, line) if answer.status else ""
+    sentence = "memory ran out" if answer.status == 7 else answer.sentence if answer.status else ""
     return Reply(answer.status, answer.text, _by_names(sentence, files), files, words)

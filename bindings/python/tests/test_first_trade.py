@@ -24,7 +24,6 @@ PROGRAM = """#!{python}
 import sys
 from pathlib import Path
 import irs
-from irs.library import meaning
 words = sys.argv[1:]
 answer = irs.run(words, {{word: Path(word).read_bytes() for word in words[1:] if Path(word).is_file()}})
 sys.stdout.buffer.write(answer.text)

@@ -368,8 +368,9 @@ class EveryStatus(unittest.TestCase):
         self.assertEqual(irs.errors.error_of(42, "what", "").status, 42)
 
     def test_a_name_with_controls(self):
-        named = irs.library.meaning(["check", "\x1b[2J\nok\u202e"], 5, b"no file 1\n")
-        self.assertEqual(named, r"couldn't be read: \x1b[2J\x0aok\u202e")
+        named = irs.run(["check", "\x1b[2J\nok\u202e"])
+        self.assertEqual((named.status, named.text), (5, b"no file 1\n"))
+        self.assertEqual(named.sentence, r"couldn't be read: \x1b[2J\x0aok\u202e")
 
     def test_wrong_words(self):
         for words, said in (
@@ -377,12 +378,11 @@ class EveryStatus(unittest.TestCase):
             (["shcedule", "D", "-"], "no command shcedule: did you mean schedule?"),
             (["help"], "irs --help explains the commands"),
         ):
-            self.assertEqual(irs.library.run(words, {"D": b""}).text, b"bad words\n")
-            self.assertEqual(irs.library.meaning(words, 4, b"bad words\n"), said)
+            self.assertEqual(irs.library.run(words, {"D": b""}), (4, b"bad words\n", said))
 
-    def test_a_meaning_of_a_long_text(self):
-        self.assertEqual(irs.library.meaning(["emit", "D", "-"], 0, b"x" * 30_000_000), "")
-        self.assertTrue(irs.library.meaning(["check", "D"], 2, b"refused K1 0 document 0\n" + b"x" * 30_000_000))
+    def test_a_sentence_with_a_long_name(self):
+        name = "x" * 100_000
+        self.assertEqual(irs.run(["check", name]).sentence, f"couldn't be read: {name}")
 
 
 class Version(unittest.TestCase):
