@@ -92,7 +92,7 @@ fn sentence_on(alloc: Global, words: &[String], cause: RunCause) -> Result<Vec<u
     ensures err { IfErr result (λ s. s ≡ 7) }
 {
     let mut kept = Kept::new(alloc);
-    match put_sentence(&mut kept, words, cause) {
+    match put_sentence(&mut kept, words, &cause) {
         Ok(()) => Ok(kept.text),
         Err(_) => Err(Status::NoMemory.number()),
     }

@@ -55,11 +55,11 @@ pub enum RunCause {
 
 impl RunCause {
     /// The status.
-    pub fn status(self) -> u8
-        ensures { result ≡ run_status self }
+    pub fn status(&self) -> u8
+        ensures { result ≡ run_status self.now }
     {
         match self {
-            RunCause::Replied(cause) => cause.status(),
+            RunCause::Replied(cause) => (*cause).status(),
             RunCause::BadWords => Status::BadWords.number(),
             RunCause::NoFile(_) => Status::NoFile.number(),
             RunCause::PutFailed => Status::PutFailed.number(),

@@ -67,7 +67,8 @@ pub fn run_with<F: Files, S: Sink>(
         let written = written (S.written out.old) (S.written out.new) (S.faults out.old) (S.faults out.new) in
         Ran (texts words.now) source written result }
 {
-    cause_of_run(alloc, words, common, files, out).status()
+    let cause = cause_of_run(alloc, words, common, files, out);
+    cause.status()
 }
 
 /// Does what `run_with` does, and returns what the run comes to: a sentence about it says that. Its status is

@@ -17,7 +17,7 @@ pub fn tell_sentence(told: &mut Told, alloc: Global, kind: &str, given: &str) ->
     let (words, line) = given.split_once(" | ")?;
     let words = words_of(alloc, words)?;
     let mut said = MemSink::with_room(alloc, ROOM).ok()?;
-    put_sentence(&mut said, &words, cause_of(status, line)?).ok()?;
+    put_sentence(&mut said, &words, &cause_of(status, line)?).ok()?;
     if said.bytes().is_empty() {
         told.text("none");
     } else {

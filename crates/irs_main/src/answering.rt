@@ -62,17 +62,17 @@ pub fn answer<F: Files, S: Sink, E: Sink>(
     match about_itself(words) {
         Some(text) => {
             let cause = print(out, text);
-            explain(errors, &[], cause);
+            explain(errors, &[], &cause);
             cause
         }
         None => match shown_words(alloc, words) {
             Ok(shown) => {
                 let cause = cause_of_run(alloc, words, None, files, out);
-                explain(errors, &shown, cause);
+                explain(errors, &shown, &cause);
                 cause
             }
             Err(_) => {
-                explain(errors, &[], RunCause::NoMemory);
+                explain(errors, &[], &RunCause::NoMemory);
                 RunCause::NoMemory
             }
         },
@@ -108,10 +108,10 @@ fn print<S: Sink>(out: &mut S, text: &str) -> RunCause
 }
 
 /// Says what the words came to, as far as `errors` takes it.
-pub(crate) fn explain<E: Sink>(errors: &mut E, words: &[String], cause: RunCause)
-    ensures said { Explained (explanation_of (map (λ c. c.now) COMMANDS) (texts words.now) cause)
+pub(crate) fn explain<E: Sink>(errors: &mut E, words: &[String], cause: &RunCause)
+    ensures said { Explained (explanation_of (map (λ c. c.now) COMMANDS) (texts words.now) cause.now)
         (E.written errors.old) (E.written errors.new) (E.faults errors.old) (E.faults errors.new) }
-    ensures silent { is_silent_of cause ≡ true → errors.new ≡ errors.old }
+    ensures silent { is_silent_of cause.now ≡ true → errors.new ≡ errors.old }
 {
     if !is_silent(cause) {
         // A standard error that can't be written changes no answer.
@@ -120,13 +120,13 @@ pub(crate) fn explain<E: Sink>(errors: &mut E, words: &[String], cause: RunCause
 }
 
 // Writes the sentence on what the words came to and, where they are no listed command, the listed ones.
-fn tell<E: Sink>(errors: &mut E, words: &[String], cause: RunCause) -> Result<(), PutFailed>
-    requires { is_silent_of cause ≡ false }
+fn tell<E: Sink>(errors: &mut E, words: &[String], cause: &RunCause) -> Result<(), PutFailed>
+    requires { is_silent_of cause.now ≡ false }
     ensures ok { OnOk result (Grew (E.written errors.old) (E.written errors.new)
-        (explanation_of (map (λ c. c.now) COMMANDS) (texts words.now) cause)) }
+        (explanation_of (map (λ c. c.now) COMMANDS) (texts words.now) cause.now)) }
     ensures quiet { OnOk result (E.faults errors.new ≡ E.faults errors.old) }
     ensures err { OnErr result (GrewByFront (E.written errors.old) (E.written errors.new)
-        (explanation_of (map (λ c. c.now) COMMANDS) (texts words.now) cause)) }
+        (explanation_of (map (λ c. c.now) COMMANDS) (texts words.now) cause.now)) }
     ensures rose { OnErr result (Rose (E.faults errors.old) (E.faults errors.new)) }
 {
     put_sentence(errors, words, cause)?;

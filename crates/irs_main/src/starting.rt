@@ -28,7 +28,7 @@ pub fn status_of(rt: &HostRuntime) -> u8
             cause.status()
         }
         Err(cause) => {
-            explain(&mut errors, &[], cause);
+            explain(&mut errors, &[], &cause);
             cause.status()
         }
     }

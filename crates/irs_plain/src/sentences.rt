@@ -514,11 +514,11 @@ fn say(words: &[String], cause: RunCause) -> Sentence<'_>
 
 /// Whether there is nothing to say of what a run comes to. That is so where the command is done and, for an
 /// audit, no amount lacks a fixing.
-pub fn is_silent(cause: RunCause) -> bool
-    ensures { result ≡ is_silent_of cause }
+pub fn is_silent(cause: &RunCause) -> bool
+    ensures { result ≡ is_silent_of cause.now }
 {
     match cause {
-        RunCause::Replied(cause) => is_done(cause),
+        RunCause::Replied(cause) => is_done(*cause),
         RunCause::BadWords => false,
         RunCause::NoFile(_) => false,
         RunCause::PutFailed => false,
@@ -547,14 +547,14 @@ fn is_done(cause: Cause) -> bool
 pub fn put_sentence<S: Sink>(
     out: &mut S,
     words: &[String],
-    cause: RunCause,
+    cause: &RunCause,
 ) -> Result<(), PutFailed>
-    ensures ok { OnOk result (Grew (S.written out.old) (S.written out.new) (sentence_of (texts words.now) cause)) }
+    ensures ok { OnOk result (Grew (S.written out.old) (S.written out.new) (sentence_of (texts words.now) cause.now)) }
     ensures quiet { OnOk result (S.faults out.new ≡ S.faults out.old) }
     ensures err { OnErr result
-        (GrewByFront (S.written out.old) (S.written out.new) (sentence_of (texts words.now) cause)) }
+        (GrewByFront (S.written out.old) (S.written out.new) (sentence_of (texts words.now) cause.now)) }
     ensures rose { OnErr result (Rose (S.faults out.old) (S.faults out.new)) }
 {
-    let sentence = say(words, cause);
+    let sentence = say(words, *cause);
     put_parts(out, &sentence.parts)
 }
