@@ -27,12 +27,12 @@ pub(crate) struct Told {
 }
 
 /// What a run over the lent files comes to, or 7 where memory ran out.
-pub(crate) fn tell(
+pub(crate) fn tell<'a>(
     alloc: Global,
     words: &[String],
     common: Option<&Common>,
-    files: &[File<'_>],
-    own: &[File<'_>],
+    files: &'a [File<'a>],
+    own: &'a [File<'a>],
 ) -> Result<Told, u8>
     requires { IfSome common (λ c. IsCommonIn (texts words.now) files.now c.now) }
     ensures run { IfOk result (λ t. IsRun (texts words.now) (files.now ++ own.now) (outcome_by t)) }
@@ -49,12 +49,12 @@ pub(crate) fn tell(
 }
 
 // Status and text of a run over the lent files with its cause, or 7 where memory ran out.
-fn run_kept(
+fn run_kept<'a>(
     alloc: Global,
     words: &[String],
     common: Option<&Common>,
-    files: &[File<'_>],
-    own: &[File<'_>],
+    files: &'a [File<'a>],
+    own: &'a [File<'a>],
 ) -> Result<(u8, Vec<u8>, RunCause), u8>
     requires { IfSome common (λ c. IsCommonIn (texts words.now) files.now c.now) }
     ensures due { IfOk result (λ r. r.0 ≢ 5 → Due (texts words.now) (file_in (files.now ++ own.now)) r.0 r.1.items) }
