@@ -1,5 +1,5 @@
 //! The rows of one calculation period.
-ghost use Rattle.std.specs.Prelude.{◌≡◌, ◌∷◌, ◌^◌, ◌<◌, ◌<ℤ◌, [], length, IfOk, IfSome};
+ghost use Rattle.std.specs.Prelude.{◌≡◌, ◌^◌, ◌<◌, ◌<ℤ◌, [], length, IfOk, IfSome};
 ghost use Rattle.irs_base.specs.Listed.{IsRising};
 ghost use Rattle.irs_base.specs.Members.{day_at};
 ghost use Rattle.irs_base.specs.Outcomes.{Meets};

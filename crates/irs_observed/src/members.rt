@@ -1,6 +1,6 @@
 //! The members of an observation period: its first day, and each business day after it.
 ghost use Rattle.std.specs.Prelude.{◌≡◌, ◌↔◌, ℤ, IsTrue, IfOk, pos, ◌<ℤ◌, ◌≤ℤ◌, ◌+ℤ◌};
-ghost use Rattle.irs_calendar.specs.GoodDays.{InCover, IsGood};
+ghost use Rattle.irs_calendar.specs.GoodDays.{IsGood};
 ghost use Rattle.irs_observed.specs.PeriodMembers.{AreMembers, LeavesCover};
 
 use irs_base::{Day, DayList, Memory, ahead};
