@@ -346,13 +346,13 @@ pub fn helped() -> Day
 }
 """,
         "low/specs/Days.antt": """-- IsNight isn't named here: last
-use Rattle.low.specs.Other.{sunday, day}
+use Rattle.low.specs.Other.{sunday, monday, day}
 
 mutual
   -- a day
   pub record IsDay (n : Day) : Type 0 where
     pub on : IsAt n
-    pub named : "last"
+    pub named : "-- last" × monday
 
   -- its place
   abbrev pub IsAt : Day -> Type 0
