@@ -1,11 +1,11 @@
 //! The daily rates of an index.
 ghost use Rattle.std.specs.Prelude.{◌≡◌, ◌↔◌, IfSome, IsTrue};
 ghost use Rattle.irs_terms.specs.Lawful.{IsRate};
-ghost use Rattle.irs_observed.specs.DailyRates.{AreKnown, daily_rates};
+ghost use Rattle.irs_observed.specs.DailyRates.{AreKnown, daily_rates, rates_by};
 
 use crate::observation::Observation;
 use irs_base::{Day, Text};
-use irs_resets::Fixings;
+use irs_resets::{Fixings, IndexRates};
 use irs_terms::{Frequency, Unit};
 
 // The tenor of daily rates.
@@ -23,14 +23,26 @@ pub fn daily_rate(daily: &Fixings, index: &Text, d: Day) -> Option<i64>
     daily.rate_on(index, Some(ONE_DAY), d)
 }
 
-/// Whether each observation has its rate.
-pub(crate) fn are_known(observations: &[Observation], daily: &Fixings, index: &Text) -> bool
-    ensures { IsTrue result ↔ AreKnown (daily_rates daily.now index.now) observations.now }
+/// As `daily_rate`, among the rates of the index. It is looked for at a place first, and the place for the
+/// next look-up is given.
+pub(crate) fn daily_rate_near(daily: &IndexRates<'_>, d: Day, near: usize) -> (Option<i64>, usize)
+    ensures value { result.0 ≡ rates_by daily.now d }
+    ensures small { IfSome result.0 IsRate }
 {
+    daily.rate_near(Some(ONE_DAY), d, near)
+}
+
+/// Whether each observation has its rate.
+pub(crate) fn are_known(observations: &[Observation], daily: &IndexRates<'_>) -> bool
+    ensures { IsTrue result ↔ AreKnown (rates_by daily.now) observations.now }
+{
+    let mut near = 0;
     for o in observations {
-        if daily_rate(daily, index, o.observed).is_none() {
+        let (rate, place) = daily_rate_near(daily, o.observed, near);
+        if rate.is_none() {
             return false;
         }
+        near = place;
     }
     true
 }

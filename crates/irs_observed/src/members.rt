@@ -45,19 +45,20 @@ pub(crate) fn leaves_cover<G: GoodDays>(days: &G, start: Day, end: Day) -> bool
     }
 }
 
-// The first business day after the day and before the end, else the end.
-fn next_or_end<G: GoodDays>(days: &G, day: Day, end: Day) -> Day
+// The first business day after the day and before the end, else the end, and a place for the next search.
+fn next_or_end<G: GoodDays>(days: &G, day: Day, end: Day, near: usize) -> (Day, usize)
     requires order { day <ℤ end }
     requires covered { LeavesCover (G.days days.now) day end → ⊥ }
-    ensures after { day <ℤ result }
-    ensures to { result ≤ℤ end }
-    ensures good { result <ℤ end → IsGood (G.days days.now) result }
-    ensures none { (x : ℤ) → day <ℤ x → x <ℤ result → IsGood (G.days days.now) x → ⊥ }
+    ensures after { day <ℤ result.0 }
+    ensures to { result.0 ≤ℤ end }
+    ensures good { result.0 <ℤ end → IsGood (G.days days.now) result.0 }
+    ensures none { (x : ℤ) → day <ℤ x → x <ℤ result.0 → IsGood (G.days days.now) x → ⊥ }
 {
     let _range = end.number();
-    match days.next_good(ahead(day, 1)) {
-        Some(next) => if next < end { next } else { end },
-        None => end,
+    let (found, place) = days.next_good_near(ahead(day, 1), near);
+    match found {
+        Some(next) => (if next < end { next } else { end }, place),
+        None => (end, place),
     }
 }
 
@@ -73,9 +74,12 @@ pub(crate) fn members<G: GoodDays>(
 {
     let mut found = DayList::new(alloc);
     let mut day = start;
+    let mut near = 0;
     while day < end {
         found.push(day)?;
-        day = next_or_end(days, day, end);
+        let (next, place) = next_or_end(days, day, end, near);
+        day = next;
+        near = place;
     }
     Ok(found)
 }

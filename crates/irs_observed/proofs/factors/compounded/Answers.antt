@@ -2,7 +2,7 @@ use Rattle.std.proofs.Common.{rules, ◌≡◌, ◌≤◌, ◌<◌, sym, arith, 
 use Rattle.std.specs.Prelude.{unsigned_abs}
 use Rattle.std.specs.Int.{w128}
 use Rattle.std.proofs.lemmas.Int.{to_z-of_z}
-use Rattle.irs_observed.specs.DailyRates.{DailyRates, daily_rates}
+use Rattle.irs_observed.specs.DailyRates.{DailyRates, rates_by}
 use Rattle.irs_observed.specs.ObservedRates.{rate_precision}
 use Rattle.irs_observed.proofs.FactorLemmas.{compounds_more, passes_at, past_known}
 use Rattle.irs_observed.proofs.ThroughLemmas.{weight_at}
@@ -16,7 +16,7 @@ grown_by-requires-clause-weight c =
 
 pub returns-then-unsigned_abs-gt-MOST_FACTOR-clause-passes : goal.returns-then-unsigned_abs-gt-MOST_FACTOR-clause-passes
 returns-then-unsigned_abs-gt-MOST_FACTOR-clause-passes c =
-    let daily : DailyRates = daily_rates c.args.daily.now c.args.index.now in
+    let daily : DailyRates = rates_by c.args.daily.now in
     let fits : FitsSigned w128 c.in-Some.next = search rules in
     let size : c.unsigned_abs.result ≡ unsigned_abs c.in-Some.next = simp to_z-of_z at c.unsigned_abs.ensures.value in
     let test = c.if-unsigned_abs-gt-MOST_FACTOR.true in
@@ -24,11 +24,11 @@ returns-then-unsigned_abs-gt-MOST_FACTOR-clause-passes c =
     past_known c.args.basis daily c.args.observations.now c.past_limit.result
     (passes_at rate_precision c.args.basis c.requires.range.0 daily c.args.observations.now c.loop-o.o-index
     (to_z w128 c.loop-o.factor-bits) c.in-Some.next c.o-item.result c.loop-o-test.true (sym c.o-item.is)
-    c.in-Some.ensures.some c.loop-o.invariant.compounds past) c.past_limit.ensures.known
+    (rw c.in-Some.is at c.grown_by.ensures.some) c.loop-o.invariant.compounds past) c.past_limit.ensures.known
 
 pub loop-o-preserved : goal.loop-o-preserved
 loop-o-preserved c =
-    let daily : DailyRates = daily_rates c.args.daily.now c.args.index.now in
+    let daily : DailyRates = rates_by c.args.daily.now in
     let fits : FitsSigned w128 c.in-Some.next = search rules in
     let size : c.unsigned_abs.result ≡ unsigned_abs c.in-Some.next = simp to_z-of_z at c.unsigned_abs.ensures.value in
     let test = c.if-unsigned_abs-gt-MOST_FACTOR.false in
@@ -36,6 +36,6 @@ loop-o-preserved c =
     simp to_z-of_z (record {
       compounds = compounds_more rate_precision c.args.basis c.requires.range.0 daily c.args.observations.now
           c.loop-o.o-index (to_z w128 c.loop-o.factor-bits) c.in-Some.next c.o-item.result c.loop-o-test.true
-          (sym c.o-item.is) c.in-Some.ensures.some c.loop-o.invariant.compounds within;
+          (sym c.o-item.is) (rw c.in-Some.is at c.grown_by.ensures.some) c.loop-o.invariant.compounds within;
       within = within;
     })
