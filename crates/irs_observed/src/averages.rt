@@ -49,8 +49,8 @@ pub(crate) fn summed(observations: &[Observation], daily: &IndexRates<'_>) -> Op
     let mut sum = 0;
     let mut near = 0;
     for o in observations {
-        let (with_rate, place) = added(sum, *o, daily, near);
-        let Some(next) = with_rate else {
+        let (more, place) = added(sum, *o, daily, near);
+        let Some(next) = more else {
             return None;
         };
         sum = next;

@@ -23,9 +23,9 @@ pub fn daily_rate(daily: &Fixings, index: &Text, d: Day) -> Option<i64>
     daily.rate_on(index, Some(ONE_DAY), d)
 }
 
-/// As `daily_rate`, among the rates of the index. It is looked for at a place first, and the place for the
-/// next look-up is given.
-pub(crate) fn daily_rate_near(daily: &IndexRates<'_>, d: Day, near: usize) -> (Option<i64>, usize)
+/// As `daily_rate`, among the rates of the index, and the place where the rate of the next day may be. It
+/// is looked for at a place first, and is the same from every place.
+pub fn daily_rate_near(daily: &IndexRates<'_>, d: Day, near: usize) -> (Option<i64>, usize)
     ensures value { result.0 ≡ rates_by daily.now d }
     ensures small { IfSome result.0 IsRate }
 {

@@ -57,7 +57,13 @@ fn next_or_end<G: GoodDays>(days: &G, day: Day, end: Day, near: usize) -> (Day, 
     let _range = end.number();
     let (found, place) = days.next_good_near(ahead(day, 1), near);
     match found {
-        Some(next) => (if next < end { next } else { end }, place),
+        Some(next) => {
+            if next < end {
+                (next, place)
+            } else {
+                (end, place)
+            }
+        }
         None => (end, place),
     }
 }
