@@ -59,14 +59,13 @@ fn rated(
     let mut growth = first_growth(method);
     let mut near = 0;
     for o in observations {
-        let (rate, place) = daily_rate_near(daily, o.observed, near);
+        let rate = daily_rate_near(daily, o.observed, &mut near);
         growth = grown(method, growth, rate, o.weight);
         days.push(ObservedRow::Observed(DayRow {
             number,
             observation: *o,
             rate,
         }))?;
-        near = place;
     }
     Ok(RatedDays { growth, days })
 }

@@ -22,19 +22,17 @@ fn with_rate(sum: i128, rate: i64, weight: u32) -> i128
     sum + interest(rate, weight)
 }
 
-// The sum with the rate of an observation, and the place for the next look-up; `None` where its rate is
-// absent.
-fn added(sum: i128, o: Observation, daily: &IndexRates<'_>, near: usize) -> (Option<i128>, usize)
+// The sum with the rate of an observation; `None` where that is absent.
+fn added(sum: i128, o: Observation, daily: &IndexRates<'_>, near: &mut usize) -> Option<i128>
     requires sum { unsigned_abs sum ≤ 10 ^ 10 * all_days }
     requires weight { o.weight < all_days }
-    ensures some { IfSome result.0 (λ g. AddsBy (rates_by daily.now) o sum g) }
-    ensures size { IfSome result.0 (λ g. unsigned_abs g ≤ unsigned_abs sum + 10 ^ 10 * o.weight) }
-    ensures none { IfNone result.0 (rates_by daily.now o.observed ≡ None) }
+    ensures some { IfSome result (λ g. AddsBy (rates_by daily.now) o sum g) }
+    ensures size { IfSome result (λ g. unsigned_abs g ≤ unsigned_abs sum + 10 ^ 10 * o.weight) }
+    ensures none { IfNone result (rates_by daily.now o.observed ≡ None) }
 {
-    let (rate, place) = daily_rate_near(daily, o.observed, near);
-    match rate {
-        Some(rate) => (Some(with_rate(sum, rate, o.weight)), place),
-        None => (None, place),
+    match daily_rate_near(daily, o.observed, near) {
+        Some(rate) => Some(with_rate(sum, rate, o.weight)),
+        None => None,
     }
 }
 
@@ -49,12 +47,10 @@ pub(crate) fn summed(observations: &[Observation], daily: &IndexRates<'_>) -> Op
     let mut sum = 0;
     let mut near = 0;
     for o in observations {
-        let (more, place) = added(sum, *o, daily, near);
-        let Some(next) = more else {
+        let Some(next) = added(sum, *o, daily, &mut near) else {
             return None;
         };
         sum = next;
-        near = place;
     }
     Some(sum)
 }

@@ -23,13 +23,15 @@ pub fn daily_rate(daily: &Fixings, index: &Text, d: Day) -> Option<i64>
     daily.rate_on(index, Some(ONE_DAY), d)
 }
 
-/// As `daily_rate`, among the rates of the index, and the place where the rate of the next day may be. It
-/// is looked for at a place first, and is the same from every place.
-pub fn daily_rate_near(daily: &IndexRates<'_>, d: Day, near: usize) -> (Option<i64>, usize)
-    ensures value { result.0 ≡ rates_by daily.now d }
-    ensures small { IfSome result.0 IsRate }
+/// As `daily_rate`, among the rates of the index. It is looked for at the place `near` first, which becomes
+/// the place where the rate of the next day may be. The rate is the same from every place.
+pub fn daily_rate_near(daily: &IndexRates<'_>, d: Day, near: &mut usize) -> Option<i64>
+    ensures value { result ≡ rates_by daily.now d }
+    ensures small { IfSome result IsRate }
 {
-    daily.rate_near(Some(ONE_DAY), d, near)
+    let (rate, place) = daily.rate_near(Some(ONE_DAY), d, *near);
+    *near = place;
+    rate
 }
 
 /// Whether each observation has its rate.
@@ -38,11 +40,9 @@ pub(crate) fn are_known(observations: &[Observation], daily: &IndexRates<'_>) ->
 {
     let mut near = 0;
     for o in observations {
-        let (rate, place) = daily_rate_near(daily, o.observed, near);
-        if rate.is_none() {
+        if daily_rate_near(daily, o.observed, &mut near).is_none() {
             return false;
         }
-        near = place;
     }
     true
 }

@@ -77,24 +77,23 @@ fn next_factor(basis: u16, factor: i128, rate: i64, weight: u32) -> i128
     round(Direction::Nearest, grown_factor(factor, grown), year)
 }
 
-// The factor after an observation, and the place for the next look-up; `None` where its rate is absent.
+// The factor after an observation; `None` where its rate is absent.
 fn grown_by(
     basis: u16,
     factor: i128,
     o: Observation,
     daily: &IndexRates<'_>,
-    near: usize,
-) -> (Option<i128>, usize)
+    near: &mut usize,
+) -> Option<i128>
     requires range { (1 ≤ basis) × (basis ≤ 365) }
     requires factor { unsigned_abs factor ≤ rate_precision.most }
     requires weight { o.weight < all_days }
-    ensures some { IfSome result.0 (λ g. GrowsBy basis (rates_by daily.now) o factor g) }
-    ensures none { IfNone result.0 (rates_by daily.now o.observed ≡ None) }
+    ensures some { IfSome result (λ g. GrowsBy basis (rates_by daily.now) o factor g) }
+    ensures none { IfNone result (rates_by daily.now o.observed ≡ None) }
 {
-    let (rate, place) = daily_rate_near(daily, o.observed, near);
-    match rate {
-        Some(rate) => (Some(next_factor(basis, factor, rate, o.weight)), place),
-        None => (None, place),
+    match daily_rate_near(daily, o.observed, near) {
+        Some(rate) => Some(next_factor(basis, factor, rate, o.weight)),
+        None => None,
     }
 }
 
@@ -136,12 +135,10 @@ pub(crate) fn compounded(
     let mut factor = ONE_FACTOR;
     let mut near = 0;
     for o in observations {
-        let (grown, place) = grown_by(basis, factor, *o, daily, near);
-        let Some(next) = grown else {
+        let Some(next) = grown_by(basis, factor, *o, daily, &mut near) else {
             return Ok(None);
         };
         factor = next;
-        near = place;
         if factor.unsigned_abs() > MOST_FACTOR {
             return past_limit(observations, daily);
         }

@@ -28,10 +28,10 @@ loop-o-preserved c =
     let is = sym c.o-item.is in
     record {
       days = c.in_ok-push.ensures.ok
-          ∙ days_more daily c.args.number c.args.observations.now c.loop-o.o-index c.o-item.result c.daily_rate_near-rate.result.0
+          ∙ days_more daily c.args.number c.args.observations.now c.loop-o.o-index c.o-item.result c.daily_rate_near-rate.result
           c.loop-o.days c.loop-o-test.true is c.daily_rate_near-rate.ensures.value before.days;
       growth = grown_more daily c.args.observations.now c.loop-o.o-index c.o-item.result c.loop-o-test.true is
-          c.args.method c.requires.weights c.daily_rate_near-rate.result.0 c.daily_rate_near-rate.ensures.value c.loop-o.growth
+          c.args.method c.requires.weights c.daily_rate_near-rate.result c.daily_rate_near-rate.ensures.value c.loop-o.growth
           c.grown-growth.result before.growth c.grown-growth.ensures.next;
       small = c.grown-growth.ensures.small;
     }

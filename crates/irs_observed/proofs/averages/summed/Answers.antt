@@ -6,15 +6,15 @@ use Rattle.irs_observed.specs.ObservedRates.{AddsBy}
 use Rattle.irs_observed.proofs.ThroughLemmas.{through_more, total_first, total_more, weight_at}
 use Rattle.irs_observed.proofs.averages.summed.Goals as goal
 
-pub added-more-requires-clause-sum : goal.added-more-requires-clause-sum
-added-more-requires-clause-sum c =
+pub added-requires-clause-sum : goal.added-requires-clause-sum
+added-requires-clause-sum c =
     let few = c.requires.weights.few in
     let size = c.loop-o.invariant.size in
     let first = total_first c.args.observations.now c.loop-o.o-index in
     omega (arith, few, size, first)
 
-pub added-more-requires-clause-weight : goal.added-more-requires-clause-weight
-added-more-requires-clause-weight c =
+pub added-requires-clause-weight : goal.added-requires-clause-weight
+added-requires-clause-weight c =
     let few = c.requires.weights.few in
     let at = weight_at c.args.observations.now c.loop-o.o-index c.o-item.result c.loop-o-test.true (sym c.o-item.is) in
     omega (arith, few, at)
@@ -24,11 +24,11 @@ loop-o-preserved c =
     let daily : DailyRates = rates_by c.args.daily.now in
     let fits : FitsSigned w128 c.in-Some.next = search rules in
     let before = c.loop-o.invariant.size in
-    let size = rw c.in-Some.is at c.added-more.ensures.size in
+    let size = c.in-Some.ensures.size in
     let more = total_more c.args.observations.now c.loop-o.o-index c.o-item.result c.loop-o-test.true (sym c.o-item.is) in
     simp to_z-of_z (record {
       sums = through_more (AddsBy daily) c.args.observations.now c.loop-o.o-index c.o-item.result (pos 0)
           (to_z w128 c.loop-o.sum-bits) c.in-Some.next c.loop-o-test.true (sym c.o-item.is) c.loop-o.invariant.sums
-          (rw c.in-Some.is at c.added-more.ensures.some);
+          c.in-Some.ensures.some;
       size = omega (arith, before, size, more);
     })

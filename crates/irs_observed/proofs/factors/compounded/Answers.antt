@@ -8,8 +8,8 @@ use Rattle.irs_observed.proofs.FactorLemmas.{compounds_more, passes_at, past_kno
 use Rattle.irs_observed.proofs.ThroughLemmas.{weight_at}
 use Rattle.irs_observed.proofs.factors.compounded.Goals as goal
 
-pub grown_by-grown-requires-clause-weight : goal.grown_by-grown-requires-clause-weight
-grown_by-grown-requires-clause-weight c =
+pub grown_by-requires-clause-weight : goal.grown_by-requires-clause-weight
+grown_by-requires-clause-weight c =
     let few = c.requires.weights.few in
     let at = weight_at c.args.observations.now c.loop-o.o-index c.o-item.result c.loop-o-test.true (sym c.o-item.is) in
     omega (arith, few, at)
@@ -24,7 +24,7 @@ returns-then-unsigned_abs-gt-MOST_FACTOR-clause-passes c =
     past_known c.args.basis daily c.args.observations.now c.past_limit.result
     (passes_at rate_precision c.args.basis c.requires.range.0 daily c.args.observations.now c.loop-o.o-index
     (to_z w128 c.loop-o.factor-bits) c.in-Some.next c.o-item.result c.loop-o-test.true (sym c.o-item.is)
-    (rw c.in-Some.is at c.grown_by-grown.ensures.some) c.loop-o.invariant.compounds past) c.past_limit.ensures.known
+    c.in-Some.ensures.some c.loop-o.invariant.compounds past) c.past_limit.ensures.known
 
 pub loop-o-preserved : goal.loop-o-preserved
 loop-o-preserved c =
@@ -36,6 +36,6 @@ loop-o-preserved c =
     simp to_z-of_z (record {
       compounds = compounds_more rate_precision c.args.basis c.requires.range.0 daily c.args.observations.now
           c.loop-o.o-index (to_z w128 c.loop-o.factor-bits) c.in-Some.next c.o-item.result c.loop-o-test.true
-          (sym c.o-item.is) (rw c.in-Some.is at c.grown_by-grown.ensures.some) c.loop-o.invariant.compounds within;
+          (sym c.o-item.is) c.in-Some.ensures.some c.loop-o.invariant.compounds within;
       within = within;
     })

@@ -10,8 +10,8 @@ loop-end-init g c =
     let none = c.new-found.ensures in
     rw none (lists_none set c.args.start c.args.end)
 
-pub next_or_end-next-requires-clause-covered : goal.next_or_end-next-requires-clause-covered
-next_or_end-next-requires-clause-covered g c =
+pub next_or_end-day-requires-clause-covered : goal.next_or_end-day-requires-clause-covered
+next_or_end-day-requires-clause-covered g c =
     covered_from (g.G.GoodDays.days c.args.days.now) c.args.start c.args.end c.loop-end.day c.requires.covered
     c.loop-end.invariant.low
 
@@ -20,10 +20,10 @@ loop-end-preserved g c =
     let set : DaySet = g.G.GoodDays.days c.args.days.now in
     let pushed = c.in_ok-push.ensures.ok in
     let open_day = lt_true c.loop-end.day c.args.end (sym (c.loop-end-test.ensures {u = tt})) in
-    let to = lists_more set c.args.start c.args.end c.loop-end.found c.loop-end.day c.next_or_end-next.result.0
-    c.loop-end.invariant open_day c.next_or_end-next.ensures.after c.next_or_end-next.ensures.good
-    c.next_or_end-next.ensures.none in
-    subst (λ (u : List ℤ). ListsTo set c.args.start c.args.end u c.next_or_end-next.result.0) (sym pushed) to
+    let to = lists_more set c.args.start c.args.end c.loop-end.found c.loop-end.day c.next_or_end-day.result
+    c.loop-end.invariant open_day c.next_or_end-day.ensures.after c.next_or_end-day.ensures.good
+    c.next_or_end-day.ensures.none in
+    subst (λ (u : List ℤ). ListsTo set c.args.start c.args.end u c.next_or_end-day.result) (sym pushed) to
 
 pub returns : goal.returns
 returns g c =

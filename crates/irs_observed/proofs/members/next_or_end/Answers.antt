@@ -7,20 +7,17 @@ use Rattle.irs_observed.proofs.members.next_or_end.Goals as goal
 pub returns-then-lt-clause-none : goal.returns-then-lt-clause-none
 returns-then-lt-clause-none g c = λ x low high good.
     let day = c.ahead.ensures in
-    let next = rw c.in-Some.is at c.next_good_near-found.ensures.some in
-    next.none_before x (omega (arith, signed_arith, day, low)) high good
+    c.in-Some.ensures.some.none_before x (omega (arith, signed_arith, day, low)) high good
 
 pub returns-else-lt-clause-none : goal.returns-else-lt-clause-none
 returns-else-lt-clause-none g c = λ x low high good.
     let day = c.ahead.ensures in
-    let next = rw c.in-Some.is at c.next_good_near-found.ensures.some in
     let past : c.args.end ≤ℤ c.in-Some.next = lt_false c.in-Some.next c.args.end (sym (c.if-lt.ensures {u = tt})) in
-    next.none_before x (omega (arith, signed_arith, day, low))
+    c.in-Some.ensures.some.none_before x (omega (arith, signed_arith, day, low))
     (omega (arith, signed_arith, high, past)) good
 
 pub returns-in-None-clause-none : goal.returns-in-None-clause-none
 returns-in-None-clause-none g c = λ x low high good.
     let day : c.ahead.result ≡ c.args.day +ℤ pos 1 = c.ahead.ensures in
-    let none = rw c.in-None.is at c.next_good_near-found.ensures.none in
     none_good (g.G.GoodDays.days c.args.days.now) c.args.day c.args.end c.ahead.result x c.requires.covered
-    (omega (arith, signed_arith, day)) (omega (arith, signed_arith, day, low)) high none good
+    (omega (arith, signed_arith, day)) (omega (arith, signed_arith, day, low)) high c.in-None.ensures.none good
