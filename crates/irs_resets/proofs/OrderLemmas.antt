@@ -110,7 +110,7 @@ lookup_at_place rates slot place rate sorted at =
     ∙ lookup_from_place (eq_by_cmp_equiv slot_total) rates place slot rate
     (IsDistinct-from_sorted slot_cmp (keys_of rates) sorted) at
 
--- the same of the slot and the rate that stand there
+-- the same of the slot and the rate at that place
 pub lookup_of_entry : (rates : SlotRates) (slot : Slot) (place : ℕ) (e : Slot × ℤ) → AreInOrder rates
     → IsPlace rates slot place → slice_get rates place ≡ Some e → lookup (is_slot slot) rates ≡ Some e.1
 lookup_of_entry rates slot place e sorted is at =

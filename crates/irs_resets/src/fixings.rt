@@ -154,8 +154,8 @@ impl<'a> Model for IndexRates<'a> {
 
 impl<'a> IndexRates<'a> {
     /// As `rate_on` of the fixings, and the place where the rate of the next day may be. It is looked for at
-    /// a place first, so a look-up of days in order that begins from the place of the one before takes few
-    /// steps. The rate is the same from every place.
+    /// a place first. So look-ups of days in order take few steps, each from the place of the one before.
+    /// The rate is the same from every place.
     pub fn rate_near(&self, tenor: Option<Frequency>, d: Day, place: usize) -> (Option<i64>, usize)
         ensures value { result.0 ≡ rate_of self.now (record { date = d; tenor = tenor }) }
         ensures small { IfSome result.0 IsRate }
