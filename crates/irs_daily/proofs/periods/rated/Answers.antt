@@ -9,7 +9,7 @@ pub loop-o-init : goal.loop-o-init
 loop-o-init c =
     let daily : DailyRates = rates_by c.args.daily.now in
     record {
-      days = c.in_ok-with_room.ensures;
+      days = c.in_ok-days.ensures;
       growth = grown_none c.args.method daily c.args.observations.now c.first_growth-growth.result
           c.first_growth-growth.ensures.first;
       small = c.first_growth-growth.ensures.small;
