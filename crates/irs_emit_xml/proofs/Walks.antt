@@ -1,0 +1,38 @@
+-- Rows that are appended one after another.
+use Rattle.std.proofs.Common.{◌≡◌, ℕ, zero, suc, ◌+◌, ◌-◌, ◌<◌, ◌≤◌, List, [], ◌∷◌, ◌++◌, length, get_or, map, take, refl, sym, ap, ◌∙◌, subst, arith}
+use Rattle.std.proofs.lemmas.List.{append-nil, map-append, take_all, take_more}
+use Rattle.irs_schedule.specs.Parts.{Part}
+use Rattle.irs_emit_xml.specs.Flows.{lines, one_period, period_nodes}
+use Rattle.irs_emit_xml.specs.Trees.{Node, node_text}
+use Rattle.irs_emit_xml.proofs.Lines.{last_line, lines_append, nothing_more}
+
+-- one more row of a list
+pub mapped_more : {X : Type 0} (k : ℕ) (f : X → Node) (xs : List X) (j : ℕ) (x : X) (old now next : List ℕ) → j < length xs → x ≡ get_or xs j x
+    → now ≡ old ++ lines k (map f (take j xs)) → next ≡ now ++ node_text k (f x) → next ≡ old ++ lines k (map f (take (j + 1) xs))
+mapped_more k f xs j x old now next l is e g =
+    let longer : take (j + 1) xs ≡ take j xs ++ x ∷ [] = take_more xs j x l ∙ ap (λ z. take j xs ++ z ∷ []) (sym is) in
+    let both = lines_append k (map f (take j xs)) (f x ∷ []) e (last_line g) in
+    both ∙ ap (λ ns. old ++ lines k ns) (sym (map-append f (take j xs) (x ∷ [])) ∙ ap (map f) (sym longer))
+
+-- all rows of a list
+pub mapped_all : {X : Type 0} (k : ℕ) (f : X → Node) (xs : List X) (j : ℕ) (old now : List ℕ) → length xs ≤ j
+    → now ≡ old ++ lines k (map f (take j xs)) → now ≡ old ++ lines k (map f xs)
+mapped_all k f xs j old now l e = e ∙ ap (λ ys. old ++ lines k (map f ys)) (take_all j xs l)
+
+-- no period yet
+pub no_periods : (p : Part) (first : ℕ) (old : List ℕ) → old ≡ old ++ lines 4 (period_nodes p first (first - first))
+no_periods p first old =
+    let none : first - first ≡ 0 = omega arith in
+    subst (λ n. old ≡ old ++ lines 4 (period_nodes p first n)) (sym none) (nothing_more old)
+
+-- one more period
+pub next_period : (p : Part) (first place : ℕ) (old now next : List ℕ) → first ≤ place
+    → now ≡ old ++ lines 4 (period_nodes p first (place - first)) → next ≡ now ++ lines 4 (one_period p place)
+    → next ≡ old ++ lines 4 (period_nodes p first (place + 1 - first))
+next_period p first place old now next l e g =
+    let n = place - first in
+    let up : place + 1 - first ≡ suc n = omega (arith, l) in
+    let at : place ≡ first + n = omega (arith, l) in
+    let more = lines_append 4 (period_nodes p first n) (one_period p (first + n)) e
+    (subst (λ j. next ≡ now ++ lines 4 (one_period p j)) at g) in
+    subst (λ m. next ≡ old ++ lines 4 (period_nodes p first m)) (sym up) more
