@@ -1,5 +1,5 @@
 -- The emitted value as XML carries it, part by part.
-use Rattle.std.proofs.Common.{◌≡◌, ℕ, zero, suc, ◌+◌, ◌-◌, List, [], ◌∷◌, ◌++◌, map, Option, Some, None, option_map, ℤ, codes, refl, sym, ap, ap₂, ◌∙◌}
+use Rattle.std.proofs.Common.{◌≡◌, ℕ, zero, suc, ◌+◌, ◌-◌, List, [], ◌∷◌, ◌++◌, map, Option, Some, None, option_map, ℤ, codes, refl, ap, ap₂, ◌∙◌}
 use Rattle.std.proofs.lemmas.List.{map-append}
 use Rattle.std.specs.Prelude.{slice_get}
 use Rattle.irs_base.specs.declared.line.Dec.{Dec}
@@ -14,7 +14,7 @@ use Rattle.irs_emit.specs.Emitted.{array_of, cashflows_value, definition_value, 
 use Rattle.irs_emit.specs.Emitted.{forecast_value, known_exchanges, listed_period, object_with, observation_value, one_period}
 use Rattle.irs_emit.specs.Emitted.{payment_value, period_members, period_value, period_values, put_known, stream_value}
 use Rattle.irs_emit.specs.Leaves.{amount_leaf, currency_leaf, day_leaf, rate_leaf}
-use Rattle.serde_json.specs.Data.{Data, string, object, Members, no_members, put}
+use Rattle.serde_json.specs.Data.{Data, string, object, no_members, put}
 use Rattle.serde_json.specs.View.{items_of}
 use Rattle.irs_emit_xml.specs.Ones.{alone, ones}
 use Rattle.irs_emit_xml.proofs.Joining.{ones_listed}

@@ -9,7 +9,7 @@ use Rattle.irs_schedule.specs.Parts.{IsCode}
 use Rattle.irs_emit.proofs.LeafTexts.{text_kept}
 use Rattle.irs_emit.specs.Leaves.{text_of}
 use Rattle.irs_emit_xml.specs.Trees.{is_plain}
-use Rattle.irs_emit_xml.proofs.Leaves.{ArePlain, capitals_plain}
+use Rattle.irs_emit_xml.proofs.PlainTexts.{ArePlain, capitals_plain}
 use Rattle.irs_emit_xml.proofs.Rules.{both_true}
 
 plain_low : (c : ℕ) → is_plain c ≡ true → c < 128

@@ -1,11 +1,11 @@
 -- The document of a schedule.
-use Rattle.std.proofs.Common.{◌≡◌, ℕ, List, [], ◌∷◌, ◌++◌, map, codes, refl, sym, ap, ◌∙◌, subst, append_assoc}
+use Rattle.std.proofs.Common.{◌≡◌, ℕ, List, ◌++◌, map, codes, sym, ap, ◌∙◌, subst, append_assoc}
 use Rattle.irs_schedule.specs.Parts.{Part, IsWithin}
 use Rattle.irs_emit.specs.Emitted.{emit_value}
 use Rattle.irs_xml.specs.Document.{XmlReads}
 use Rattle.irs_emit_xml.specs.Flows.{flows_text, lines, stream_node, stream_nodes}
 use Rattle.irs_emit_xml.specs.Ones.{ones}
-use Rattle.irs_emit_xml.specs.Trees.{close_text, declared_text, root_open_text, written_text}
+use Rattle.irs_emit_xml.specs.Trees.{close_text, declared_text, root_open_text, written_text, written_value}
 use Rattle.irs_emit_xml.proofs.FlowRules.{root_is}
 use Rattle.irs_emit_xml.proofs.FlowValues.{value_is}
 use Rattle.irs_emit_xml.proofs.Lines.{lines_listed, twice}
@@ -24,5 +24,7 @@ text_is s a b c e f g =
 pub text_reads : (s : List Part) (bytes : List ℕ) → IsWithin s → bytes ≡ flows_text s → XmlReads bytes (ones (emit_value s))
 unfolding flows_text
 text_reads s bytes h e =
-    subst (λ d. XmlReads bytes d) (value_is s h)
-    (subst (λ b. XmlReads b _) (sym e) (written_reads (codes "swap") (stream_nodes s) (root_is s h)))
+    let value = written_value (codes "swap") (stream_nodes s) in
+    let reads : XmlReads bytes value =
+    subst (λ b. XmlReads b value) (sym e) (written_reads (codes "swap") (stream_nodes s) (root_is s h)) in
+    subst (XmlReads bytes) (value_is s h) reads

@@ -1,5 +1,5 @@
 -- The elements of a schedule have names of letters and plain texts, and nest few levels.
-use Rattle.std.proofs.Common.{◌≡◌, ℕ, zero, suc, ◌+◌, ◌-◌, ◌*◌, ◌/◌, ◌^◌, ◌<◌, ◌≤◌, true, List, [], ◌∷◌, ◌++◌, length, map, Option, Some, None, IfSome, ℤ, unsigned_abs, codes, refl, ap, ◌∙◌, arith}
+use Rattle.std.proofs.Common.{◌≡◌, ℕ, zero, suc, ◌+◌, ◌-◌, ◌*◌, ◌^◌, ◌<◌, ◌≤◌, true, List, [], ◌∷◌, ◌++◌, length, map, Option, Some, None, IfSome, ℤ, unsigned_abs, codes, refl, arith}
 use Rattle.std.proofs.Math.Nat.{div-lt_iff_lt-mul, one-le-pow, pow-le-pow_right}
 use Rattle.std.specs.List.{list_all}
 use Rattle.std.specs.Prelude.{slice_get}
@@ -16,10 +16,10 @@ use Rattle.irs_schedule.specs.declared.views.CalculationPeriod.{CalculationPerio
 use Rattle.irs_emit.proofs.Short.{parts_short}
 use Rattle.irs_emit.specs.PartLaws.{IsPartShort}
 use Rattle.irs_emit.specs.RowLaws.{IsExchangeShort, IsPaymentShort, IsPeriodShort, IsResetShort, IsShort, IsShortAmount, IsShortRate}
-use Rattle.irs_emit_xml.specs.Trees.{Node, leaf, Nodes, is_letter, is_name, is_plain, IsFilled, IsNode, IsNodes, IsRoot}
+use Rattle.irs_emit_xml.specs.Trees.{Node, is_letter, is_name, is_plain, IsFilled, IsNode, IsNodes, IsRoot}
 use Rattle.irs_emit_xml.specs.Flows.{listed, known, amount_node, rate_node, exchange_node, forecast_node, observation_node, definition_node, fraction_node, rate_of, period_node, listed_period, one_period, period_nodes, payment_node, cashflows_node, stream_node, stream_nodes}
 use Rattle.irs_emit_xml.proofs.Currencies.{letters_plain}
-use Rattle.irs_emit_xml.proofs.Leaves.{day_plain, dec_plain, whole_plain}
+use Rattle.irs_emit_xml.proofs.PlainTexts.{day_plain, dec_plain, whole_plain}
 
 -- ---- lists
 
@@ -46,7 +46,7 @@ known_are levels P f (Some x) law h = (law x h, tt)
 -- a number of few digits before the point isn't large
 short_small : (units : ℤ) (places : ℕ) → places ≤ 12 → IsShort units places → unsigned_abs units < 2 ^ 128
 short_small units places l h =
-    let above : 0 < 10 ^ places = one-le-pow places 10 (omega arith) in
+    let above : 0 < 10 ^ places = let one = one-le-pow places 10 (omega arith) in omega (arith, one) in
     let below : unsigned_abs units < 10 ^ 18 * 10 ^ places = (div-lt_iff_lt-mul {k = 10 ^ places} {x = unsigned_abs units} {y = 10 ^ 18} above).0 h in
     let most : 10 ^ places ≤ 10 ^ 12 = pow-le-pow_right {n = 10} (omega arith) {i = places} {j = 12} l in
     omega (arith, below, most)

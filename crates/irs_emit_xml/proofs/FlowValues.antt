@@ -1,9 +1,9 @@
 -- The elements of a schedule mean the value that is emitted as JSON, as XML carries it.
-use Rattle.std.proofs.Common.{◌≡◌, ℕ, zero, suc, ◌+◌, ◌-◌, ◌<◌, ◌≤◌, List, [], ◌∷◌, ◌++◌, length, map, Option, Some, None, IfSome, option_map, ℤ, codes, inl, inr, refl, sym, ap, subst, ◌∙◌, arith}
+use Rattle.std.proofs.Common.{◌≡◌, ℕ, zero, suc, ◌+◌, ◌-◌, ◌<◌, List, [], ◌∷◌, ◌++◌, length, map, Option, Some, None, option_map, ℤ, codes, inl, inr, refl, sym, ap, subst, ◌∙◌, arith}
 use Rattle.std.proofs.lemmas.List.{map-append}
 use Rattle.std.proofs.lemmas.Option.{slice_get_cases}
 use Rattle.std.specs.Prelude.{slice_get}
-use Rattle.irs_base.specs.Texts.{day_text, dec_text}
+use Rattle.irs_base.specs.Texts.{day_text}
 use Rattle.irs_base.specs.Members.{Every}
 use Rattle.irs_base.specs.declared.line.Dec.{Dec}
 use Rattle.irs_terms.specs.declared.currency.Currency.{Currency}
@@ -14,7 +14,7 @@ use Rattle.irs_schedule.specs.PeriodViews.{period_at, dated_period}
 use Rattle.irs_schedule.specs.declared.entries.PaymentEntry.{PaymentEntry}
 use Rattle.irs_schedule.specs.declared.views.CalculationPeriod.{CalculationPeriod}
 use Rattle.irs_emit.specs.Emitted.{array_of, cashflows_value, definition_value, emit_value, exchange_value, fixed_value, floating_value}
-use Rattle.irs_emit.specs.Emitted.{forecast_value, known_exchanges, listed_period as listed_value, object_with, observation_value, one_period as one_value}
+use Rattle.irs_emit.specs.Emitted.{forecast_value, known_exchanges, listed_period as listed_value, observation_value, one_period as one_value}
 use Rattle.irs_emit.specs.Emitted.{payment_value, period_members, period_value, period_values, put_known, stream_value}
 use Rattle.irs_emit.specs.PartLaws.{IsPartShort}
 use Rattle.irs_emit.specs.RowLaws.{IsPaymentShort}
@@ -23,9 +23,9 @@ use Rattle.irs_emit.specs.Leaves.{amount_leaf, rate_leaf, text_of}
 use Rattle.irs_xml.specs.Values.{Child, with_child, with_children}
 use Rattle.serde_json.specs.Data.{Data, string, array, object, Members, no_members, member, put}
 use Rattle.serde_json.specs.View.{items_of}
-use Rattle.irs_emit_xml.specs.Trees.{Node, leaf, branch, Nodes, node_name, node_value, children_of, written_value}
-use Rattle.irs_emit_xml.specs.Ones.{alone, ones, ones_items, ones_members}
-use Rattle.irs_emit_xml.specs.Flows.{element, listed, known, amount_node, rate_node, currency_node, exchange_node, forecast_node, observation_node, definition_node, rate_of, period_front, period_node, listed_period, one_period, period_nodes, payment_node, cashflows_node, stream_node, stream_nodes, day_node, fraction_node, count_node, notional_node}
+use Rattle.irs_emit_xml.specs.Trees.{Node, leaf, node_name, node_value, children_of, written_value}
+use Rattle.irs_emit_xml.specs.Ones.{alone, ones}
+use Rattle.irs_emit_xml.specs.Flows.{element, listed, known, amount_node, rate_node, currency_node, exchange_node, forecast_node, observation_node, definition_node, rate_of, period_front, period_node, listed_period, one_period, period_nodes, payment_node, cashflows_node, stream_node, stream_nodes, day_node, fraction_node}
 use Rattle.irs_emit_xml.proofs.Currencies.{currency_kept}
 use Rattle.irs_emit_xml.proofs.Joining.{all_named, all_children, children_append, Begins, begins_append, ones_listed}
 

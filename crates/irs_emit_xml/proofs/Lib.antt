@@ -3,7 +3,7 @@ mod Rules
 mod Means
 pub mod ReadBack
 mod Joining
-mod Leaves
+mod PlainTexts
 mod Currencies
 pub mod Lines
 mod FlowValues

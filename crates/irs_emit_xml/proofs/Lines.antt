@@ -59,7 +59,8 @@ none_known k f a = nothing_more a
 pub one_known : {X : Type 0} (k : ℕ) (f : X → Node) (x : X) (a b : List ℕ) → b ≡ a ++ node_text k (f x) → b ≡ a ++ lines k (known f (Some x))
 one_known k f x a b e = last_line e
 
-lines_listed : (k : ℕ) (ns : List Node) → nodes_text k (listed ns) ≡ lines k ns
+-- elements of a list are their lines
+pub lines_listed : (k : ℕ) (ns : List Node) → nodes_text k (listed ns) ≡ lines k ns
 lines_listed k [] = refl
 lines_listed k (n ∷ ns) = ap (λ t. node_text k n ++ t) (lines_listed k ns)
 

@@ -1,5 +1,5 @@
 -- The document of a root and elements means their value.
-use Rattle.std.proofs.Common.{◌≡◌, ℕ, zero, suc, Bool, true, false, ◌&&◌, List, [], ◌<◌, ◌∷◌, ◌++◌, Option, Some, None, refl, sym, ap, ◌∙◌, arith}
+use Rattle.std.proofs.Common.{◌≡◌, ℕ, zero, suc, Bool, true, false, ◌&&◌, List, [], ◌<◌, ◌∷◌, ◌++◌, Option, Some, refl, ap, ◌∙◌, arith}
 use Rattle.std.proofs.lemmas.Bool.Decides.{nat_tests}
 use Rattle.std.proofs.lemmas.List.{append-nil}
 use Rattle.std.proofs.lemmas.Slice.Eq.{bytes_eq-Decides}
@@ -10,11 +10,11 @@ use Rattle.std.specs.Str.{bytes_eq, encode_utf8_all}
 use Rattle.irs_xml.specs.Characters.{is_space, is_white}
 use Rattle.irs_xml.specs.Content.{Element, Content, nothing, character, child}
 use Rattle.irs_xml.specs.Document.{document_value, root_key, root_namespace, rooted, root_value}
-use Rattle.irs_xml.specs.Namespaces.{Scope, Setting, first_scope, opening_of, is_declaration, declared_prefix, namespace_of, is_same, scope_in, settings_of}
+use Rattle.irs_xml.specs.Namespaces.{Scope, Setting, first_scope, opening_of, is_declaration, declared_prefix, is_same, settings_of}
 use Rattle.irs_xml.specs.Values.{Child, is_ours, key_of, named, both, element_data, value_from, with_settings, with_children, element_child, children_in, text_in}
-use Rattle.serde_json.specs.Data.{Data, string, object, Members, no_members, member}
+use Rattle.serde_json.specs.Data.{Data, string, object, no_members, member}
 use Rattle.irs_emit_xml.specs.Trees.{Node, leaf, branch, Nodes, no_nodes, node, indent, fpml_namespace, is_letter, is_name, is_plain, IsFilled, IsNode, IsNodes, IsRoot, node_name, node_value, children_of, written_value}
-use Rattle.irs_emit_xml.proofs.Rules.{IsHome, home, at_home, home_stays, root_at, both_true, true_both}
+use Rattle.irs_emit_xml.proofs.Rules.{IsHome, home, at_home, home_stays, root_at, both_true}
 use Rattle.irs_emit_xml.proofs.Spelling.{plain_tag, characters, element_of, content_of, namespace_attribute, root_tag, root_of, document_of}
 
 -- ---- ASCII

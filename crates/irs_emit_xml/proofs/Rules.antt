@@ -10,9 +10,8 @@ use Rattle.irs_xml.specs.Content.{Content, nothing, character, content_text, is_
 use Rattle.irs_xml.specs.Document.{IsDocument, root_namespace, is_fpml}
 use Rattle.irs_xml.specs.Names.{is_name_start, is_name_char, is_nc_name}
 use Rattle.irs_xml.specs.Namespaces.{Scope, first_scope, opening_of, is_opened, is_declaration, declared_prefix, may_declare, is_lawful, namespace_of, scope_in, settings_of}
-use Rattle.irs_xml.specs.Tags.{is_tag}
 use Rattle.std.specs.Char.{encode_utf8}
-use Rattle.irs_emit_xml.specs.Trees.{Node, leaf, branch, Nodes, no_nodes, node, indent, fpml_namespace, is_letter, is_name, is_plain, IsFilled, IsNode, IsNodes, IsRoot}
+use Rattle.irs_emit_xml.specs.Trees.{Node, leaf, branch, Nodes, no_nodes, node, indent, fpml_namespace, is_letter, is_name, is_plain, IsNode, IsNodes, IsRoot}
 use Rattle.irs_emit_xml.proofs.Spelling.{plain_tag, characters, element_of, content_of, namespace_attribute, root_tag, root_of, document_of}
 
 -- where two tests both hold, each holds

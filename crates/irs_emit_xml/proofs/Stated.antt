@@ -1,5 +1,5 @@
 -- The value of the document has no fault of the tables of cash flows, and states the flows of the schedule.
-use Rattle.std.proofs.Common.{◌≡◌, ℕ, zero, suc, ◌+◌, ◌-◌, ◌<◌, ◌≤◌, nat_le, Bool, true, false, not, true≢false, inl, inr, List, [], ◌∷◌, ◌++◌, length, map, if◌then◌else◌}
+use Rattle.std.proofs.Common.{◌≡◌, ℕ, zero, suc, ◌+◌, ◌-◌, ◌<◌, ◌≤◌, nat_le, Bool, true, false, not, inl, inr, List, [], ◌∷◌, ◌++◌, length, map, if◌then◌else◌}
 use Rattle.std.proofs.Common.{Option, Some, None, IfSome, Ok, Err, option_map, option_and_then, ℤ, codes, refl, sym, ap, ap₂, subst, ◌∙◌, arith}
 use Rattle.std.specs.List.{flat_map}
 use Rattle.std.specs.Prelude.{slice_get, unwrap_or, Result}
@@ -11,16 +11,15 @@ use Rattle.irs_base.specs.declared.line.Dec.{Dec}
 use Rattle.irs_base.specs.declared.places.Broken.{Broken}
 use Rattle.irs_terms.specs.declared.currency.Currency.{Currency}
 use Rattle.irs_terms.specs.declared.results.Exchange.{Exchange}
-use Rattle.irs_elements.specs.Elements.{has_odd}
 use Rattle.irs_elements.specs.Find.{once, values_in, values_of}
 use Rattle.irs_elements.specs.Words.{is_currency}
 use Rattle.irs_elements.specs.declared.table.Choice.TheVariants.{Free}
 use Rattle.irs_elements.specs.declared.table.Kind.TheVariants.{Object}
 use Rattle.irs_elements.specs.declared.table.Leaf.TheVariants.{Amount, CurrencyName, Date}
 use Rattle.irs_elements.specs.declared.table.Row.{Row}
-use Rattle.irs_json.specs.Carrier.{child_of, present}
+use Rattle.irs_json.specs.Carrier.{present}
 use Rattle.irs_json.specs.Names.{names_of}
-use Rattle.irs_json.specs.Values.{items_of as held, list_of}
+use Rattle.irs_json.specs.Values.{items_of as held}
 use Rattle.irs_read.proofs.TableLaws.{by_tables}
 use Rattle.irs_read.specs.Documents.{the_swap}
 use Rattle.irs_schedule.specs.Parts.{Covers, IsWithin, Part}
@@ -33,7 +32,6 @@ use Rattle.irs_audit.specs.FlowFaults.{is_sound, many_streams, no_stream, paymen
 use Rattle.irs_audit.specs.FlowLines.{flow_names, flow_rows}
 use Rattle.irs_audit.specs.FlowMeaning.{exchange_in, flows_in, payment_in, period_in, stream_in, streams_in}
 use Rattle.irs_audit.specs.FlowParts.{FlowPart}
-use Rattle.irs_audit.specs.StatedFlows.{stated_flows}
 use Rattle.irs_audit.specs.declared.flow_table.TheConstants.{FLOW_ROWS}
 use Rattle.irs_audit.specs.declared.flows.FlowExchange.{FlowExchange}
 use Rattle.irs_audit.specs.declared.flows.FlowPayment.{FlowPayment}
@@ -45,11 +43,11 @@ use Rattle.irs_emit.proofs.PartsRead.{its_swap, mapped_length, swap_reads}
 use Rattle.irs_emit.proofs.RowsRead.{array_values, from_items}
 use Rattle.irs_emit.proofs.Short.{parts_short}
 use Rattle.irs_emit.specs.Emitted.{array_of, cashflows_value, emit_value, exchange_value, forecast_value, known_exchanges, object_with, payment_value, put_known, stream_value}
-use Rattle.irs_emit.specs.Leaves.{amount_leaf, currency_leaf, day_leaf, text_of}
+use Rattle.irs_emit.specs.Leaves.{amount_leaf, currency_leaf, text_of}
 use Rattle.irs_emit.specs.PartLaws.{IsPartShort}
 use Rattle.irs_emit.specs.RowLaws.{IsExchangeShort, IsPaymentShort, IsShortAmount}
 use Rattle.irs_xml.specs.Document.{XmlReads}
-use Rattle.serde_json.specs.Data.{Data, null, boolean, number, string, array, object, Items, item, no_items, Members, no_members, member, put}
+use Rattle.serde_json.specs.Data.{Data, null, boolean, number, string, array, object, item, no_items, Members, no_members, member, put}
 use Rattle.serde_json.specs.View.{items_of}
 use Rattle.irs_emit_xml.specs.Ones.{alone, ones}
 use Rattle.irs_emit_xml.specs.StatedInXml.{StatesInXml}

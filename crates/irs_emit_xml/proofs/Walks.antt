@@ -1,8 +1,11 @@
 -- Rows that are appended one after another.
-use Rattle.std.proofs.Common.{◌≡◌, ℕ, zero, suc, ◌+◌, ◌-◌, ◌<◌, ◌≤◌, List, [], ◌∷◌, ◌++◌, length, get_or, map, take, refl, sym, ap, ◌∙◌, subst, arith}
-use Rattle.std.proofs.lemmas.List.{append-nil, map-append, take_all, take_more}
+use Rattle.std.proofs.Common.{◌≡◌, ℕ, suc, ◌+◌, ◌-◌, ◌<◌, ◌≤◌, List, [], ◌∷◌, ◌++◌, length, get_or, map, take, sym, ap, ap₂, ◌∙◌, subst, arith}
+use Rattle.std.proofs.lemmas.List.{map-append, take_all, take_more}
+use Rattle.irs_emit.specs.Paid.{IsPaid}
 use Rattle.irs_schedule.specs.Parts.{Part}
-use Rattle.irs_emit_xml.specs.Flows.{lines, one_period, period_nodes}
+use Rattle.irs_schedule.specs.declared.entries.PaymentEntry.{PaymentEntry}
+use Rattle.irs_terms.specs.declared.currency.Currency.{Currency}
+use Rattle.irs_emit_xml.specs.Flows.{forecast_node, lines, one_period, period_nodes}
 use Rattle.irs_emit_xml.specs.Trees.{Node, node_text}
 use Rattle.irs_emit_xml.proofs.Lines.{last_line, lines_append, nothing_more}
 
@@ -36,3 +39,17 @@ next_period p first place old now next l e g =
     let more = lines_append 4 (period_nodes p first n) (one_period p (first + n)) e
     (subst (λ j. next ≡ now ++ lines 4 (one_period p j)) at g) in
     subst (λ m. next ≡ old ++ lines 4 (period_nodes p first m)) (sym up) more
+
+-- the periods of a payment, by the places that the code counts
+pub periods_paid : (p : Part) (y : PaymentEntry) (first last : ℕ) {a b : List ℕ} → IsPaid y → first ≡ y.first_period - 1 → last ≡ y.last_period
+    → b ≡ a ++ lines 4 (period_nodes p first (last - first))
+    → b ≡ a ++ lines 4 (period_nodes p (y.first_period - 1) (y.last_period + 1 - y.first_period))
+periods_paid p y first last {a} {b} h e f g =
+    let one = h.first in
+    let count : last - first ≡ y.last_period + 1 - y.first_period = omega (arith, one, e, f) in
+    g ∙ ap₂ (λ j n. a ++ lines 4 (period_nodes p j n)) e count
+
+-- the amount of a payment in the currency of its stream
+pub in_currency : (y : PaymentEntry) {k l : Currency} {a b : List ℕ} → k ≡ l → b ≡ a ++ node_text 4 (forecast_node k y)
+    → b ≡ a ++ node_text 4 (forecast_node l y)
+in_currency y {k} {l} {a} {b} e g = g ∙ ap (λ c. a ++ node_text 4 (forecast_node c y)) e

@@ -70,33 +70,46 @@ abbrev pub known : {X : Type 0} → (X → Node) → Option X → List Node
 known f None = []
 known f (Some x) = f x ∷ []
 
--- ---- rows
+-- ---- rows, each by its fields in order
 
--- FpML's PrincipalExchange
-unfoldable pub exchange_node : Exchange → Node
-exchange_node x = element (codes "principalExchange") (
+-- the fields of a principal exchange
+abbrev pub exchange_fields : Exchange → List Node
+exchange_fields x =
     day_node (codes "unadjustedPrincipalExchangeDate") x.unadjusted
     ∷ day_node (codes "adjustedPrincipalExchangeDate") x.adjusted
     ∷ amount_node (codes "principalExchangeAmount") x.amount
-    ∷ [])
+    ∷ []
 
--- the amount of a payment, FpML's Money; the currency is there also where the amount isn't known
+-- FpML's PrincipalExchange
+unfoldable pub exchange_node : Exchange → Node
+exchange_node x = element (codes "principalExchange") (exchange_fields x)
+
+-- the fields of the amount of a payment; the currency is there also where the amount isn't known
+abbrev pub forecast_fields : Currency → PaymentEntry → List Node
+forecast_fields currency y = currency_node (codes "currency") currency ∷ known (amount_node (codes "amount")) y.amount
+
+-- the amount of a payment, FpML's Money
 unfoldable pub forecast_node : Currency → PaymentEntry → Node
-forecast_node currency y = element (codes "forecastPaymentAmount") (
-    currency_node (codes "currency") currency
-    ∷ known (amount_node (codes "amount")) y.amount)
+forecast_node currency y = element (codes "forecastPaymentAmount") (forecast_fields currency y)
 
--- FpML's RateObservation, with the observed rate where that is known
-unfoldable pub observation_node : Reset → Node
-observation_node r = element (codes "rateObservation") (
+-- the fields of a reset, with the observed rate where that is known
+abbrev pub observation_fields : Reset → List Node
+observation_fields r =
     day_node (codes "resetDate") r.reset
     ∷ day_node (codes "adjustedFixingDate") r.fixing
-    ∷ known (rate_node (codes "observedRate")) r.observed)
+    ∷ known (rate_node (codes "observedRate")) r.observed
 
--- FpML's FloatingRateDefinition: the rate of a period where it is known, and its reset
+-- FpML's RateObservation
+unfoldable pub observation_node : Reset → Node
+observation_node r = element (codes "rateObservation") (observation_fields r)
+
+-- the rate of a period where it is known, and its reset
+abbrev pub definition_fields : CalculationPeriod → Reset → List Node
+definition_fields x r = known (rate_node (codes "calculatedRate")) x.rate ++ observation_node r ∷ []
+
+-- FpML's FloatingRateDefinition
 unfoldable pub definition_node : CalculationPeriod → Reset → Node
-definition_node x r = element (codes "floatingRateDefinition") (
-    known (rate_node (codes "calculatedRate")) x.rate ++ observation_node r ∷ [])
+definition_node x r = element (codes "floatingRateDefinition") (definition_fields x r)
 
 -- the rate of a period: its `fixedRate`, or on a floating stream its `floatingRateDefinition`
 abbrev pub rate_of : CalculationPeriod → Option Reset → List Node
@@ -114,10 +127,13 @@ period_front x =
     ∷ notional_node (codes "notionalAmount") x.notional
     ∷ []
 
+-- the fields of a calculation period, with its reset if it has one
+abbrev pub period_fields : CalculationPeriod → Option Reset → List Node
+period_fields x reset = period_front x ++ (rate_of x reset ++ fraction_node (codes "dayCountYearFraction") x.frac ∷ [])
+
 -- FpML's CalculationPeriod
 unfoldable pub period_node : CalculationPeriod → Option Reset → Node
-period_node x reset = element (codes "calculationPeriod") (
-    period_front x ++ (rate_of x reset ++ fraction_node (codes "dayCountYearFraction") x.frac ∷ []))
+period_node x reset = element (codes "calculationPeriod") (period_fields x reset)
 
 -- a period as a list: empty where there is no such period
 abbrev pub listed_period : Option Reset → Option CalculationPeriod → List Node
@@ -133,18 +149,26 @@ abbrev pub period_nodes : Part → ℕ → ℕ → List Node
 period_nodes p j zero = []
 period_nodes p j (suc n) = period_nodes p j n ++ one_period p (j + n)
 
--- FpML's PaymentCalculationPeriod: a payment, with the calculation periods that it pays
-unfoldable pub payment_node : Part → PaymentEntry → Node
-payment_node p y = element (codes "paymentCalculationPeriod") (
+-- the fields of a payment, with the calculation periods that it pays
+abbrev pub payment_fields : Part → PaymentEntry → List Node
+payment_fields p y =
     day_node (codes "unadjustedPaymentDate") y.unadjusted
     ∷ day_node (codes "adjustedPaymentDate") y.adjusted
-    ∷ (period_nodes p (y.first_period - 1) (y.last_period + 1 - y.first_period) ++ forecast_node p.currency y ∷ []))
+    ∷ (period_nodes p (y.first_period - 1) (y.last_period + 1 - y.first_period) ++ forecast_node p.currency y ∷ [])
 
--- FpML's Cashflows of a stream: that they match its parameters, the principal exchanges, and the payments
-unfoldable pub cashflows_node : Part → Node
-cashflows_node p = element (codes "cashflows") (
+-- FpML's PaymentCalculationPeriod
+unfoldable pub payment_node : Part → PaymentEntry → Node
+payment_node p y = element (codes "paymentCalculationPeriod") (payment_fields p y)
+
+-- that cash flows match the parameters of their stream, the principal exchanges, and the payments
+abbrev pub cashflows_fields : Part → List Node
+cashflows_fields p =
     leaf (codes "cashflowsMatchParameters") (codes "true")
-    ∷ (map exchange_node p.exchanges ++ map (payment_node p) p.payments))
+    ∷ (map exchange_node p.exchanges ++ map (payment_node p) p.payments)
+
+-- FpML's Cashflows of a stream
+unfoldable pub cashflows_node : Part → Node
+cashflows_node p = element (codes "cashflows") (cashflows_fields p)
 
 -- a stream has its cash flows alone
 unfoldable pub stream_node : Part → Node

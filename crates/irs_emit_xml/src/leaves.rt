@@ -106,7 +106,10 @@ pub(crate) fn known_amount(
     ensures { OnOk result (out.new.items ≡ out.old.items ++ lines level (known (amount_node name.now) v)) }
 {
     match v {
-        Some(v) => amount(out, level, name, v),
+        Some(v) => {
+            amount(out, level, name, v)?;
+            Ok(())
+        },
         None => Ok(()),
     }
 }
@@ -122,7 +125,10 @@ pub(crate) fn known_rate(
     ensures { OnOk result (out.new.items ≡ out.old.items ++ lines level (known (rate_node name.now) units)) }
 {
     match units {
-        Some(units) => rate(out, level, name, units),
+        Some(units) => {
+            rate(out, level, name, units)?;
+            Ok(())
+        },
         None => Ok(()),
     }
 }

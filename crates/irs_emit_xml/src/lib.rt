@@ -6,6 +6,8 @@ mod emitting;
 mod laws;
 mod leaves;
 mod rows;
+#[cfg(test)]
+mod tests;
 mod writer;
 
 pub use emitting::emit_xml;

@@ -81,12 +81,16 @@ fn definition(out: &mut Vec<u8>, x: &CalculationPeriod, r: &Reset) -> Result<(),
 }
 
 // The rate of a period, with its reset on a floating stream.
+#[tactic(auto, using(crate::proofs::Lines::last_line))]
 fn rate(out: &mut Vec<u8>, x: &CalculationPeriod, reset: Option<&Reset>) -> Result<(), Memory>
     ensures { OnOk result (out.new.items ≡ out.old.items
         ++ lines 5 (rate_of x.now (option_map (λ r. r.now) reset.entry))) }
 {
     match reset {
-        Some(r) => definition(out, x, r),
+        Some(r) => {
+            definition(out, x, r)?;
+            Ok(())
+        },
         None => known_rate(out, DEFINITION, "fixedRate", x.rate),
     }
 }
