@@ -16,7 +16,8 @@ pub text_is : (s : List Part) (a b c : List ℕ) → a ≡ declared_text ++ root
     → c ≡ b ++ close_text 0 (codes "swap") → c ≡ flows_text s
 unfolding flows_text written_text
 text_is s a b c e f g =
-    twice f g ∙ ap (λ t. t ++ (lines 1 (map stream_node s) ++ close_text 0 (codes "swap"))) e
+    twice a b c (lines 1 (map stream_node s)) (close_text 0 (codes "swap")) f g
+    ∙ ap (λ t. t ++ (lines 1 (map stream_node s) ++ close_text 0 (codes "swap"))) e
     ∙ append_assoc declared_text (root_open_text (codes "swap")) (lines 1 (map stream_node s) ++ close_text 0 (codes "swap"))
     ∙ ap (λ t. declared_text ++ (root_open_text (codes "swap") ++ (t ++ close_text 0 (codes "swap")))) (sym (lines_listed 1 (map stream_node s)))
 

@@ -428,13 +428,13 @@ carried_its_cash p = refl
 sound_stream : (p : Part) → is_sound (carried_stream p) ≡ true
 sound_stream p = refl
 
-stream_fault : (p : Part) → IsPartShort p → (number : ℕ) (f : Broken) → StreamFault number (carried_stream p) f → StreamFault number (stream_value p) f
+stream_fault : (p : Part) → IsPartShort p → (nth : ℕ) (f : Broken) → StreamFault nth (carried_stream p) f → StreamFault nth (stream_value p) f
 unfolding cashflows_value
-stream_fault p h number f (inl own) = absurd (not_sound (is_sound (carried_stream p)) (sound_stream p) own.0)
-stream_fault p h number f (inr inside) =
+stream_fault p h nth f (inl own) = absurd (not_sound (is_sound (carried_stream p)) (sound_stream p) own.0)
+stream_fault p h nth f (inr inside) =
     inr (
       refl,
-      subst (λ ds. OnceFault number ds f) (sym (its_cash p)) (cash_fault number p h f (subst (λ ds. OnceFault number ds f) (carried_its_cash p) inside.1)),
+      subst (λ ds. OnceFault nth ds f) (sym (its_cash p)) (cash_fault nth p h f (subst (λ ds. OnceFault nth ds f) (carried_its_cash p) inside.1)),
     )
 
 -- a row at a place of a list that was mapped

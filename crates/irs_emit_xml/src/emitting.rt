@@ -11,7 +11,7 @@ ghost use Rattle.irs_xml.specs.Document.{XmlReads};
 
 use crate::leaves::day;
 use crate::rows::{exchange, forecast, period};
-use crate::writer::{begin, close, leaf, open};
+use crate::writer::{begin, close_tag, leaf, open_tag};
 use irs_base::Memory;
 use irs_schedule::{PaymentEntry, Schedule, StreamPart};
 use std::alloc::Global;
@@ -29,7 +29,6 @@ const CASHFLOWS: u8 = 2;
 const PAYMENT: u8 = 3;
 
 // The principal exchanges.
-#[tactic(auto, using(crate::proofs::Walks::mapped_more, crate::proofs::Walks::mapped_all))]
 fn exchanges(out: &mut Vec<u8>, part: &StreamPart) -> Result<(), Memory>
     ensures { OnOk result (out.new.items ≡ out.old.items ++ lines 3 (map exchange_node part.now.exchanges)) }
 {
@@ -55,12 +54,11 @@ fn one_period(out: &mut Vec<u8>, part: &StreamPart, place: usize) -> Result<(), 
 }
 
 // The calculation periods from a place up to another, counted from 0.
-#[tactic(auto, using(crate::proofs::Walks::no_periods, crate::proofs::Walks::next_period))]
-fn periods(out: &mut Vec<u8>, part: &StreamPart, first: usize, end: usize) -> Result<(), Memory>
-    requires { first ≤ end }
-    ensures { OnOk result (out.new.items ≡ out.old.items ++ lines 4 (period_nodes part.now first (end - first))) }
+fn periods(out: &mut Vec<u8>, part: &StreamPart, first: usize, last: usize) -> Result<(), Memory>
+    requires { first ≤ last }
+    ensures { OnOk result (out.new.items ≡ out.old.items ++ lines 4 (period_nodes part.now first (last - first))) }
 {
-    for place in first..end {
+    for place in first..last {
         one_period(out, part, place)?;
     }
     Ok(())
@@ -73,18 +71,17 @@ fn payment(out: &mut Vec<u8>, part: &StreamPart, y: &PaymentEntry) -> Result<(),
     ensures { OnOk result (out.new.items ≡ out.old.items ++ node_text 3 (payment_node part.now y.now)) }
 {
     let first = y.first_period as usize - 1;
-    let end = y.last_period as usize;
-    open(out, PAYMENT, "paymentCalculationPeriod")?;
+    let last = y.last_period as usize;
+    open_tag(out, PAYMENT, "paymentCalculationPeriod")?;
     day(out, PAYMENT + 1, "unadjustedPaymentDate", y.unadjusted)?;
     day(out, PAYMENT + 1, "adjustedPaymentDate", y.adjusted)?;
-    periods(out, part, first, end)?;
+    periods(out, part, first, last)?;
     forecast(out, part.currency(), y)?;
-    close(out, PAYMENT, "paymentCalculationPeriod")?;
+    close_tag(out, PAYMENT, "paymentCalculationPeriod")?;
     Ok(())
 }
 
 // The payments.
-#[tactic(auto, using(crate::proofs::Walks::mapped_more, crate::proofs::Walks::mapped_all, irs_emit::proofs::Bounds::paid_at))]
 fn payments(out: &mut Vec<u8>, part: &StreamPart) -> Result<(), Memory>
     ensures { OnOk result (out.new.items ≡ out.old.items ++ lines 3 (map (payment_node part.now) part.now.payments)) }
 {
@@ -100,11 +97,11 @@ fn payments(out: &mut Vec<u8>, part: &StreamPart) -> Result<(), Memory>
 fn cashflows(out: &mut Vec<u8>, part: &StreamPart) -> Result<(), Memory>
     ensures { OnOk result (out.new.items ≡ out.old.items ++ node_text 2 (cashflows_node part.now)) }
 {
-    open(out, CASHFLOWS, "cashflows")?;
+    open_tag(out, CASHFLOWS, "cashflows")?;
     leaf(out, CASHFLOWS + 1, "cashflowsMatchParameters", b"true")?;
     exchanges(out, part)?;
     payments(out, part)?;
-    close(out, CASHFLOWS, "cashflows")?;
+    close_tag(out, CASHFLOWS, "cashflows")?;
     Ok(())
 }
 
@@ -113,14 +110,13 @@ fn cashflows(out: &mut Vec<u8>, part: &StreamPart) -> Result<(), Memory>
 fn stream(out: &mut Vec<u8>, part: &StreamPart) -> Result<(), Memory>
     ensures { OnOk result (out.new.items ≡ out.old.items ++ node_text 1 (stream_node part.now)) }
 {
-    open(out, STREAM, "swapStream")?;
+    open_tag(out, STREAM, "swapStream")?;
     cashflows(out, part)?;
-    close(out, STREAM, "swapStream")?;
+    close_tag(out, STREAM, "swapStream")?;
     Ok(())
 }
 
 // The streams.
-#[tactic(auto, using(crate::proofs::Walks::mapped_more, crate::proofs::Walks::mapped_all))]
 fn streams(out: &mut Vec<u8>, parts: &[StreamPart]) -> Result<(), Memory>
     ensures { OnOk result (out.new.items ≡ out.old.items ++ lines 1 (map stream_node parts.now)) }
 {
@@ -137,7 +133,6 @@ fn streams(out: &mut Vec<u8>, parts: &[StreamPart]) -> Result<(), Memory>
 /// rounded to the nearest. Read as XML the document means what `emit_flows` of irs_emit writes as
 /// JSON, where each array of one value is that value. `Memory` comes where memory runs out. The
 /// layout is ours.
-#[tactic(auto, using(crate::proofs::Document::text_is, crate::proofs::Document::text_reads, crate::proofs::Stated::states))]
 pub fn emit_xml(alloc: Global, s: &Schedule) -> Result<Vec<u8>, Memory>
     ensures text { IfOk result (λ bytes. bytes.items ≡ flows_text s.now) }
     ensures reads { IfOk result (λ bytes. XmlReads bytes.items (ones (emit_value s.now))) }
@@ -146,6 +141,6 @@ pub fn emit_xml(alloc: Global, s: &Schedule) -> Result<Vec<u8>, Memory>
     let mut out = Vec::new(alloc);
     begin(&mut out, "swap")?;
     streams(&mut out, s.streams())?;
-    close(&mut out, ROOT, "swap")?;
+    close_tag(&mut out, ROOT, "swap")?;
     Ok(out)
 }

@@ -95,7 +95,6 @@ pub(crate) fn currency(out: &mut Vec<u8>, level: u8, name: &str, c: Currency) ->
 }
 
 /// An amount, where it is known.
-#[tactic(auto, using(crate::proofs::Lines::none_known, crate::proofs::Lines::one_known))]
 pub(crate) fn known_amount(
     out: &mut Vec<u8>,
     level: u8,
@@ -115,7 +114,6 @@ pub(crate) fn known_amount(
 }
 
 /// A rate, where it is known.
-#[tactic(auto, using(crate::proofs::Lines::none_known, crate::proofs::Lines::one_known))]
 pub(crate) fn known_rate(
     out: &mut Vec<u8>,
     level: u8,

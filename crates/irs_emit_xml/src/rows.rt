@@ -8,7 +8,7 @@ ghost use Rattle.irs_emit_xml.specs.Trees.{node_text};
 ghost use Rattle.irs_schedule.specs.RowTexts.{IsFew};
 
 use crate::leaves::{amount, count, currency, day, fraction, known_amount, known_rate, notional};
-use crate::writer::{close, open};
+use crate::writer::{close_tag, open_tag};
 use irs_base::Memory;
 use irs_schedule::{CalculationPeriod, PaymentEntry};
 use irs_terms::{Currency, Exchange, Reset};
@@ -32,11 +32,11 @@ pub(crate) fn exchange(out: &mut Vec<u8>, x: &Exchange) -> Result<(), Memory>
     ensures { OnOk result (out.new.items ≡ out.old.items ++ node_text 3 (exchange_node x.now)) }
 {
     let fields = EXCHANGE + 1;
-    open(out, EXCHANGE, "principalExchange")?;
+    open_tag(out, EXCHANGE, "principalExchange")?;
     day(out, fields, "unadjustedPrincipalExchangeDate", x.unadjusted)?;
     day(out, fields, "adjustedPrincipalExchangeDate", x.adjusted)?;
     amount(out, fields, "principalExchangeAmount", x.amount)?;
-    close(out, EXCHANGE, "principalExchange")?;
+    close_tag(out, EXCHANGE, "principalExchange")?;
     Ok(())
 }
 
@@ -47,10 +47,10 @@ pub(crate) fn forecast(out: &mut Vec<u8>, of: Currency, y: &PaymentEntry) -> Res
     ensures { OnOk result (out.new.items ≡ out.old.items ++ node_text 4 (forecast_node of y.now)) }
 {
     let fields = PERIOD + 1;
-    open(out, PERIOD, "forecastPaymentAmount")?;
+    open_tag(out, PERIOD, "forecastPaymentAmount")?;
     currency(out, fields, "currency", of)?;
     known_amount(out, fields, "amount", y.amount)?;
-    close(out, PERIOD, "forecastPaymentAmount")?;
+    close_tag(out, PERIOD, "forecastPaymentAmount")?;
     Ok(())
 }
 
@@ -60,11 +60,11 @@ fn observation(out: &mut Vec<u8>, r: &Reset) -> Result<(), Memory>
     ensures { OnOk result (out.new.items ≡ out.old.items ++ node_text 6 (observation_node r.now)) }
 {
     let fields = OBSERVATION + 1;
-    open(out, OBSERVATION, "rateObservation")?;
+    open_tag(out, OBSERVATION, "rateObservation")?;
     day(out, fields, "resetDate", r.reset)?;
     day(out, fields, "adjustedFixingDate", r.fixing)?;
     known_rate(out, fields, "observedRate", r.observed)?;
-    close(out, OBSERVATION, "rateObservation")?;
+    close_tag(out, OBSERVATION, "rateObservation")?;
     Ok(())
 }
 
@@ -73,15 +73,14 @@ fn observation(out: &mut Vec<u8>, r: &Reset) -> Result<(), Memory>
 fn definition(out: &mut Vec<u8>, x: &CalculationPeriod, r: &Reset) -> Result<(), Memory>
     ensures { OnOk result (out.new.items ≡ out.old.items ++ node_text 5 (definition_node x.now r.now)) }
 {
-    open(out, DEFINITION, "floatingRateDefinition")?;
+    open_tag(out, DEFINITION, "floatingRateDefinition")?;
     known_rate(out, DEFINITION + 1, "calculatedRate", x.rate)?;
     observation(out, r)?;
-    close(out, DEFINITION, "floatingRateDefinition")?;
+    close_tag(out, DEFINITION, "floatingRateDefinition")?;
     Ok(())
 }
 
 // The rate of a period, with its reset on a floating stream.
-#[tactic(auto, using(crate::proofs::Lines::last_line))]
 fn rate(out: &mut Vec<u8>, x: &CalculationPeriod, reset: Option<&Reset>) -> Result<(), Memory>
     ensures { OnOk result (out.new.items ≡ out.old.items
         ++ lines 5 (rate_of x.now (option_map (λ r. r.now) reset.entry))) }
@@ -120,10 +119,10 @@ pub(crate) fn period(
     ensures { OnOk result (out.new.items ≡ out.old.items
         ++ node_text 4 (period_node x.now (option_map (λ r. r.now) reset.entry))) }
 {
-    open(out, PERIOD, "calculationPeriod")?;
+    open_tag(out, PERIOD, "calculationPeriod")?;
     front(out, x)?;
     rate(out, x, reset)?;
     fraction(out, PERIOD + 1, "dayCountYearFraction", x.frac)?;
-    close(out, PERIOD, "calculationPeriod")?;
+    close_tag(out, PERIOD, "calculationPeriod")?;
     Ok(())
 }

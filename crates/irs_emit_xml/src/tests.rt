@@ -2,7 +2,7 @@
 //! amounts are those of a swap of 50 million euro from December 1994, at 6 percent by 30E/360 against a
 //! floating rate by ACT/360.
 use crate::rows::{exchange, forecast, period};
-use crate::writer::{begin, close, leaf, open};
+use crate::writer::{begin, close_tag, leaf, open_tag};
 use irs_base::{Dec, Memory, read_date};
 use irs_schedule::{CalculationPeriod, PaymentEntry};
 use irs_terms::{Currency, Exchange, Frac, Reset};
@@ -170,15 +170,15 @@ fn amount_text(alloc: Global, cents: Option<i128>) -> Option<Vec<u8>> {
 fn document(alloc: Global) -> Result<Vec<u8>, Memory> {
     let mut out = Vec::new(alloc);
     begin(&mut out, "swap")?;
-    open(&mut out, 1, "swapStream")?;
+    open_tag(&mut out, 1, "swapStream")?;
     leaf(&mut out, 2, "a", b"1")?;
     leaf(&mut out, 2, "b", b"")?;
     leaf(&mut out, 2, "a", b"-2.50")?;
-    close(&mut out, 1, "swapStream")?;
-    open(&mut out, 1, "swapStream")?;
+    close_tag(&mut out, 1, "swapStream")?;
+    open_tag(&mut out, 1, "swapStream")?;
     leaf(&mut out, 2, "b", b"c > d")?;
-    close(&mut out, 1, "swapStream")?;
-    close(&mut out, 0, "swap")?;
+    close_tag(&mut out, 1, "swapStream")?;
+    close_tag(&mut out, 0, "swap")?;
     Ok(out)
 }
 

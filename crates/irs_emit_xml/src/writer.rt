@@ -7,7 +7,6 @@ ghost use Rattle.irs_emit_xml.specs.Trees.{root_open_text};
 use irs_base::Memory;
 
 // Two spaces for each level.
-#[tactic(auto, using(crate::proofs::Lines::indent_more))]
 fn indent(out: &mut Vec<u8>, level: u8) -> Result<(), Memory>
     ensures { OnOk result (out.new.items ≡ out.old.items ++ indent level) }
 {
@@ -18,8 +17,7 @@ fn indent(out: &mut Vec<u8>, level: u8) -> Result<(), Memory>
 }
 
 // An end tag and the end of its line.
-#[tactic(auto, using(crate::proofs::Lines::end_pieces))]
-fn end(out: &mut Vec<u8>, name: &str) -> Result<(), Memory>
+fn end_tag(out: &mut Vec<u8>, name: &str) -> Result<(), Memory>
     ensures { OnOk result (out.new.items ≡ out.old.items ++ end_text name.now) }
 {
     out.extend_from_slice(b"</")?;
@@ -29,8 +27,7 @@ fn end(out: &mut Vec<u8>, name: &str) -> Result<(), Memory>
 }
 
 /// Appends the start tag of an element that has elements.
-#[tactic(auto, using(crate::proofs::Lines::open_pieces))]
-pub(crate) fn open(out: &mut Vec<u8>, level: u8, name: &str) -> Result<(), Memory>
+pub(crate) fn open_tag(out: &mut Vec<u8>, level: u8, name: &str) -> Result<(), Memory>
     ensures { OnOk result (out.new.items ≡ out.old.items ++ open_text level name.now) }
 {
     indent(out, level)?;
@@ -41,17 +38,15 @@ pub(crate) fn open(out: &mut Vec<u8>, level: u8, name: &str) -> Result<(), Memor
 }
 
 /// Appends the end tag of an element that has elements.
-#[tactic(auto, using(crate::proofs::Lines::close_pieces))]
-pub(crate) fn close(out: &mut Vec<u8>, level: u8, name: &str) -> Result<(), Memory>
+pub(crate) fn close_tag(out: &mut Vec<u8>, level: u8, name: &str) -> Result<(), Memory>
     ensures { OnOk result (out.new.items ≡ out.old.items ++ close_text level name.now) }
 {
     indent(out, level)?;
-    end(out, name)?;
+    end_tag(out, name)?;
     Ok(())
 }
 
 /// Appends an element that has a text, which needs no escape.
-#[tactic(auto, using(crate::proofs::Lines::leaf_pieces))]
 pub(crate) fn leaf(out: &mut Vec<u8>, level: u8, name: &str, text: &[u8]) -> Result<(), Memory>
     ensures { OnOk result (out.new.items ≡ out.old.items ++ leaf_text level name.now text.now) }
 {
@@ -60,7 +55,7 @@ pub(crate) fn leaf(out: &mut Vec<u8>, level: u8, name: &str, text: &[u8]) -> Res
     out.extend_from_slice(name.as_bytes())?;
     out.extend_from_slice(b">")?;
     out.extend_from_slice(text)?;
-    end(out, name)?;
+    end_tag(out, name)?;
     Ok(())
 }
 
