@@ -20,8 +20,8 @@ use Rattle.irs_emit.specs.PartLaws.{IsPartShort}
 use Rattle.irs_emit.specs.RowLaws.{IsPaymentShort}
 use Rattle.irs_emit.proofs.Short.{parts_short}
 use Rattle.irs_emit.specs.Leaves.{amount_leaf, rate_leaf, text_of}
-use Rattle.irs_xml.specs.Values.{Child, with_child, with_children}
-use Rattle.serde_json.specs.Data.{Data, string, array, object, Members, no_members, member, put}
+use Rattle.irs_xml.specs.Values.{Child, with_children}
+use Rattle.serde_json.specs.Data.{Data, string, object, Members, no_members, member, put}
 use Rattle.serde_json.specs.View.{items_of}
 use Rattle.irs_emit_xml.specs.Trees.{Node, leaf, node_name, node_value, children_of, written_value}
 use Rattle.irs_emit_xml.specs.Ones.{alone, ones}

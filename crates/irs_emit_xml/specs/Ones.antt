@@ -1,4 +1,4 @@
--- A value as XML carries it. In JSON one value of a list is an array of one; in XML it is an element like any other, so
+-- A value as XML carries it. In JSON one value of a list is an array of one. In XML it is an element like any other, so
 -- its value is no array.
 use Rattle.serde_json.specs.Data.{Data, null, boolean, number, string, array, object, Items, no_items, item, Members}
 use Rattle.serde_json.specs.Data.{no_members, member}

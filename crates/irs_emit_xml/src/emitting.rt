@@ -126,7 +126,7 @@ fn streams(out: &mut Vec<u8>, parts: &[StreamPart]) -> Result<(), Memory>
     Ok(())
 }
 
-/// The cash flows of a schedule as a document in XML: a root `swap`, and in it for each stream its
+/// The cash flows of a schedule as a document in XML. In its root `swap` each stream has its
 /// `cashflows` (FpML `cashflows` of an InterestRateStream). Elements are in the order of FpML's schema.
 /// There is one for each field that the schedule knows, and no other. A date is `YYYY-MM-DD`, and an
 /// amount has the decimals of its currency. A notional has 4 decimals, a rate 9 and a fraction 10,

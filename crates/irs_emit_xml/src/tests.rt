@@ -1,6 +1,6 @@
 //! The rows of cash flows byte for byte, and what a reader of XML makes of a document. The dates and
-//! amounts are those of a swap of 50 million euro from December 1994, at 6 percent by 30E/360 against a
-//! floating rate by ACT/360.
+//! amounts are those of a swap of 50 million euro from December 1994. It pays 6 percent by 30E/360
+//! against a floating rate by ACT/360.
 use crate::rows::{exchange, forecast, period};
 use crate::writer::{begin, close_tag, leaf, open_tag};
 use irs_base::{Dec, Memory, read_date};
