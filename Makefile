@@ -51,6 +51,7 @@ examples: irs
 	tools/rules
 	tools/shown
 	tools/words --wrong
+	tools/reading --check
 
 faults: irs
 	tools/faults

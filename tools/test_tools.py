@@ -321,6 +321,105 @@ one sentence: %s.
         self.assertIn("crates/irs/src/lib.rt:2: 'so many' (n, the number of)", lines)
 
 
+class Reading(InRoom):
+    """The definitions that contracts rest on, in a repository of two crates."""
+
+    FILES = {
+        "low/src/lib.rt": "pub use days::{Day, first};\n",
+        "low/src/days.rt": """ghost use Rattle.low.specs.Days.{IsDay as IsOne};
+ghost use Rattle.low.specs.Other.{kept};
+
+pub struct Day {
+    ghost whole: { kept n },
+}
+
+pub fn first() -> Day
+    ensures { IsOne result }
+{
+    helped()
+}
+
+pub fn helped() -> Day
+    ensures { private result }
+{
+    Day {}
+}
+""",
+        "low/specs/Days.antt": """-- IsNight isn't named here: last
+use Rattle.low.specs.Other.{sunday, monday, day}
+
+mutual
+  -- a day
+  pub record IsDay (n : Day) : Type 0 where
+    pub on : IsAt n
+    pub named : "-- last" × monday
+
+  -- its place
+  abbrev pub IsAt : Day -> Type 0
+  IsAt n = sunday
+
+-- the last one
+abbrev pub last : Day
+last = day
+""",
+        "low/specs/Other.antt": """-- the days of a week
+pub data Week : Type 0 where
+  sunday : Week
+  monday : Week
+
+-- a day
+abbrev pub day : Week
+day = monday
+
+-- it is kept
+abbrev pub kept : Day -> Type 0
+kept n = IsSet n
+""",
+        "high/src/lib.rt": "#![tactic(auto)]\n\npub fn second() -> u8\n    ensures { result < 2 }\n{\n    1\n}\n",
+    }
+
+    def setUp(self) -> None:
+        super().setUp()
+        self.top = self.copy("tools/reading")
+        for name, text in self.FILES.items():
+            path = self.top / "crates" / name
+            path.parent.mkdir(parents=True, exist_ok=True)
+            path.write_text(text)
+        (self.top / "docs").mkdir()
+
+    def found(self, *words: str) -> Tuple[int, List[str]]:
+        status, out, said = self.run_tool(["tools/reading", *words], self.top)
+        return status, (out + said).splitlines()
+
+    def test_what_a_call_rests_on(self) -> None:
+        self.assertEqual(
+            self.found(),
+            (0, ["high::second: 0 definitions, 0 lines, 0 files", "low::first: 3 definitions, 8 lines, 2 files"]),
+        )
+        self.assertEqual(
+            self.found("low::first"),
+            (0, ["low::first: 3 definitions, 8 lines", "  low Days: IsAt, IsDay", "  low Other: Week"]),
+        )
+
+    def test_no_such_call(self) -> None:
+        said = "tools/reading: no public call with a contract: low::helped"
+        self.assertEqual(self.found("low::helped"), (2, [said]))
+
+    def test_what_no_contract_reaches(self) -> None:
+        lines = ["low Days: last", "low Other: day", "6 definitions, 2 of them reached from no public contract"]
+        self.assertEqual(self.found("--unreached"), (0, lines))
+
+    def test_an_old_page(self) -> None:
+        self.assertEqual(self.found("--check"), (1, ["docs/READING.md is old: tools/reading --page"]))
+        self.assertEqual(self.found("--page"), (0, []))
+        self.assertEqual(self.found("--check"), (0, ["docs/READING.md is the present one"]))
+        self.assertIn("\n**`first`**: 3 definitions, 8 lines.\n\n- low: Days, Other\n", self.found_page())
+        self.assertNotIn("second", self.found_page())
+
+    def found_page(self) -> str:
+        return (self.top / "docs" / "READING.md").read_text()
+
+
 class Shown(InRoom):
     """The commands of pages, and what they print there."""
 

@@ -14,7 +14,7 @@ ghost use Rattle.irs_terms.specs.TermDates.{DatesInOrder};
 ghost use Rattle.irs_periods.specs.Spans.{Regular};
 ghost use Rattle.irs_observed.specs.ObservationPeriods.{Shifts};
 ghost use Rattle.irs_observed.specs.OvernightRates.{HasBounds};
-ghost use Rattle.irs_accrue.specs.Accruals.{HasPlaces, Runs};
+ghost use Rattle.irs_accrue.specs.Accruals.{Runs};
 ghost use Rattle.irs_accrue.specs.DailyAccruals.{AccruesAs, AccruesDaily, EarnsBefore, GivesRate, HasSpan, IsDailyAccrual};
 ghost use Rattle.irs_accrue.specs.DailyAccruals.{daily_terms, nothing};
 ghost use Rattle.irs_accrue.specs.Sizes.{IsSmall};

@@ -139,9 +139,6 @@ impl Elem {
     /// `calculationPeriodAmount`.
     pub const CALCULATION_PERIOD_AMOUNT: Elem = Elem { place: 75 };
 
-    /// `calculationPeriodAmount/calculation`.
-    pub const CALCULATION: Elem = Elem { place: 76 };
-
     /// `calculationPeriodAmount/calculation/notionalSchedule/notionalStepSchedule/step/stepDate`.
     pub const NOTIONAL_STEP_DATE: Elem = Elem { place: 81 };
 
@@ -196,17 +193,8 @@ impl Elem {
     /// `cashflows`.
     pub const CASHFLOWS: Elem = Elem { place: 141 };
 
-    /// `principalExchange`.
-    pub const FLOW_EXCHANGE: Elem = Elem { place: 142 };
-
-    /// `paymentCalculationPeriod`.
-    pub const FLOW_PAYMENT: Elem = Elem { place: 146 };
-
     /// `calculationPeriod`.
     pub const FLOW_PERIOD: Elem = Elem { place: 152 };
-
-    /// `rateObservation`.
-    pub const FLOW_OBSERVATION: Elem = Elem { place: 163 };
 
     /// The element at a place of the table; `None` exactly past its end.
     pub fn at(place: u8) -> Option<Elem>

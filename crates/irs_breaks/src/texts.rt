@@ -5,7 +5,7 @@
 //! text of a schedule, and a value of theirs likewise. An amount, a notional or a rate of theirs has as many
 //! decimals as ours, and more only as far as its value needs them. A day count fraction of theirs has its own
 //! decimals.
-ghost use Rattle.std.specs.Prelude.{◌≡◌, ◌+◌, ◌<◌, ◌≤◌, ◌^◌, [], ◌∷◌, ◌++◌, length, sum_by, codes, decimal, min, pos, IfOk, OnOk};
+ghost use Rattle.std.specs.Prelude.{◌≡◌, ◌+◌, ◌<◌, ◌≤◌, ◌^◌, [], ◌∷◌, ◌++◌, length, sum_by, decimal, min, pos, IfOk, OnOk};
 ghost use Rattle.std.specs.Fmt.{signed_decimal};
 ghost use Rattle.std.specs.Int.{int_div_euclid, int_rem_euclid};
 ghost use Rattle.std.specs.Ordering.{int_eq};

@@ -1,5 +1,5 @@
 //! The values of a field on both sides, and whether they differ.
-ghost use Rattle.std.specs.Prelude.{◌≡◌, ◌↔◌, IfSome, IsTrue};
+ghost use Rattle.std.specs.Prelude.{◌≡◌, ◌↔◌, IsTrue};
 ghost use Rattle.irs_breaks.specs.Values.{CanBeCompared, Differ, standing_of, stands_by};
 
 use irs_audit::{

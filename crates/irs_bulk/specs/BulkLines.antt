@@ -1,5 +1,5 @@
 -- The sums of a run of `bulk`, and its line.
-use Rattle.std.specs.Prelude.{ℕ, ◌+◌, ◌*◌, ◌^◌, ◌≤◌, List, [], ◌∷◌, ◌++◌, codes, decimal, pos, ◌+ℤ◌, unsigned_abs}
+use Rattle.std.specs.Prelude.{ℕ, ◌+◌, ◌*◌, ◌^◌, ◌≤◌, List, ◌∷◌, ◌++◌, codes, decimal, pos, ◌+ℤ◌, unsigned_abs}
 use Rattle.std.specs.Fmt.{signed_decimal}
 use Rattle.irs_base.specs.Rounding.{rounded}
 use Rattle.irs_base.specs.Texts.{dec_text}
@@ -38,11 +38,6 @@ both_totals t u = record {
   agree = t.agree + u.agree;
   first = t.first + u.first;
 }
-
--- the sums of a list of runs, added to these
-abbrev pub totals_from : Totals → List Totals → Totals
-totals_from t [] = t
-totals_from t (u ∷ us) = totals_from (both_totals t u) us
 
 -- the line of a run: N, ROWS, TOTAL with two decimals, DAYS, AGREE and FIRST
 unfoldable pub line_text : Totals → List ℕ

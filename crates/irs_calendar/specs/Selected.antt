@@ -1,7 +1,6 @@
 -- The business days of a list of centres.
-use Rattle.std.specs.Prelude.{ℕ, ◌+◌, Bool, ◌&&◌, List, [], ◌∷◌, Option, Some, None, ℤ, ◌≤ℤ◌, ◌↔◌, if◌then◌else◌}
-use Rattle.std.specs.List.{list_all}
-use Rattle.std.specs.Ordering.{int_cmp, is_le, is_lt}
+use Rattle.std.specs.Prelude.{ℕ, ◌+◌, List, [], ◌∷◌, Option, Some, None, ℤ, ◌≤ℤ◌, ◌↔◌, if◌then◌else◌}
+use Rattle.std.specs.Ordering.{int_cmp, is_lt}
 use Rattle.irs_base.specs.Days.{first_day, last_day, IsDay}
 use Rattle.irs_calendar.specs.declared.sections.Section.{Section}
 use Rattle.irs_calendar.specs.GoodDays.{DaySet, InCover}
@@ -24,10 +23,6 @@ latest_first d (s ∷ ss) = latest_first (later d s.first) ss
 abbrev pub earliest_last : ℤ → List Section → ℤ
 earliest_last d [] = d
 earliest_last d (s ∷ ss) = earliest_last (earlier d s.last) ss
-
--- the day lies in the cover of each section
-abbrev pub all_cover : List Section → ℤ → Bool
-all_cover ss d = list_all (λ s. is_le (int_cmp s.first d) && is_le (int_cmp d s.last)) ss
 
 -- the cover is what the covers have in common; its business days are those that all sections leave open
 abbrev pub set_of_sections : List Section → DaySet

@@ -34,6 +34,13 @@ pub trait GoodDays {
         ensures some { IfSome result (Next (days self.now) d) }
         ensures none { IfNone result ((r : ℤ) → Next (days self.now) d r → ⊥) };
 
+    /// As `next_good`, and a place for the search of a later day. The search begins at a place, and the day
+    /// is the same from every place. A search for the next day or soon after it takes few steps from
+    /// the place of the one before.
+    fn next_good_near(&self, d: Day, near: usize) -> (Option<Day>, usize)
+        ensures some { IfSome result.0 (Next (days self.now) d) }
+        ensures none { IfNone result.0 ((r : ℤ) → Next (days self.now) d r → ⊥) };
+
     /// The last business day at or before the day; `None` exactly where the day is outside the
     /// cover, or none comes before it there.
     fn prev_good(&self, d: Day) -> Option<Day>

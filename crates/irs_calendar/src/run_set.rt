@@ -7,7 +7,7 @@ ghost use Rattle.irs_calendar.specs.GoodDays.{Next, Prev, IsWhole};
 ghost use Rattle.irs_calendar.specs.Runs.{CoveredRuns, AreRuns, set_of_runs};
 
 use crate::runs::{Run, Runs};
-use crate::search::{End, count_before};
+use crate::search::{End, count_before, count_near};
 use crate::{GoodDays, Steps};
 use irs_base::Day;
 use std::marker::{Brand, Model};
@@ -76,6 +76,33 @@ impl RunSet {
         }
     }
 
+    /// As `next_good_near`, in at most five steps more than `next_good_counted`.
+    pub fn next_good_near_counted<L: Ledger>(
+        &self,
+        d: Day,
+        near: usize,
+        steps: &mut Steps<L>,
+    ) -> (Option<Day>, usize)
+        ensures some { IfSome result.0 (Next (set_of_runs self.now) d) }
+        ensures none { IfNone result.0 ((r : ℤ) → Next (set_of_runs self.now) d r → ⊥) }
+        ensures rises { steps.old ≤ steps.new }
+        ensures cost { 2 ^ (steps.new - steps.old) ≤ 64 * length self.now.runs + 32 }
+    {
+        if d < self.first || self.last < d {
+            return (None, near);
+        }
+        let place = count_near(&self.runs, End::Last, d, near, steps);
+        if place == self.runs.count() {
+            return (None, place);
+        }
+        let run = self.runs.read(place, steps);
+        if d < run.first {
+            (Some(run.first), place)
+        } else {
+            (Some(d), place)
+        }
+    }
+
     /// As `prev_good`, in at most as many steps as the number of runs has binary digits, and one
     /// more. A step is one run read.
     pub fn prev_good_counted<L: Ledger>(&self, d: Day, steps: &mut Steps<L>) -> Option<Day>
@@ -122,6 +149,17 @@ impl RunSet {
         self.next_good_counted::<L>(d, &mut Steps::new(blank))
     }
 
+    // `next_good_near`, its steps not counted.
+    fn next_near_from<L: Ledger>(&self, d: Day, near: usize, blank: Blank) -> (Option<Day>, usize)
+        requires name { blank.name ≡ L.name }
+        requires parts { blank.parts ≡ L.parts }
+        requires positive { 0 < L.parts }
+        ensures some { IfSome result.0 (Next (set_of_runs self.now) d) }
+        ensures none { IfNone result.0 ((r : ℤ) → Next (set_of_runs self.now) d r → ⊥) }
+    {
+        self.next_good_near_counted::<L>(d, near, &mut Steps::new(blank))
+    }
+
     // `prev_good`, its steps not counted.
     fn prev_from<L: Ledger>(&self, d: Day, blank: Blank) -> Option<Day>
         requires name { blank.name ≡ L.name }
@@ -151,6 +189,10 @@ impl GoodDays for RunSet {
 
     fn next_good(&self, d: Day) -> Option<Day> {
         self.next_from::<Brand>(d, Blank::new(1))
+    }
+
+    fn next_good_near(&self, d: Day, near: usize) -> (Option<Day>, usize) {
+        self.next_near_from::<Brand>(d, near, Blank::new(1))
     }
 
     fn prev_good(&self, d: Day) -> Option<Day> {

@@ -1,5 +1,5 @@
 //! Binary search in runs.
-ghost use Rattle.std.specs.Prelude.{◌≡◌, ◌+◌, ◌-◌, ◌*◌, ◌^◌, ◌≤◌, length};
+ghost use Rattle.std.specs.Prelude.{◌≡◌, ◌+◌, ◌-◌, ◌*◌, ◌^◌, ◌≤◌, length, IsTrue};
 ghost use Rattle.irs_calendar.specs.Splits.{comes_before, IsDownward, Splits};
 
 use crate::Steps;
@@ -45,4 +45,46 @@ pub fn count_before<L: Ledger>(runs: &Runs, end: End, d: Day, steps: &mut Steps<
         }
     }
     low
+}
+
+// Whether the run before a place comes before the day, and the run at the place doesn't. It reads at most
+// two runs.
+fn is_cut<L: Ledger>(runs: &Runs, end: End, d: Day, place: usize, steps: &mut Steps<L>) -> bool
+    requires { IsDownward (comes_before end d) runs.now }
+    ensures place { IsTrue result → Splits (comes_before end d) runs.now place }
+    ensures rises { steps.old ≤ steps.new }
+    ensures few { steps.new ≤ steps.old + 2 }
+{
+    if place == 0 {
+        return false;
+    }
+    if place >= runs.count() {
+        return false;
+    }
+    let before = runs.read(place - 1, steps);
+    let run = runs.read(place, steps);
+    is_before(end, before, d) && !is_before(end, run, d)
+}
+
+/// As `count_before`. Two places are tried first, which takes at most four steps.
+pub fn count_near<L: Ledger>(
+    runs: &Runs,
+    end: End,
+    d: Day,
+    near: usize,
+    steps: &mut Steps<L>,
+) -> usize
+    requires { IsDownward (comes_before end d) runs.now }
+    ensures place { Splits (comes_before end d) runs.now result }
+    ensures rises { steps.old ≤ steps.new }
+    ensures cost { 2 ^ (steps.new - steps.old) ≤ 32 * length runs.now + 16 }
+{
+    if is_cut(runs, end, d, near, steps) {
+        return near;
+    }
+    let next = near.saturating_add(1);
+    if is_cut(runs, end, d, next, steps) {
+        return next;
+    }
+    count_before(runs, end, d, steps)
 }

@@ -1,11 +1,11 @@
 //! The rows of one calculation period.
-ghost use Rattle.std.specs.Prelude.{◌≡◌, ◌∷◌, ◌^◌, ◌<◌, ◌<ℤ◌, [], length, IfOk, IfSome};
+ghost use Rattle.std.specs.Prelude.{◌≡◌, ◌^◌, ◌<◌, ◌<ℤ◌, [], length, IfOk, IfSome};
 ghost use Rattle.irs_base.specs.Listed.{IsRising};
 ghost use Rattle.irs_base.specs.Members.{day_at};
 ghost use Rattle.irs_base.specs.Outcomes.{Meets};
 ghost use Rattle.irs_terms.specs.Lawful.{IsLawfulStubs};
 ghost use Rattle.irs_resets.specs.ResetDates.{IsPeriod};
-ghost use Rattle.irs_observed.specs.DailyRates.{daily_rates};
+ghost use Rattle.irs_observed.specs.DailyRates.{daily_rates, rates_by};
 ghost use Rattle.irs_observed.specs.ObservationPeriods.{observed_period};
 ghost use Rattle.irs_observed.specs.Observations.{HasWeights};
 ghost use Rattle.irs_observed.specs.OvernightRates.{overnight_source};
@@ -20,9 +20,10 @@ use crate::rows::{DayRow, NoRowsWhy, ObservedRow, ObservedRows, PeriodRow};
 use irs_base::{Day, Memory, Stopped, Text};
 use irs_calendar::GoodDays;
 use irs_observed::{
-    DailyRateMethod, Observation, ObservationList, daily_rate, method_by, observations, own_rate,
+    DailyRateMethod, Observation, ObservationList, daily_rate_near, method_by, observations,
+    own_rate,
 };
-use irs_resets::{Fixings, period_kind};
+use irs_resets::{Fixings, IndexRates, period_kind};
 use irs_terms::{CalculationParameters, FloatTerms, ObservationOffset, Span, Stream};
 use std::alloc::Global;
 
@@ -48,19 +49,17 @@ fn rated(
     method: DailyRateMethod,
     number: u32,
     observations: &[Observation],
-    fixings: &Fixings,
-    index: &Text,
+    daily: &IndexRates<'_>,
 ) -> Result<RatedDays, Memory>
     requires weights { HasWeights observations.now }
-    ensures days { let daily = daily_rates fixings.now index.now in
-        IfOk result (λ r. r.days ≡ day_rows daily number observations.now) }
-    ensures growth { let daily = daily_rates fixings.now index.now in
-        IfOk result (λ r. IsGrowthOf method daily observations.now r.growth) }
+    ensures days { IfOk result (λ r. r.days ≡ day_rows (rates_by daily.now) number observations.now) }
+    ensures growth { IfOk result (λ r. IsGrowthOf method (rates_by daily.now) observations.now r.growth) }
 {
-    let mut days = ObservedRows::new(alloc);
+    let mut days = ObservedRows::with_room(alloc, observations.len())?;
     let mut growth = first_growth(method);
+    let mut near = 0;
     for o in observations {
-        let rate = daily_rate(fixings, index, o.observed);
+        let rate = daily_rate_near(daily, o.observed, &mut near);
         growth = grown(method, growth, rate, o.weight);
         days.push(ObservedRow::Observed(DayRow {
             number,
@@ -88,12 +87,11 @@ fn rows_by(
     method: DailyRateMethod,
     number: u32,
     all: &ObservationList,
-    fixings: &Fixings,
-    index: &Text,
+    daily: &IndexRates<'_>,
 ) -> Result<PeriodRows, Stopped<NoRowsWhy>>
-    ensures meets { let daily = daily_rates fixings.now index.now in Meets (rows_by_of method daily number all.now) result }
+    ensures meets { Meets (rows_by_of method (rates_by daily.now) number all.now) result }
 {
-    let RatedDays { growth, days } = rated(alloc, method, number, all.as_slice(), fixings, index)?;
+    let RatedDays { growth, days } = rated(alloc, method, number, all.as_slice(), daily)?;
     match growth {
         Growth::Known(factor) => Ok(PeriodRows {
             head: daily_head(number, method, Some(factor)),
@@ -124,7 +122,7 @@ fn daily_rows<G: GoodDays>(
         Meets (daily_rows_of method (daily_rates fixings.now index.now) p number) result }
 {
     match observations(alloc, offset, applicable, start, end) {
-        Ok(all) => rows_by(alloc, method, number, &all, fixings, index),
+        Ok(all) => rows_by(alloc, method, number, &all, &fixings.of(index)),
         Err(Stopped::Broken(why)) => Err(Stopped::Broken(NoRowsWhy::Unobserved(why))),
         Err(Stopped::Memory) => Err(Stopped::Memory),
     }

@@ -1,7 +1,7 @@
 //! The element rows. An element of a document is taken away, repeated or given another value. A row
 //! has what the readers of irs_read and irs_audit and the command `audit` report of it. Other rows
-//! have the values of texts of leaves. The rest are worked examples of JSON texts, broken rules in
-//! order, emitted cash flows, files and sinks in memory, and sentences.
+//! have the values of texts of leaves. The rest are worked examples of JSON texts and FpML XML,
+//! broken rules in order, emitted cash flows, files and sinks in memory, and sentences.
 //!
 //! The rows, their documents and the expected answers are in `data/`; their form is ours.
 #![tactic(auto)]
@@ -33,6 +33,8 @@ mod tally;
 mod told;
 mod values;
 mod words;
+mod xml_rows;
+mod xml_texts;
 
 fn main(rt: HostRuntime) -> anyhow::Result<()> {
     let mut tables = Told::printed(&rt);
@@ -45,6 +47,7 @@ fn main(rt: HostRuntime) -> anyhow::Result<()> {
         (Subject::Documents(Reader::Emit), "emit_rows"),
         (Subject::Leaves, "leaf_rows"),
         (Subject::Json, "json_rows"),
+        (Subject::Xml, "xml_rows"),
         (Subject::Order, "order_rows"),
         (Subject::Files, "file_rows"),
         (Subject::Sinks, "sink_rows"),

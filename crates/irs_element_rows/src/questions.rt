@@ -8,6 +8,7 @@ use crate::readers::Reader;
 use crate::sentence_rows::tell_sentence;
 use crate::sink_rows::tell_sinks;
 use crate::told::Told;
+use crate::xml_rows::tell_xml;
 use irs_json::{Value, parse};
 use std::fs;
 
@@ -20,6 +21,8 @@ pub enum Subject {
     Leaves,
     /// JSON texts, by irs_json, and by irs_read the way to the swap.
     Json,
+    /// Documents in FpML XML, by irs_xml.
+    Xml,
     /// The order of broken rules, by irs_elements.
     Order,
     /// Files in memory and real ones, by irs_outside.
@@ -71,6 +74,7 @@ impl<'a> Question<'a> {
             Subject::Documents(reader) => return self.tell_document(told, rt, reader),
             Subject::Leaves => tell_leaf(told, alloc, kind, given)?,
             Subject::Json => tell_json(told, alloc, kind, given)?,
+            Subject::Xml => tell_xml(told, alloc, kind, given)?,
             Subject::Order => tell_order(told, kind, given)?,
             Subject::Files => tell_files(told, rt, kind, given)?,
             Subject::Sinks => tell_sinks(told, alloc, kind, given)?,

@@ -13,11 +13,11 @@ ghost use Rattle.irs_elements.specs.Elements.{is_required as is_required_of, is_
 ghost use Rattle.irs_elements.specs.Elements.{most as most_of, name_at, names_among, place};
 ghost use Rattle.irs_elements.specs.Elements.{stands as stands_of, texts, unmet_place};
 ghost use Rattle.irs_json.specs.Carrier.{child_of};
-ghost use Rattle.irs_json.specs.Leaves.{is_attribute, leaf_of};
+ghost use Rattle.irs_json.specs.Leaves.{leaf_of};
 ghost use Rattle.irs_json.specs.Names.{names_of};
 ghost use Rattle.serde_json.specs.View.{view};
-ghost use Rattle.std.specs.List.{Contains, list_any};
-ghost use Rattle.std.specs.Prelude.{◌≡◌, ◌↔◌, ◌+◌, ◌<◌, ◌≤◌, ◌&&◌, ◌==◌, ℕ, IsTrue, List, false, true, nat_lt, length, map};
+ghost use Rattle.std.specs.List.{list_any};
+ghost use Rattle.std.specs.Prelude.{◌≡◌, ◌↔◌, ◌+◌, ◌<◌, ◌≤◌, ◌&&◌, ◌==◌, IsTrue, false, true, nat_lt, length, map};
 ghost use Rattle.std.specs.Prelude.{option_map};
 ghost use Rattle.std.specs.Str.{bytes_eq};
 ghost use Rattle.irs_elements.specs.Leaves.{leaf_rule as leaf_rule_of};

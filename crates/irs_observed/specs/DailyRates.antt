@@ -3,7 +3,7 @@ use Rattle.std.specs.Prelude.{◌≡◌, ℕ, List, [], ◌∷◌, Option, Some,
 use Rattle.irs_base.specs.Members.{Every}
 use Rattle.irs_terms.specs.declared.frequency.Frequency.{Frequency}
 use Rattle.irs_terms.specs.declared.frequency.Unit.TheVariants.{D}
-use Rattle.irs_resets.specs.Rates.{RateTable, rate_at}
+use Rattle.irs_resets.specs.Rates.{RateTable, SlotRates, rate_at, rate_of}
 use Rattle.irs_observed.specs.declared.observation.Observation.{Observation}
 
 -- 1D: the tenor of daily rates
@@ -13,6 +13,10 @@ one_day = record { count = 1; unit = D }
 -- rates in units of 10^-9, by the day on which they are observed
 abbrev pub DailyRates : Type 0
 DailyRates = ℤ → Option ℤ
+
+-- the daily rates among the rates of an index
+abbrev pub rates_by : Option SlotRates → DailyRates
+rates_by rates d = rate_of rates (record { date = d; tenor = Some one_day })
 
 -- the daily rates of an index
 abbrev pub daily_rates : RateTable → List ℕ → DailyRates

@@ -6,17 +6,17 @@ ghost use Rattle.irs_base.specs.Days.{all_days};
 ghost use Rattle.irs_base.specs.Rounding.{Rounded};
 ghost use Rattle.irs_base.specs.declared.rounding.Direction.TheVariants.{Nearest};
 ghost use Rattle.irs_terms.specs.Lawful.{IsRate};
-ghost use Rattle.irs_observed.specs.DailyRates.{AreKnown, daily_rates};
+ghost use Rattle.irs_observed.specs.DailyRates.{AreKnown, rates_by};
 ghost use Rattle.irs_observed.specs.Factors.{FactorPasses, Grows, GrowsBy, one_factor, year_of};
 ghost use Rattle.irs_observed.specs.ObservedRates.{CompoundsPast, rate_precision};
 ghost use Rattle.irs_observed.specs.Observations.{HasWeights};
 
-use crate::daily::{are_known, daily_rate};
+use crate::daily::{are_known, daily_rate_near};
 use crate::observation::Observation;
 use crate::products::product;
 use crate::rates::FactorOutOfRange;
-use irs_base::{Direction, Text, round};
-use irs_resets::Fixings;
+use irs_base::{Direction, round};
+use irs_resets::IndexRates;
 
 /// The factor 1, in units of 10^-18.
 pub(crate) const ONE_FACTOR: i128 = 1_000_000_000_000_000_000;
@@ -78,14 +78,20 @@ fn next_factor(basis: u16, factor: i128, rate: i64, weight: u32) -> i128
 }
 
 // The factor after an observation; `None` where its rate is absent.
-fn grown_by(basis: u16, factor: i128, o: Observation, daily: &Fixings, index: &Text) -> Option<i128>
+fn grown_by(
+    basis: u16,
+    factor: i128,
+    o: Observation,
+    daily: &IndexRates<'_>,
+    near: &mut usize,
+) -> Option<i128>
     requires range { (1 ≤ basis) × (basis ≤ 365) }
     requires factor { unsigned_abs factor ≤ rate_precision.most }
     requires weight { o.weight < all_days }
-    ensures some { IfSome result (λ g. GrowsBy basis (daily_rates daily.now index.now) o factor g) }
-    ensures none { IfNone result (daily_rates daily.now index.now o.observed ≡ None) }
+    ensures some { IfSome result (λ g. GrowsBy basis (rates_by daily.now) o factor g) }
+    ensures none { IfNone result (rates_by daily.now o.observed ≡ None) }
 {
-    match daily_rate(daily, index, o.observed) {
+    match daily_rate_near(daily, o.observed, near) {
         Some(rate) => Some(next_factor(basis, factor, rate, o.weight)),
         None => None,
     }
@@ -94,14 +100,13 @@ fn grown_by(basis: u16, factor: i128, o: Observation, daily: &Fixings, index: &T
 // What is answered where a factor passes its limit: nothing is known where a daily rate is absent.
 fn past_limit(
     observations: &[Observation],
-    daily: &Fixings,
-    index: &Text,
+    daily: &IndexRates<'_>,
 ) -> Result<Option<i128>, FactorOutOfRange>
     ensures never { IfOk result (λ f. IfSome f (λ _. ⊥)) }
-    ensures absent { IfOk result (λ f. IfNone f (AreKnown (daily_rates daily.now index.now) observations.now → ⊥)) }
-    ensures known { IfErr result (λ _. AreKnown (daily_rates daily.now index.now) observations.now) }
+    ensures absent { IfOk result (λ f. IfNone f (AreKnown (rates_by daily.now) observations.now → ⊥)) }
+    ensures known { IfErr result (λ _. AreKnown (rates_by daily.now) observations.now) }
 {
-    if are_known(observations, daily, index) {
+    if are_known(observations, daily) {
         Err(FactorOutOfRange)
     } else {
         Ok(None)
@@ -113,29 +118,29 @@ fn past_limit(
 pub(crate) fn compounded(
     basis: u16,
     observations: &[Observation],
-    daily: &Fixings,
-    index: &Text,
+    daily: &IndexRates<'_>,
 ) -> Result<Option<i128>, FactorOutOfRange>
     requires range { (1 ≤ basis) × (basis ≤ 365) }
     requires weights { HasWeights observations.now }
-    ensures some { let rates = daily_rates daily.now index.now in
+    ensures some { let rates = rates_by daily.now in
         IfOk result (λ f. IfSome f (λ g. Grows basis rates observations.now (one_factor rate_precision) g)) }
     ensures size { IfOk result (λ f. IfSome f (λ g. unsigned_abs g ≤ rate_precision.most)) }
-    ensures kept { let rates = daily_rates daily.now index.now in
+    ensures kept { let rates = rates_by daily.now in
         IfOk result (λ f. IfSome f (λ _. FactorPasses rate_precision basis rates observations.now → ⊥)) }
-    ensures absent { let rates = daily_rates daily.now index.now in
+    ensures absent { let rates = rates_by daily.now in
         IfOk result (λ f. IfNone f (AreKnown rates observations.now → ⊥)) }
-    ensures passes { let rates = daily_rates daily.now index.now in
+    ensures passes { let rates = rates_by daily.now in
         IfErr result (λ _. CompoundsPast basis rates observations.now) }
 {
     let mut factor = ONE_FACTOR;
+    let mut near = 0;
     for o in observations {
-        let Some(next) = grown_by(basis, factor, *o, daily, index) else {
+        let Some(next) = grown_by(basis, factor, *o, daily, &mut near) else {
             return Ok(None);
         };
         factor = next;
         if factor.unsigned_abs() > MOST_FACTOR {
-            return past_limit(observations, daily, index);
+            return past_limit(observations, daily);
         }
     }
     Ok(Some(factor))

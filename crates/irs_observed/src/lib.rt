@@ -23,7 +23,7 @@ mod running;
 mod tests;
 mod walk;
 
-pub use daily::daily_rate;
+pub use daily::{daily_rate, daily_rate_near};
 pub use daily_resets::{OvernightResets, overnight_resets, overnight_resets_are_determined};
 pub use method::{DailyRateMethod, YearDays};
 pub use observation::{NoObservations, Observation, ObservationList};

@@ -1,6 +1,6 @@
 //! The members of an observation period: its first day, and each business day after it.
-ghost use Rattle.std.specs.Prelude.{◌≡◌, ◌↔◌, ℤ, IsTrue, IfOk, pos, ◌<ℤ◌, ◌≤ℤ◌, ◌+ℤ◌};
-ghost use Rattle.irs_calendar.specs.GoodDays.{InCover, IsGood};
+ghost use Rattle.std.specs.Prelude.{◌≡◌, ◌↔◌, ℤ, IsTrue, IfOk, IfSome, IfNone, pos, ◌<ℤ◌, ◌≤ℤ◌, ◌+ℤ◌};
+ghost use Rattle.irs_calendar.specs.GoodDays.{IsGood, Next};
 ghost use Rattle.irs_observed.specs.PeriodMembers.{AreMembers, LeavesCover};
 
 use irs_base::{Day, DayList, Memory, ahead};
@@ -45,8 +45,19 @@ pub(crate) fn leaves_cover<G: GoodDays>(days: &G, start: Day, end: Day) -> bool
     }
 }
 
+// The first business day at or after the day. The search begins at the place `near`, which becomes the
+// place for the next one.
+fn good_near<G: GoodDays>(days: &G, d: Day, near: &mut usize) -> Option<Day>
+    ensures some { IfSome result (Next (G.days days.now) d) }
+    ensures none { IfNone result ((r : ℤ) → Next (G.days days.now) d r → ⊥) }
+{
+    let (found, place) = days.next_good_near(d, *near);
+    *near = place;
+    found
+}
+
 // The first business day after the day and before the end, else the end.
-fn next_or_end<G: GoodDays>(days: &G, day: Day, end: Day) -> Day
+fn next_or_end<G: GoodDays>(days: &G, day: Day, end: Day, near: &mut usize) -> Day
     requires order { day <ℤ end }
     requires covered { LeavesCover (G.days days.now) day end → ⊥ }
     ensures after { day <ℤ result }
@@ -55,7 +66,7 @@ fn next_or_end<G: GoodDays>(days: &G, day: Day, end: Day) -> Day
     ensures none { (x : ℤ) → day <ℤ x → x <ℤ result → IsGood (G.days days.now) x → ⊥ }
 {
     let _range = end.number();
-    match days.next_good(ahead(day, 1)) {
+    match good_near(days, ahead(day, 1), near) {
         Some(next) => if next < end { next } else { end },
         None => end,
     }
@@ -73,9 +84,10 @@ pub(crate) fn members<G: GoodDays>(
 {
     let mut found = DayList::new(alloc);
     let mut day = start;
+    let mut near = 0;
     while day < end {
         found.push(day)?;
-        day = next_or_end(days, day, end);
+        day = next_or_end(days, day, end, &mut near);
     }
     Ok(found)
 }

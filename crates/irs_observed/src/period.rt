@@ -1,5 +1,5 @@
 //! The observation period of a calculation period.
-ghost use Rattle.std.specs.Prelude.{◌≡◌, ◌<ℤ◌, ℤ, IfSome, IfNone};
+ghost use Rattle.std.specs.Prelude.{◌<ℤ◌, ℤ, IfSome, IfNone};
 ghost use Rattle.irs_observed.specs.ObservationPeriods.{IsObservationPeriod, MovesBack, Shifts, observed_period};
 
 use irs_adjust::move_by;

@@ -3,7 +3,7 @@
 ghost use Rattle.std.specs.Prelude.{◌≡◌, ◌*◌, ◌^◌, ◌<◌, ◌≤◌, pos, ◌<ℤ◌, ◌-ℤ◌, ◌*ℤ◌, unsigned_abs};
 ghost use Rattle.irs_base.specs.Days.{all_days};
 ghost use Rattle.irs_base.specs.Outcomes.{MeetsExactly};
-ghost use Rattle.irs_observed.specs.DailyRates.{daily_rates};
+ghost use Rattle.irs_observed.specs.DailyRates.{daily_rates, rates_by};
 ghost use Rattle.irs_observed.specs.Factors.{one_factor};
 ghost use Rattle.irs_observed.specs.ObservedRates.{Fraction, IsBounded, IsRateOrAbsent, most_observed};
 ghost use Rattle.irs_observed.specs.ObservedRates.{rate_precision};
@@ -16,7 +16,7 @@ use crate::method::{DailyRateMethod, YearDays, days_of_year};
 use crate::observation::{Observation, ObservationList};
 use crate::products::product;
 use irs_base::Text;
-use irs_resets::Fixings;
+use irs_resets::{Fixings, IndexRates};
 use std::marker::Model;
 use thiserror::Error;
 
@@ -128,30 +128,25 @@ fn rate_of_sum(sum: i128, days: u32) -> ObservedRate
 fn compounded_rate(
     year: YearDays,
     observations: &[Observation],
-    daily: &Fixings,
-    index: &Text,
+    daily: &IndexRates<'_>,
 ) -> Result<Option<ObservedRate>, FactorOutOfRange>
     requires weights { HasWeights observations.now }
     ensures meets { let method = DailyRateMethod.Compounding year in
-        MeetsExactly (observed_rate_of method (daily_rates daily.now index.now) observations.now) result }
+        MeetsExactly (observed_rate_of method (rates_by daily.now) observations.now) result }
 {
     let basis = days_of_year(year);
-    match compounded(basis, observations, daily, index)? {
+    match compounded(basis, observations, daily)? {
         Some(factor) => Ok(Some(rate_of_factor(factor, basis, total_weight(observations)))),
         None => Ok(None),
     }
 }
 
 // The observed rate by averaging.
-fn averaged_rate(
-    observations: &[Observation],
-    daily: &Fixings,
-    index: &Text,
-) -> Option<ObservedRate>
+fn averaged_rate(observations: &[Observation], daily: &IndexRates<'_>) -> Option<ObservedRate>
     requires weights { HasWeights observations.now }
-    ensures { IsRateOrAbsent DailyRateMethod.Averaging (daily_rates daily.now index.now) observations.now result }
+    ensures { IsRateOrAbsent DailyRateMethod.Averaging (rates_by daily.now) observations.now result }
 {
-    let sum = summed(observations, daily, index)?;
+    let sum = summed(observations, daily)?;
     Some(rate_of_sum(sum, total_weight(observations)))
 }
 
@@ -173,8 +168,9 @@ pub fn observed_rate(
     ensures { MeetsExactly (observed_rate_of method (daily_rates daily.now index.now) observations.now) result }
 {
     let observations = observations.as_slice();
+    let rates = daily.of(index);
     match method {
-        DailyRateMethod::Compounding(year) => compounded_rate(year, observations, daily, index),
-        DailyRateMethod::Averaging => Ok(averaged_rate(observations, daily, index)),
+        DailyRateMethod::Compounding(year) => compounded_rate(year, observations, &rates),
+        DailyRateMethod::Averaging => Ok(averaged_rate(observations, &rates)),
     }
 }

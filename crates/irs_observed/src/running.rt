@@ -4,7 +4,6 @@
 //! The members and their observation days are those of the whole period. So the accrued interest is
 //! what the period would pay if its later days earned nothing. That is our rule.
 ghost use Rattle.std.specs.Prelude.{◌≡◌, ◌<◌, ◌<ℤ◌, ℤ, IfOk};
-ghost use Rattle.irs_base.specs.Outcomes.{Determined, Meets};
 ghost use Rattle.irs_observed.specs.DailyRates.{daily_rates};
 ghost use Rattle.irs_observed.specs.ObservationPeriods.{Shifts, observed_period};
 ghost use Rattle.irs_observed.specs.Observations.{total_weight};

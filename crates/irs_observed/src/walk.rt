@@ -1,6 +1,6 @@
 //! The observations of a calculation period. From each member of the observation period a daily rate
 //! applies, up to the next member. It is the rate that is observed on the member's observation day.
-ghost use Rattle.std.specs.Prelude.{◌≡◌, ◌+◌, ◌≤◌, ◌<◌, ◌<ℤ◌, ℤ, length, IfOk, IfSome, IfNone};
+ghost use Rattle.std.specs.Prelude.{◌≡◌, ◌+◌, ◌<◌, ◌<ℤ◌, ℤ, [], length, IfOk, IfSome, IfNone};
 ghost use Rattle.irs_base.specs.Faults.{IfBroken};
 ghost use Rattle.irs_base.specs.Members.{day_at};
 ghost use Rattle.irs_base.specs.Outcomes.{Determined, Meets};
@@ -9,13 +9,13 @@ ghost use Rattle.irs_observed.specs.Observations.{AddsUp, AreObserved, IsObserva
 ghost use Rattle.irs_observed.specs.Observations.{place_observed};
 ghost use Rattle.irs_observed.specs.ObservationWalk.{IsUnseen, IsWalk, LooksBack, good_at};
 ghost use Rattle.irs_observed.specs.Outcomes.{observations_of};
-ghost use Rattle.irs_observed.specs.PeriodMembers.{AreMembers, member_or_end};
+ghost use Rattle.irs_observed.specs.PeriodMembers.{member_or_end};
 ghost use Rattle.irs_observed.specs.declared.observation.NoObservations.TheVariants.{NoDay as OfNoDay};
 
 use crate::members::{days_ahead, leaves_cover, members};
 use crate::observation::{NoObservations, Observation, ObservationList};
 use crate::period::{moved_back, observation_period};
-use irs_base::{Day, Stopped};
+use irs_base::{Day, Memory, Stopped};
 use irs_calendar::GoodDays;
 use irs_terms::ObservationOffset;
 use std::alloc::Global;
@@ -122,6 +122,13 @@ fn observation_at<G: GoodDays>(
     })
 }
 
+// The empty list with room for this number of observations.
+fn with_room(alloc: Global, count: usize) -> Result<Vec<Observation>, Memory>
+    ensures { IfOk result (λ v. v.items ≡ []) }
+{
+    Ok(Vec::with_capacity(alloc, count)?)
+}
+
 // One observation for each member.
 fn observed<G: GoodDays>(
     alloc: Global,
@@ -136,7 +143,7 @@ fn observed<G: GoodDays>(
     ensures ok { IfOk result (λ v. AreObserved offset (G.days days.now) members.now end v.items) }
     ensures broken { IfBroken result (λ r. (r ≡ OfNoDay) × IsUnseen offset (G.days days.now) members.now) }
 {
-    let mut all = Vec::new(alloc);
+    let mut all = with_room(alloc, members.len())?;
     for place in 0..members.len() {
         let Some(o) = observation_at(offset, days, first, members, end, place) else {
             return Err(Stopped::Broken(NoObservations::NoDay));

@@ -3,7 +3,7 @@
 //! its own adjustments. Every other boundary has the period adjustments (FpML
 //! `calculationPeriodDatesAdjustments`; 2006 ISDA Definitions, 4.10 and 4.12). That they have to
 //! rise is our rule.
-ghost use Rattle.std.specs.Prelude.{◌≡◌, ◌<◌, ◌≤◌, ◌^◌, ℕ, ℤ, List, length, IfSome, IfNone};
+ghost use Rattle.std.specs.Prelude.{◌≡◌, ◌<◌, ◌≤◌, ◌^◌, ℕ, ℤ, length, IfSome, IfNone};
 ghost use Rattle.irs_base.specs.Faults.{fault_at};
 ghost use Rattle.irs_base.specs.declared.places.Rule.TheVariants.{K33};
 ghost use Rattle.irs_base.specs.Outcomes.{Determined, IfMemory, Meets};

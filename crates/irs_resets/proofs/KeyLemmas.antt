@@ -1,5 +1,5 @@
 -- Maps whose keys are bytes.
-use Rattle.std.proofs.Common.{◌≡◌, inl, inr, ℕ, Bool, true, false, ◌&&◌, Option, Some, None, ℤ, refl, ap, ap₂, ◌∙◌}
+use Rattle.std.proofs.Common.{◌≡◌, inl, inr, ℕ, Bool, true, false, Option, Some, None, ℤ, refl, ap₂, ◌∙◌}
 use Rattle.std.proofs.Common.{sym, List, [], ◌∷◌, cond, subst}
 use Rattle.std.specs.Ordering.{is_eq, nat_cmp}
 use Rattle.std.specs.Cmp.{eq_by_cmp_equiv}
@@ -12,7 +12,7 @@ use Rattle.std.proofs.lemmas.Slice.Eq.{bytes_eq-Decides}
 use Rattle.std.proofs.lemmas.Bool.{cases_Bool}
 use Rattle.std.specs.declared.vec.Vec.{Vec}
 use Rattle.irs_resets.specs.declared.store.Slot.{Slot}
-use Rattle.irs_resets.specs.Rates.{SlotRates, rate_of, is_slot, AddsTo, by_bytes}
+use Rattle.irs_resets.specs.Rates.{AddsNew, AddsNewAt, RateTable, SlotRates, by_bytes}
 
 apart : (bs cs ks : List ℕ) → bytes_eq bs cs ≡ false → is_eq (slice_cmp nat_cmp bs ks) ≡ true
     → is_eq (slice_cmp nat_cmp cs ks) ≡ false
@@ -46,20 +46,44 @@ lookup_by_bytes index [] = refl
 lookup_by_bytes index (e ∷ es) =
     ap₂ (λ t r. cond t (Some e.1) r) (is_eq-slice_cmp index e.0.items) (lookup_by_bytes index es)
 
--- a rate is added: the rates of its index are taken out, extended by it, and stored again
-pub put_back : (index i : List ℕ) (slot q : Slot) (rate : ℤ) (g0 g1 g2 : List ℕ
-    → Option SlotRates) (rates grown : SlotRates) → ((cs : List ℕ) → g1 cs ≡ cond (bytes_eq index cs) None (g0 cs))
-    → ((cs : List ℕ) → g2 cs ≡ cond (bytes_eq index cs) (Some grown) (g1 cs))
-    → ((s : Slot) → lookup (is_slot s) rates ≡ rate_of (g0 index) s) → AddsTo rates slot rate grown
-    → rate_of (g2 i) q ≡ cond (bytes_eq index i && is_slot slot q) (Some rate) (rate_of (g0 i) q)
-put_back index i slot q rate g0 g1 g2 rates grown out back were adds = elim (cases_Bool (bytes_eq index i)) [
-  | inl same ↦
-      let here : g2 i ≡ Some grown = rw same at (back i) in
-      let e : g0 index ≡ g0 i = ap g0 ((bytes_eq-Decides index i).0 same) in
-      let old : lookup (is_slot q) rates ≡ rate_of (g0 i) q = were q ∙ ap (λ o. rate_of o q) e in
-      rw (here, same) (adds q ∙ ap (λ o. cond (is_slot slot q) (Some rate) o) old)
-  | inr other ↦
-      let e : g2 i ≡ g1 i = rw other at (back i) in
-      let f : g1 i ≡ g0 i = rw other at (out i) in
-      rw (e, f, other) refl
-]
+-- a rate is added to those of its index, if it has none yet
+pub adds_there : (old new : RateTable) (index : List ℕ) (slot : Slot) (rate : ℤ) (rates grown : SlotRates) (b : Bool)
+    → lookup (bytes_eq index) old ≡ Some rates
+    → ((cs : List ℕ) → lookup (bytes_eq cs) new ≡ cond (bytes_eq index cs) (Some grown) (lookup (bytes_eq cs) old))
+    → AddsNew rates slot rate grown b → AddsNewAt old index slot rate new b
+adds_there old new index slot rate rates grown false at back adds = rw at adds
+adds_there old new index slot rate rates grown true at back adds = (
+  rw at adds.0,
+  λ i q. elim (cases_Bool (bytes_eq index i)) [
+    | inl same ↦
+        let here : lookup (bytes_eq i) new ≡ Some grown = rw same at (back i) in
+        let is : index ≡ i = (bytes_eq-Decides index i).0 same in
+        let old_at : lookup (bytes_eq i) old ≡ Some rates =
+        subst (λ (l : List ℕ). lookup (bytes_eq l) old ≡ Some rates) is at in
+        rw (here, same, old_at) (adds.1 q)
+    | inr other ↦
+        let e : lookup (bytes_eq i) new ≡ lookup (bytes_eq i) old = rw other at (back i) in
+        rw (e, other) refl
+  ],
+)
+
+-- the first rate of an index
+pub adds_first : (old new : RateTable) (index : List ℕ) (slot : Slot) (rate : ℤ) (grown : SlotRates) (b : Bool)
+    → lookup (bytes_eq index) old ≡ None
+    → ((cs : List ℕ) → lookup (bytes_eq cs) new ≡ cond (bytes_eq index cs) (Some grown) (lookup (bytes_eq cs) old))
+    → AddsNew [] slot rate grown b → AddsNewAt old index slot rate new b
+adds_first old new index slot rate grown false at back adds = absurd (cc)
+adds_first old new index slot rate grown true at back adds = (
+  rw at refl,
+  λ i q. elim (cases_Bool (bytes_eq index i)) [
+    | inl same ↦
+        let here : lookup (bytes_eq i) new ≡ Some grown = rw same at (back i) in
+        let is : index ≡ i = (bytes_eq-Decides index i).0 same in
+        let old_at : lookup (bytes_eq i) old ≡ None =
+        subst (λ (l : List ℕ). lookup (bytes_eq l) old ≡ None) is at in
+        rw (here, same, old_at) (adds.1 q)
+    | inr other ↦
+        let e : lookup (bytes_eq i) new ≡ lookup (bytes_eq i) old = rw other at (back i) in
+        rw (e, other) refl
+  ],
+)

@@ -1,4 +1,5 @@
 pub mod SlotLemmas
+pub mod OrderLemmas
 pub mod KeyLemmas
 pub mod WordLemmas
 pub mod FileLemmas

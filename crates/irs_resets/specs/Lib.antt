@@ -1,6 +1,7 @@
 pub mod Words
 pub mod Tenors
 pub mod Rates
+pub mod SlotOrder
 pub mod FixingLines
 pub mod FixingFiles
 pub mod ResetDates

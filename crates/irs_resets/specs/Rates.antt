@@ -1,5 +1,5 @@
 -- Rates by index, date and tenor.
-use Rattle.std.specs.Prelude.{◌≡◌, ℕ, Bool, true, false, ◌&&◌, ◌==◌, Option, Some, None, ℤ, List, [], ◌∷◌, IfSome}
+use Rattle.std.specs.Prelude.{◌≡◌, ℕ, Bool, true, false, ◌&&◌, ◌==◌, Option, Some, None, ℤ, List, [], ◌∷◌, IfSome, IsSome}
 use Rattle.std.specs.Prelude.{if◌then◌else◌}
 use Rattle.std.specs.Ordering.{int_eq}
 use Rattle.std.specs.Map.{lookup}
@@ -63,6 +63,16 @@ Adds old index slot rate new =
     (i : List ℕ) (q : Slot)
     → rate_at new i q ≡ (if bytes_eq index i && is_slot slot q then Some rate else rate_at old i q)
 
+-- whether the slot had no rate; if it had none, it has this one now
+abbrev pub AddsNew : SlotRates → Slot → ℤ → SlotRates → Bool → Type 0
+AddsNew old slot rate new true = (lookup (is_slot slot) old ≡ None) × AddsTo old slot rate new
+AddsNew old slot rate new false = IsSome (lookup (is_slot slot) old)
+
+-- the same of an index, a date and a tenor
+abbrev pub AddsNewAt : RateTable → List ℕ → Slot → ℤ → RateTable → Bool → Type 0
+AddsNewAt old index slot rate new true = (rate_at old index slot ≡ None) × Adds old index slot rate new
+AddsNewAt old index slot rate new false = IsSome (rate_at old index slot)
+
 -- each key as its bytes
 abbrev pub by_bytes : {Y X : Type 0} → List (Vec ℕ Y × X) → List (List ℕ × X)
 by_bytes [] = []
@@ -76,3 +86,7 @@ or_empty (Some table) = table
 -- each rate is at most 10 in size
 abbrev pub AreSmall : RateTable → Type 0
 AreSmall table = (index : List ℕ) (slot : Slot) → IfSome (rate_at table index slot) IsRate
+
+-- each rate of an index is at most 10 in size
+abbrev pub AreSmallOf : Option SlotRates → Type 0
+AreSmallOf rates = (slot : Slot) → IfSome (rate_of rates slot) IsRate

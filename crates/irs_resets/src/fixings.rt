@@ -7,13 +7,15 @@ ghost use Rattle.std.specs.Prelude.{◌≡◌, ◌≤◌, ◌↔◌, [], length,
 ghost use Rattle.irs_base.specs.Limits.{most_bytes};
 ghost use Rattle.irs_base.specs.Lines.{lines_of};
 ghost use Rattle.irs_terms.specs.Lawful.{IsRate};
-ghost use Rattle.irs_resets.specs.Rates.{SameRates, rate_at};
+ghost use Rattle.std.specs.Map.{lookup};
+ghost use Rattle.std.specs.Str.{bytes_eq};
+ghost use Rattle.irs_resets.specs.Rates.{SameRates, rate_at, rate_of};
 ghost use Rattle.irs_resets.specs.FixingFiles.{HasNewRate, IsSpelt, StopsAt};
 ghost use Rattle.irs_resets.specs.Outcomes.{DeterminedUpTo, MeetsFile, fixings_of, line_of};
 ghost use Rattle.irs_resets.specs.declared.fixings.FixErr.TheVariants.{Memory as OfMemory};
 
 use crate::fixing_line::fixing_line;
-use crate::store::{Slot, Table};
+use crate::store::{Rates, Slot, Table};
 use crate::words::is_passed;
 use irs_base::{Day, Memory, Text, split_line};
 use irs_terms::Frequency;
@@ -71,11 +73,12 @@ fn read_line(alloc: Global, mut table: Table, line: &[u8], number: u32) -> Resul
     let Some(fixing) = fixing_line(line) else {
         return Err(FixErr::Syntax(number));
     };
-    if table.rate(fixing.index, fixing.slot).is_some() {
-        return Err(FixErr::Repeat(number));
+    let is_new = table.add(alloc, fixing.index, fixing.slot, fixing.rate)?;
+    if is_new {
+        Ok(table)
+    } else {
+        Err(FixErr::Repeat(number))
     }
-    table.add(alloc, fixing.index, fixing.slot, fixing.rate)?;
-    Ok(table)
 }
 
 impl Fixings {
@@ -114,9 +117,52 @@ impl Fixings {
         ensures value { result ≡ rate_at self.now index.now (record { date = d; tenor = tenor }) }
         ensures small { IfSome result IsRate }
     {
+        let (rate, _) = self.of(index).rate_near(tenor, d, 0);
+        rate
+    }
+
+    /// The rates of an index, for several look-ups. The index is compared by its bytes. No memory is
+    /// taken.
+    pub fn of(&self, index: &Text) -> IndexRates<'_>
+        ensures { result ≡ lookup (bytes_eq index.now) self.now }
+    {
         match &self.table {
-            Some(table) => table.rate(index.as_slice(), Slot { date: d, tenor }),
-            None => None,
+            Some(table) => IndexRates {
+                rates: table.of(index.as_slice()),
+            },
+            None => IndexRates { rates: None },
+        }
+    }
+}
+
+/// The rates of one index, by date and tenor.
+#[derive(Drop)]
+pub struct IndexRates<'a> {
+    rates: Option<&'a Rates>,
+}
+
+impl<'a> Model for IndexRates<'a> {
+    ghost use Rattle.std.specs.Prelude.{Option, option_copied};
+    ghost use Rattle.irs_resets.specs.Rates.{AreSmallOf, SlotRates};
+
+    ghost Value = { Option SlotRates };
+
+    ghost view = { λ r. option_copied r.rates };
+
+    ghost invariant = { λ r. AreSmallOf (option_copied r.rates) };
+}
+
+impl<'a> IndexRates<'a> {
+    /// As `rate_on` of the fixings, and the place where the rate of the next day may be. It is looked for at
+    /// a place first. So look-ups of days in order take few steps, each from the place of the one before.
+    /// The rate is the same from every place.
+    pub fn rate_near(&self, tenor: Option<Frequency>, d: Day, place: usize) -> (Option<i64>, usize)
+        ensures value { result.0 ≡ rate_of self.now (record { date = d; tenor = tenor }) }
+        ensures small { IfSome result.0 IsRate }
+    {
+        match self.rates {
+            Some(rates) => rates.rate_near(&Slot { date: d, tenor }, place),
+            None => (None, place),
         }
     }
 }

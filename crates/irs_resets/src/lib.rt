@@ -5,13 +5,14 @@
 mod dates;
 mod fixing_line;
 mod fixings;
+mod in_order;
 mod observed;
 mod rows;
 mod store;
 mod tenors;
 mod words;
 
-pub use fixings::{FixErr, Fixings, fixings_are_determined};
+pub use fixings::{FixErr, Fixings, IndexRates, fixings_are_determined};
 pub use observed::{PeriodKind, period_kind};
 pub use rows::{ResErr, resets, resets_are_determined};
 pub use tenors::{IndexTenor, tenor};

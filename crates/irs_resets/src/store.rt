@@ -1,11 +1,13 @@
 //! Where rates are kept: by index, and for each index by date and tenor.
 //!
 //! A look-up takes a number of steps that is logarithmic in the number of rates.
-ghost use Rattle.std.specs.Prelude.{◌≡◌, ℤ, List, [], None, Some, OnOk};
+ghost use Rattle.std.specs.Prelude.{◌≡◌, ℤ, List, [], None, IfOk, OnErr, option_copied};
 ghost use Rattle.std.specs.Map.{lookup};
-ghost use Rattle.irs_resets.specs.Rates.{is_slot, rate_of, rate_at, Adds, AddsTo};
+ghost use Rattle.std.specs.Str.{bytes_eq};
+ghost use Rattle.irs_resets.specs.Rates.{AddsNew, AddsNewAt, is_slot, rate_at};
 ghost use Rattle.irs_resets.specs.declared.store.Slot.{Slot as AtSlot};
 
+use crate::in_order::InOrder;
 use irs_base::{Day, Memory};
 use irs_terms::Frequency;
 use std::alloc::Global;
@@ -21,16 +23,21 @@ pub struct Slot {
     pub tenor: Option<Frequency>,
 }
 
-/// The rates of one index, by date and tenor.
+/// The rates of one index, by date and tenor. Those that come in the order of their slots are a list. A
+/// rate that comes out of order goes to a map.
 #[derive(Drop)]
 pub struct Rates {
-    rates: BTreeMap<Slot, i64>,
+    in_order: InOrder,
+    others: BTreeMap<Slot, i64>,
 }
 
 impl Model for Rates {
+    ghost use Rattle.std.specs.Prelude.{ℤ, List, ◌++◌};
+    ghost use Rattle.irs_resets.specs.declared.store.Slot.{Slot as AtSlot};
+
     ghost Value = { List (AtSlot × ℤ) };
 
-    ghost view = { λ r. r.rates.entries };
+    ghost view = { λ r. r.in_order ++ r.others.entries };
 }
 
 impl Rates {
@@ -38,31 +45,40 @@ impl Rates {
         ensures { result ≡ [] }
     {
         Rates {
-            rates: BTreeMap::new(alloc),
+            in_order: InOrder::new(alloc),
+            others: BTreeMap::new(alloc),
         }
     }
 
-    fn rate(&self, slot: Slot) -> Option<i64>
-        ensures { result ≡ lookup (is_slot slot) self.now }
+    /// The rate of a slot, and the place where the next one may be. It is looked for at a place first.
+    pub fn rate_near(&self, slot: &Slot, near: usize) -> (Option<i64>, usize)
+        ensures { result.0 ≡ lookup (is_slot slot.now) self.now }
     {
-        self.rates.get(&slot).copied()
+        let (rate, next) = self.in_order.rate_near(slot, near);
+        if rate.is_some() {
+            return (rate, next);
+        }
+        (self.others.get(slot).copied(), next)
     }
 
-    fn add(&mut self, slot: Slot, rate: i64) -> Result<(), Memory>
-        ensures { OnOk result (AddsTo self.old slot rate self.new) }
+    // Adds a rate, and whether its slot had none.
+    fn add(&mut self, slot: &Slot, rate: i64) -> Result<bool, Memory>
+        ensures adds { IfOk result (AddsNew self.old slot.now rate self.new) }
+        ensures memory { OnErr result (lookup (is_slot slot.now) self.old ≡ None) }
     {
-        self.rates.insert(slot, rate)?;
-        Ok(())
-    }
-}
-
-// The rates that were found, or none yet.
-fn kept_or_new(alloc: Global, found: Option<Rates>) -> Rates
-    ensures { (q : AtSlot) → lookup (is_slot q) result ≡ rate_of found q }
-{
-    match found {
-        Some(rates) => rates,
-        None => Rates::new(alloc),
+        if self.in_order.ends_before(slot) {
+            if self.others.contains_key(slot) {
+                return Ok(false);
+            }
+            self.in_order.push(*slot, rate)?;
+            return Ok(true);
+        }
+        let (old, _) = self.in_order.rate_near(slot, 0);
+        if old.is_some() {
+            return Ok(false);
+        }
+        let had = self.others.insert(*slot, rate)?;
+        Ok(had.is_none())
     }
 }
 
@@ -93,23 +109,45 @@ impl Table {
         }
     }
 
-    /// The rate of an index at a date and tenor, in units of 10^-9; `None` where there is none.
-    pub fn rate(&self, index: &[u8], slot: Slot) -> Option<i64>
-        ensures { result ≡ rate_at self.now index.now slot }
+    /// The rates of an index; `None` where there are none.
+    pub fn of(&self, index: &[u8]) -> Option<&Rates>
+        ensures { option_copied result ≡ lookup (bytes_eq index.now) self.now }
     {
-        match self.indexes.get(index) {
-            Some(rates) => rates.rate(slot),
-            None => None,
+        self.indexes.get(index)
+    }
+
+    /// Adds a rate, and whether its index had none at its date and tenor. The table can't be used any more if
+    /// it had one, or if memory runs out.
+    pub fn add(
+        &mut self,
+        alloc: Global,
+        index: &[u8],
+        slot: Slot,
+        rate: i64,
+    ) -> Result<bool, Memory>
+        ensures adds { IfOk result (AddsNewAt self.old index.now slot rate self.new) }
+        ensures memory { OnErr result (rate_at self.old index.now slot ≡ None) }
+    {
+        match self.indexes.get_mut(index) {
+            Some(rates) => rates.add(&slot, rate),
+            None => self.add_first(alloc, index, slot, rate),
         }
     }
 
-    /// Adds a rate. After it runs out of memory the table can't be used any more.
-    pub fn add(&mut self, alloc: Global, index: &[u8], slot: Slot, rate: i64) -> Result<(), Memory>
-        ensures { OnOk result (Adds self.old index.now slot rate self.new) }
+    // The same of an index that has no rates.
+    fn add_first(
+        &mut self,
+        alloc: Global,
+        index: &[u8],
+        slot: Slot,
+        rate: i64,
+    ) -> Result<bool, Memory>
+        requires { lookup (bytes_eq index.now) self.old ≡ None }
+        ensures adds { IfOk result (AddsNewAt self.old index.now slot rate self.new) }
     {
-        let mut rates = kept_or_new(alloc, self.indexes.remove(index));
-        rates.add(slot, rate)?;
+        let mut rates = Rates::new(alloc);
+        let is_new = rates.add(&slot, rate)?;
         self.indexes.insert(Vec::from_slice(alloc, index)?, rates)?;
-        Ok(())
+        Ok(is_new)
     }
 }

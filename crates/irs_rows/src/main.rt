@@ -7,10 +7,12 @@
 use rows::{Outside, run_rows};
 
 mod answer_rows;
+mod built_files;
 mod bulk_rows;
 mod commands;
 mod cut_rows;
 mod fetch_rows;
+mod long_rows;
 mod memory_rows;
 mod named_files;
 mod real_rows;

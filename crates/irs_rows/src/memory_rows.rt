@@ -4,6 +4,7 @@ use crate::bulk_rows::{print_calendar, print_document};
 use crate::commands::first_word;
 use crate::cut_rows::run_cuts;
 use crate::fetch_rows::{run_again, run_with_fetches};
+use crate::long_rows::{run_ends, run_over_made};
 use crate::real_rows::run_beside_spaces;
 use crate::sink_rows::{run_with_enough_room, run_with_put, run_with_room};
 use crate::sure_rows::run_sure;
@@ -22,6 +23,8 @@ pub fn run_memory_row(rt: &HostRuntime, row: &str) -> Result<()> {
         "sure" => run_sure(rt, rest),
         "real" => run_beside_spaces(rt, rest),
         "answer" => run_answer(rt, rest),
+        "ends" => run_ends(rt, rest),
+        "made" => run_over_made(rt, rest),
         "document" => print_document(rt, rest, false),
         "plain" => print_document(rt, rest, true),
         "calendar" => print_calendar(rt),

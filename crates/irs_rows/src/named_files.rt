@@ -1,8 +1,9 @@
 //! The files that the words of a command name, in memory.
 //!
 //! A word is the name of a file of `data/`. `spaces:COUNT` is a file of COUNT spaces, and
-//! `front:COUNT:NAME` is the first COUNT bytes of the file that is named. A word that names no file
-//! names one that is missing.
+//! `front:COUNT:NAME` is the first COUNT bytes of the file that is named. `built:NAME` is the file
+//! that is built from it (`built_files`). A word that names no file names one that is missing.
+use crate::built_files::built;
 use anyhow::{Context, Result};
 use irs_cli::{MemFiles, SureFiles};
 use std::alloc::Global;
@@ -30,12 +31,20 @@ fn front(rt: &HostRuntime, text: &str) -> Result<Option<Vec<u8>>> {
     Ok(Some(bytes))
 }
 
+// The file that is built from the file of that name.
+fn built_file(rt: &HostRuntime, name: &str) -> Result<Option<Vec<u8>>> {
+    let bytes = data_file(rt, name)?.context("no file")?;
+    Ok(Some(built(rt.alloc(), str::from_utf8(&bytes)?)?))
+}
+
 /// The bytes of the file that a word names, none where it is missing.
 pub fn file_of(rt: &HostRuntime, word: &str) -> Result<Option<Vec<u8>>> {
     if let Some(count) = word.strip_prefix("spaces:") {
         Ok(Some(spaces(rt.alloc(), count.parse::<u32>()?)?))
     } else if let Some(text) = word.strip_prefix("front:") {
         front(rt, text)
+    } else if let Some(name) = word.strip_prefix("built:") {
+        built_file(rt, name)
     } else {
         data_file(rt, word)
     }

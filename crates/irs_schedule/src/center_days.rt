@@ -86,6 +86,10 @@ impl<'cal, 'swap> GoodDays for CenterDays<'cal, 'swap> {
         self.runs.next_good(d)
     }
 
+    fn next_good_near(&self, d: Day, near: usize) -> (Option<Day>, usize) {
+        self.runs.next_good_near(d, near)
+    }
+
     fn prev_good(&self, d: Day) -> Option<Day> {
         self.runs.prev_good(d)
     }

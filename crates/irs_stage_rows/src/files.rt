@@ -2,7 +2,8 @@
 //!
 //! In a text `\n` is the end of a line, `\r` a return, `\t` a tab, `\#` a `#`, and `\xff` that
 //! byte. `\A` is `A` repeated the number of times that follows. `\D` is a line for each day from
-//! 1901-01-01 on, the number of days that follows. `\.` ends such a number.
+//! 1901-01-01 on, the number of days that follows. What comes after a space there follows each day
+//! on its line. `\.` ends such a number or text.
 use irs_base::{Day, day_digits, plus};
 use std::alloc::Global;
 use std::fs;
@@ -25,12 +26,21 @@ fn push_many(bytes: &mut Vec<u8>, count: &str) -> Option<()> {
     Some(())
 }
 
-// Appends a line for each of the number of days that a text says.
-fn push_days(bytes: &mut Vec<u8>, count: &str) -> Option<()> {
+// Appends a day and what follows it, with a space before, on a line.
+fn push_day(bytes: &mut Vec<u8>, day: Day, after: &str) -> Option<()> {
+    bytes.extend_from_slice(&day_digits(day)).ok()?;
+    if !after.is_empty() {
+        bytes.push(b' ').ok()?;
+    }
+    bytes.extend_from_slice(after.as_bytes()).ok()?;
+    bytes.push(b'\n').ok()
+}
+
+// Appends a line for each of the number of days that a text says, with the rest of the text.
+fn push_days(bytes: &mut Vec<u8>, text: &str) -> Option<()> {
+    let (count, after) = text.split_once(' ').unwrap_or((text, ""));
     for k in 0..count.parse::<u32>().ok()? {
-        let day = plus(Day::earliest(), i64::from(k))?;
-        bytes.extend_from_slice(&day_digits(day)).ok()?;
-        bytes.push(b'\n').ok()?;
+        push_day(bytes, plus(Day::earliest(), i64::from(k))?, after)?;
     }
     Some(())
 }
@@ -52,7 +62,7 @@ fn push_escaped(bytes: &mut Vec<u8>, text: &str) -> Option<()> {
         return push_many(bytes, count);
     }
     match text.strip_prefix("D") {
-        Some(count) => push_days(bytes, count),
+        Some(days) => push_days(bytes, days),
         None => push_named(bytes, text),
     }
 }

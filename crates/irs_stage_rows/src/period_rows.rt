@@ -1,5 +1,6 @@
 //! What is reported of calculation periods: the rule that is broken, or the regular span with its
-//! anchor, and their boundaries. Where there are many, it is the number of periods.
+//! anchor, and their boundaries. Where there are many, it is the number of periods, and the first
+//! and the last boundary.
 ghost use Rattle.std.specs.Prelude.{◌≡◌, ◌≤ℤ◌, ◌<ℤ◌, IfSome, IsTrue};
 ghost use Rattle.irs_terms.specs.Lawful.{IsLawfulStream};
 ghost use Rattle.irs_terms.specs.TermDates.{DatesInOrder, given_or};
@@ -74,10 +75,20 @@ fn keeps_frequency(s: &Stream) -> bool
     suits(s.freq, s.roll)
 }
 
+// A line of how many periods there are, and one of the first and the last boundary.
+fn ends_told(told: &mut Told, days: &[Day]) {
+    told.number("", days.len().saturating_sub(1));
+    told.line(" periods");
+    if let (Some(first), Some(last)) = (days.first(), days.last()) {
+        told.day("from ", *first);
+        told.day(" to ", *last);
+        told.end();
+    }
+}
+
 fn days_told(told: &mut Told, days: &[Day]) {
     if days.len() > FEW {
-        told.number("", days.len() - 1);
-        told.line(" periods");
+        ends_told(told, days);
         return;
     }
     let mut between = "";

@@ -63,8 +63,3 @@ pub record IsLastPayment (s : Stream) (last : ℤ) : Type 0 where
 -- lastRegularPaymentDate, where it is given, is a lawful one
 abbrev pub LastPaymentStands : Stream → Type 0
 LastPaymentStands s = IfSome s.pay.last (IsLastPayment s)
-
--- K16 isn't broken: both regular payment dates are where they may be
-pub record PaymentDatesStand (s : Stream) : Type 0 where
-  pub first : FirstPaymentStands s
-  pub last : LastPaymentStands s

@@ -1,7 +1,7 @@
 //! Comments, processing instructions and CDATA sections, after what opens them: XML 1.0 (fifth
 //! edition), 2.5, 2.6 and 2.7.
 ghost use Rattle.irs_xml.specs.Reading.{Gives, Passes, comment_at, data_at, instruction_at, past};
-ghost use Rattle.std.specs.Prelude.{◌≤◌, length, string_bytes};
+ghost use Rattle.std.specs.Prelude.{string_bytes};
 
 use crate::failure::Failure;
 use crate::reader::Reader;

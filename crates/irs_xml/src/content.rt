@@ -3,7 +3,7 @@ ghost use Rattle.irs_xml.specs.Comments.{after};
 ghost use Rattle.irs_xml.specs.InsideViews.{inside_view};
 ghost use Rattle.irs_xml.specs.MarkViews.{mark_view};
 ghost use Rattle.irs_xml.specs.Plain.{PlainPieces};
-ghost use Rattle.irs_xml.specs.Reading.{Gives, Passes, Reads, begun as begun_of, child_at, closing_at, closing_name_at, content_at, element_at, filled_at, mark_at, markup_at, piece_at};
+ghost use Rattle.irs_xml.specs.Reading.{Gives, Passes, Reads, child_at, closing_at, closing_name_at, content_at, element_at, filled_at, mark_at, markup_at, piece_at};
 ghost use Rattle.irs_xml.specs.Seen.{seen};
 ghost use Rattle.irs_xml.specs.TagViews.{opening_view, scope_view, tag_view};
 ghost use Rattle.irs_xml.specs.Values.{is_ours as is_ours_of};

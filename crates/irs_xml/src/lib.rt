@@ -16,8 +16,6 @@ mod reading;
 mod references;
 mod settings;
 mod tags;
-#[cfg(test)]
-mod tests;
 
 pub use reading::{XmlErr, no_larger, one_value, read_xml};
 pub use serde_json::Value;

@@ -1,6 +1,6 @@
 //! References, after their `&`: XML 1.0 (fifth edition), 4.1 and 4.6.
-ghost use Rattle.irs_xml.specs.Reading.{Reads, character_at, digits_at, number_at, reference_at};
-ghost use Rattle.std.specs.Prelude.{◌<◌, ◌≤◌, IfSome};
+ghost use Rattle.irs_xml.specs.Reading.{Reads, character_at, number_at, reference_at};
+ghost use Rattle.std.specs.Prelude.{◌<◌, ◌≤◌};
 
 use crate::chars::is_char;
 use crate::reader::Reader;

@@ -10,5 +10,5 @@ returns-in-Ok g c =
     observed_period c.args.offset (g.G.GoodDays.days c.args.applicable.now) c.args.start c.args.end in
     record {
       meets = daily_meets c.args.method daily p c.args.number c.in-Ok.all c.in-Ok.ensures.meets.0
-          c.in-Ok.ensures.meets.1 c.rows_by.result c.rows_by.ensures.meets;
+          c.in-Ok.ensures.meets.1 c.rows_by.result (rw c.of.ensures at c.rows_by.ensures.meets);
     }

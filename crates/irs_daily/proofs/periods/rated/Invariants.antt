@@ -1,5 +1,5 @@
 use Rattle.std.proofs.Common.{◌≡◌, take}
-use Rattle.irs_observed.specs.DailyRates.{daily_rates}
+use Rattle.irs_observed.specs.DailyRates.{rates_by}
 use Rattle.irs_daily.specs.FactorSteps.{IsSmall}
 use Rattle.irs_daily.specs.ObservedRows.{day_rows}
 use Rattle.irs_daily.proofs.Growths.{IsGrown}
@@ -7,7 +7,7 @@ use Rattle.irs_daily.proofs.periods.rated.Given as goal
 
 abbrev pub invariant-loop-o : goal.invariant-loop-o
 invariant-loop-o l = record {
-  days : l.days ≡ day_rows (daily_rates l.fixings l.index) l.number (take l.o-index l.observations);
-  growth : IsGrown l.method (daily_rates l.fixings l.index) l.observations l.o-index l.growth;
+  days : l.days ≡ day_rows (rates_by l.daily) l.number (take l.o-index l.observations);
+  growth : IsGrown l.method (rates_by l.daily) l.observations l.o-index l.growth;
   small : IsSmall l.growth;
 }

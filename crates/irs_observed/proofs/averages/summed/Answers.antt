@@ -1,7 +1,7 @@
 use Rattle.std.proofs.Common.{rules, pos, sym, arith, FitsSigned, to_z}
 use Rattle.std.specs.Int.{w128}
 use Rattle.std.proofs.lemmas.Int.{to_z-of_z}
-use Rattle.irs_observed.specs.DailyRates.{DailyRates, daily_rates}
+use Rattle.irs_observed.specs.DailyRates.{DailyRates, rates_by}
 use Rattle.irs_observed.specs.ObservedRates.{AddsBy}
 use Rattle.irs_observed.proofs.ThroughLemmas.{through_more, total_first, total_more, weight_at}
 use Rattle.irs_observed.proofs.averages.summed.Goals as goal
@@ -21,7 +21,7 @@ added-requires-clause-weight c =
 
 pub loop-o-preserved : goal.loop-o-preserved
 loop-o-preserved c =
-    let daily : DailyRates = daily_rates c.args.daily.now c.args.index.now in
+    let daily : DailyRates = rates_by c.args.daily.now in
     let fits : FitsSigned w128 c.in-Some.next = search rules in
     let before = c.loop-o.invariant.size in
     let size = c.in-Some.ensures.size in

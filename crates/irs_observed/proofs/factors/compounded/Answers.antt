@@ -2,7 +2,7 @@ use Rattle.std.proofs.Common.{rules, ◌≡◌, ◌≤◌, ◌<◌, sym, arith, 
 use Rattle.std.specs.Prelude.{unsigned_abs}
 use Rattle.std.specs.Int.{w128}
 use Rattle.std.proofs.lemmas.Int.{to_z-of_z}
-use Rattle.irs_observed.specs.DailyRates.{DailyRates, daily_rates}
+use Rattle.irs_observed.specs.DailyRates.{DailyRates, rates_by}
 use Rattle.irs_observed.specs.ObservedRates.{rate_precision}
 use Rattle.irs_observed.proofs.FactorLemmas.{compounds_more, passes_at, past_known}
 use Rattle.irs_observed.proofs.ThroughLemmas.{weight_at}
@@ -16,7 +16,7 @@ grown_by-requires-clause-weight c =
 
 pub returns-then-unsigned_abs-gt-MOST_FACTOR-clause-passes : goal.returns-then-unsigned_abs-gt-MOST_FACTOR-clause-passes
 returns-then-unsigned_abs-gt-MOST_FACTOR-clause-passes c =
-    let daily : DailyRates = daily_rates c.args.daily.now c.args.index.now in
+    let daily : DailyRates = rates_by c.args.daily.now in
     let fits : FitsSigned w128 c.in-Some.next = search rules in
     let size : c.unsigned_abs.result ≡ unsigned_abs c.in-Some.next = simp to_z-of_z at c.unsigned_abs.ensures.value in
     let test = c.if-unsigned_abs-gt-MOST_FACTOR.true in
@@ -28,7 +28,7 @@ returns-then-unsigned_abs-gt-MOST_FACTOR-clause-passes c =
 
 pub loop-o-preserved : goal.loop-o-preserved
 loop-o-preserved c =
-    let daily : DailyRates = daily_rates c.args.daily.now c.args.index.now in
+    let daily : DailyRates = rates_by c.args.daily.now in
     let fits : FitsSigned w128 c.in-Some.next = search rules in
     let size : c.unsigned_abs.result ≡ unsigned_abs c.in-Some.next = simp to_z-of_z at c.unsigned_abs.ensures.value in
     let test = c.if-unsigned_abs-gt-MOST_FACTOR.false in

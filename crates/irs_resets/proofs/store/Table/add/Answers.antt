@@ -1,34 +1,48 @@
-use Rattle.std.proofs.Common.{◌≡◌, ◌∙◌, sym, ap, Some, None, List, ℕ, cond, Option, w64, to_z, of_z, arith}
+use Rattle.std.proofs.Common.{◌≡◌, ◌∙◌, sym, ap, Some, None, Option, List, ℕ, cond, is_some, w64, to_z, of_z, arith}
 use Rattle.std.proofs.lemmas.Int.{ints}
-use Rattle.std.specs.Ordering.{nat_cmp}
-use Rattle.std.specs.Cmp.Lexicographic.{slice_cmp}
-use Rattle.std.specs.BTreeMap.{get_by}
+use Rattle.std.proofs.lemmas.Result.{IfOk-weaker}
 use Rattle.std.specs.Map.{lookup}
 use Rattle.std.specs.Str.{bytes_eq}
-use Rattle.irs_resets.specs.declared.store.Slot.{Slot}
-use Rattle.irs_resets.specs.Rates.{SlotRates, rate_of, by_bytes, is_slot}
-use Rattle.irs_resets.proofs.KeyLemmas.{lookup_by_bytes, updates_bytes, put_back}
+use Rattle.irs_resets.specs.Rates.{SlotRates, by_bytes, rate_of}
+use Rattle.irs_resets.proofs.KeyLemmas.{adds_there, lookup_by_bytes, updates_bytes}
+use Rattle.irs_resets.proofs.OrderLemmas.{on_err_of}
 use Rattle.irs_resets.proofs.store.Table.add.Goals as goal
 
-pub returns : goal.returns
-returns c = λ i q.
+pub returns-in-Some-clause-adds : goal.returns-in-Some-clause-adds
+returns-in-Some-clause-adds c =
     let index : List ℕ = c.args.index.now in
-    let g0 : List ℕ → Option SlotRates = λ cs. lookup (bytes_eq cs) (by_bytes c.self.inside.indexes.entries) in
-    let g1 : List ℕ → Option SlotRates = λ cs. get_by (λ k. slice_cmp nat_cmp cs k.items) c.remove.new.self in
-    let g2 : List ℕ → Option SlotRates = λ cs. lookup (bytes_eq cs) (by_bytes c.insert.new.self.entries) in
-    let out : (cs : List ℕ) → g1 cs ≡ cond (bytes_eq index cs) None (g0 cs) = λ cs.
-    updates_bytes (λ k. k.items) index c.self.inside.indexes c.remove.new.self None c.remove.ensures.updates cs
-    ∙ ap (λ o. cond (bytes_eq index cs) None o) (lookup_by_bytes cs c.self.inside.indexes.entries) in
+    let m = c.self.inside.indexes in
     let grown : SlotRates = c.add.new.self in
-    let put = λ (cs : List ℕ). updates_bytes (λ k. k.items) c.in_ok-from_slice.field-0.items c.remove.new.self
-    c.insert.new.self (Some grown) c.in_ok-insert.ensures.updates cs in
-    let back : (cs : List ℕ) → g2 cs ≡ cond (bytes_eq index cs) (Some grown) (g1 cs) = λ cs.
-    sym (lookup_by_bytes cs c.insert.new.self.entries) ∙ put cs
-    ∙ ap (λ l. cond (bytes_eq l cs) (Some grown) (g1 cs)) c.in_ok-from_slice.ensures.items in
-    let were : (s : Slot) → lookup (is_slot s) c.kept_or_new-rates.result ≡ rate_of (g0 index) s = λ s.
-    c.kept_or_new-rates.ensures s
-    ∙ ap (λ o. rate_of o s) (c.remove.ensures.value ∙ lookup_by_bytes index c.self.inside.indexes.entries) in
+    let n = c.get_mut.follows.lender grown in
+    let found = c.in-Some.ensures.value in
+    let at : lookup (bytes_eq index) (by_bytes m.entries) ≡ Some c.in-Some.rates.now =
+    sym (found ∙ lookup_by_bytes index m.entries) in
+    let back = λ (cs : List ℕ).
+    sym (lookup_by_bytes cs n.entries)
+    ∙ updates_bytes (λ k. k.items) index m n (Some grown) ((c.get_mut.follows.holds grown).3 (ap is_some (sym found))) cs
+    ∙ ap (λ o. cond (bytes_eq index cs) (Some grown) o) (lookup_by_bytes cs m.entries) in
     let whole : to_z w64 (of_z w64 c.args.rate) ≡ c.args.rate = omega (arith, ints, c.ranges.rate) in
-    let more = λ (s : Slot). rw whole at (c.in_ok-add.ensures s) in
+    let added = rw whole at c.add.ensures.adds in
     rw (← c.self.view_is)
-    (put_back index i c.args.slot q c.args.rate g0 g1 g2 c.kept_or_new-rates.result grown out back were more)
+    (IfOk-weaker _ _ _ (λ b adds. adds_there (by_bytes m.entries) (by_bytes n.entries) index c.args.slot c.args.rate
+    c.in-Some.rates.now grown b at back adds) added)
+
+pub returns-in-Some-clause-memory : goal.returns-in-Some-clause-memory
+returns-in-Some-clause-memory c =
+    let m = c.self.inside.indexes in
+    let at : lookup (bytes_eq c.args.index.now) (by_bytes m.entries) ≡ Some c.in-Some.rates.now =
+    sym (c.in-Some.ensures.value ∙ lookup_by_bytes c.args.index.now m.entries) in
+    rw (← c.self.view_is, at) c.add.ensures.memory
+
+pub add_first-requires : goal.add_first-requires
+add_first-requires c =
+    rw c.get_mut.follows.holds-at-none
+    (sym (c.in-None.ensures.value ∙ lookup_by_bytes c.args.index.now c.self.inside.indexes.entries))
+
+pub returns-in-None-clause-memory : goal.returns-in-None-clause-memory
+returns-in-None-clause-memory c =
+    let m = c.self.inside.indexes in
+    let absent : lookup (bytes_eq c.args.index.now) (by_bytes m.entries) ≡ None =
+    sym (c.in-None.ensures.value ∙ lookup_by_bytes c.args.index.now m.entries) in
+    rw (← c.self.view_is)
+    (on_err_of c.add_first.result (ap (λ (o : Option SlotRates). rate_of o c.args.slot) absent))

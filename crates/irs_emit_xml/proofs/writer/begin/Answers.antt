@@ -1,0 +1,10 @@
+use Rattle.irs_emit_xml.proofs.writer.begin.Goals as goal
+use Rattle.irs_emit_xml.proofs.Lines.{begin_pieces}
+use Rattle.irs_emit_xml.specs.Trees.{declared_text, namespace_text}
+
+pub returns : goal.returns
+unfolding declared_text namespace_text
+returns c =
+    begin_pieces c.args.name.now c.as_bytes.result.now c.args.out.now.items c.extend_from_slice.new.self.items
+    c.extend_from_slice-2.new.self.items c.extend_from_slice-3.new.self.items c.in_ok-extend_from_slice.ensures.items
+    c.in_ok-extend_from_slice-2.ensures.items c.as_bytes.ensures.value c.in_ok-extend_from_slice-3.ensures.items

@@ -1,0 +1,4 @@
+pub mod Trees
+pub mod Ones
+pub mod Flows
+pub mod StatedInXml
