@@ -7,8 +7,6 @@ mod interest;
 mod running;
 mod shares;
 mod streams;
-#[cfg(test)]
-mod tests;
 mod texts;
 
 pub use accruals::{Accrual, accrued};

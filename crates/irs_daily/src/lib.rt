@@ -8,8 +8,6 @@ mod laws;
 mod listing;
 mod periods;
 mod rows;
-#[cfg(test)]
-mod tests;
 mod texts;
 
 pub use laws::{one_list, rates_have_rows, rows_show_rates};

@@ -19,8 +19,6 @@ mod products;
 mod rate_laws;
 mod rates;
 mod running;
-#[cfg(test)]
-mod tests;
 mod walk;
 
 pub use daily::{daily_rate, daily_rate_near};
