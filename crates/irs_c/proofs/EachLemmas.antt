@@ -1,6 +1,7 @@
 -- Trade after trade: the outcomes so far, and with one more.
-use Rattle.std.proofs.Common.{◌≡◌, ◌≢◌, inl, inr, ◌⊎◌, ℕ, zero, suc, ◌+◌, ◌<◌, ◌≤◌, List, [], ◌∷◌, ◌++◌, length, map, take, drop}
-use Rattle.std.proofs.Common.{get_or, set, Result, Ok, Err, Vec, String, refl, sym, ◌∙◌, ap, subst, arith, append_assoc}
+use Rattle.std.proofs.Common.{◌≡◌, ◌≢◌, inl, inr, ◌⊎◌, ℕ, zero, suc, ◌+◌, ◌<◌, ◌≤◌, List, [], ◌∷◌, ◌++◌, length}
+use Rattle.std.proofs.Common.{map, take, drop, get_or, set, Result, Ok, Err, Vec, String, refl, sym, ◌∙◌, ap, subst}
+use Rattle.std.proofs.Common.{arith, append_assoc}
 use Rattle.std.specs.Prelude.{IfOk, IfErr}
 use Rattle.std.specs.Result.{IsErrAnd}
 use Rattle.std.specs.declared.alloc.Global.{Global}
@@ -70,7 +71,8 @@ none_yet words common trades before said e =
 pub one_more : (words : Made) (common : List File) (trades : List Trade) (before answers now : List Answer) (k : ℕ)
     (d : Trade) (a : Answer) (said more : List ℕ) → SoFar words common trades before k answers said
     → k < length trades → k < length before
-    → (o : Outcome) × RunFor words (common ++ (get_or trades k d).files.now) o × (a ≡ slot_of o) × (more ≡ said ++ (o.text ++ o.sentence))
+    → (o : Outcome) × RunFor words (common ++ (get_or trades k d).files.now) o × (a ≡ slot_of o)
+    × (more ≡ said ++ (o.text ++ o.sentence))
     → now ≡ set answers k a → SoFar words common trades before (k + 1) now more
 one_more words common trades before answers now k d a said more h less room (o, run, slot, grown) is =
     let os = h.outcomes in

@@ -148,8 +148,8 @@ const NO_ANSWER: Answer = Answer {
 const CALENDAR: &[u8] = b"center BULK\ncover 1949-01-01 2012-12-31\nweekend SAT SUN\n";
 
 /// Cash flows without a payment.
-const NO_PAYMENT: &[u8] =
-    b"{\"swap\":{\"swapStream\":{\"cashflows\":{\"cashflowsMatchParameters\":\"true\",\"paymentCalculationPeriod\":[]}}}}";
+const NO_PAYMENT: &[u8] = b"{\"swap\":{\"swapStream\":{\"cashflows\":\
+    {\"cashflowsMatchParameters\":\"true\",\"paymentCalculationPeriod\":[]}}}}";
 
 fn file<'a>(name: &'a [u8], bytes: &'a [u8]) -> File<'a> {
     File {

@@ -1,7 +1,8 @@
-use Rattle.std.proofs.Common.{◌≡◌, ◌++◌, refl}
+use Rattle.std.proofs.Common.{◌≡◌, ℕ, List, ◌++◌, vec_len, refl}
 use Rattle.irs_c.specs.Each.{Outcome, outcome_by, slot_of}
 use Rattle.irs_c.proofs.EachLemmas.{memory_stops, run_by}
 use Rattle.irs_c.specs.declared.each.Answer.{Answer}
+use Rattle.irs_c.specs.declared.telling.Told.{Told}
 use Rattle.irs_c.proofs.each.outcome_of.Goals as goal
 
 pub returns-in_err-append-clause-no_text : goal.returns-in_err-append-clause-no_text
@@ -16,16 +17,23 @@ returns-in_err-append-2-clause-no_text c =
     c.from_residual-in_err-append-2.result c.in_err-append-2.field-0.0 _ _ c.in-Ok.is
     c.from_residual-in_err-append-2.ensures.1 c.in_err-append-2.ensures.err c.in_err-append-2.ensures.same
 
+-- the slot has the lengths of what was told
+slot : (told : Told) (n m : ℕ) → n ≡ vec_len told.text → m ≡ vec_len told.sentence
+    → ◌≡◌ {A = Answer} (record { status = told.status; text = n; sentence = m }) (slot_of (outcome_by told))
+slot told n m text sentence = cc
+
+-- the sentence is appended to the text, and then both are appended
+both_said : (before now text part sentence whole both : List ℕ) → now ≡ before ++ both → both ≡ whole
+    → whole ≡ text ++ part → part ≡ sentence → now ≡ before ++ (text ++ sentence)
+both_said before now text part sentence whole both grown same joined told = cc
+
 pub returns-clause-said : goal.returns-clause-said
 returns-clause-said c =
-    let told = c.in_ok-status.field-0 in
-    let o : Outcome = outcome_by told in
-    let slot : ◌≡◌ {A = Answer} (record { status = told.status; text = c.len.result; sentence = c.len-2.result }) (slot_of o) = cc (c.len.ensures, c.len-2.ensures) in
-    let said : c.append-2.new.text.items ≡ c.args.said.now.items ++ (o.text ++ o.sentence) =
-    cc (c.in_ok-append-2.ensures.text, c.deref-3.ensures.value, c.in_ok-append.ensures.text, c.deref-2.ensures.value) in (
+    let o : Outcome = outcome_by c.in_ok-status.field-0 in (
       o,
       run_by c.args.words.now c.in-Ok.words c.deref.result.now (c.args.common.now ++ c.args.own.now) o c.in-Ok.is
           c.deref.ensures.value c.in_ok-status.ensures.run,
-      slot,
-      said,
+      slot c.in_ok-status.field-0 c.len.result c.len-2.result c.len.ensures c.len-2.ensures,
+      both_said _ _ _ _ _ _ _ c.in_ok-append-2.ensures.text c.deref-3.ensures.value c.in_ok-append.ensures.text
+          c.deref-2.ensures.value,
     )
