@@ -1,16 +1,19 @@
 -- What is read of the common files is also read of these with a trade's own files after them.
-use Rattle.std.proofs.Common.{◌≡◌, ℕ, List, [], ◌∷◌, ◌++◌, Option, Some, None, Bool, true, false, refl, subst, sym, Bor}
-use Rattle.std.specs.Prelude.{if◌then◌else◌, IfSome, take}
+use Rattle.std.proofs.Common.{◌≡◌, ℕ, List, [], ◌∷◌, ◌++◌, Option, Some, None, Bool, true, false, refl, subst, sym}
+use Rattle.std.proofs.Common.{Bor, Ok, Vec, String, ap, ◌∙◌}
+use Rattle.std.proofs.lemmas.List.{append-nil}
+use Rattle.std.specs.declared.alloc.Global.{Global}
+use Rattle.std.specs.Prelude.{if◌then◌else◌, IfOk, IfSome, take}
 use Rattle.std.specs.Str.{bytes_eq}
 use Rattle.irs_answers.specs.Given.{given_by, no_files, too_many}
 use Rattle.irs_answers.specs.declared.common.Common.{Common}
 use Rattle.irs_outside.specs.Outside.{IsFrontUnder}
-use Rattle.irs_cli.specs.Commands.{Words}
+use Rattle.irs_cli.specs.Commands.{Words, texts}
 use Rattle.irs_cli.specs.Fetching.{Holds, IsGiven}
 use Rattle.irs_cli.specs.Sharing.{files_with}
 use Rattle.irs_cli.proofs.FetchLemmas.{front_whole}
 use Rattle.irs_cli.proofs.SharingLemmas.{gathers_as}
-use Rattle.irs_c.specs.Each.{IsCommonIn, gives_in}
+use Rattle.irs_c.specs.Each.{IsCommonIn, Made, gives_in}
 use Rattle.irs_c.specs.Given.{file_in}
 use Rattle.irs_c.specs.declared.given.File.{File}
 
@@ -81,3 +84,15 @@ pub common_for : (ws : Words) (fs own gs go : List File) (o : Option (Bor Common
     → IfSome o (λ c. IsCommonIn ws fs c.now) → IfSome o (λ c. IsCommonIn ws (gs ++ go) c.now)
 common_for ws fs own gs go None e k h = tt
 common_for ws fs own gs go (Some c) e k h = rw (e, k) (common_still ws fs own c.now h)
+
+-- what is read of a source that has the common files alone is read of these
+pub common_read : (words : Made) (v : Vec (String Global) Global) (ws : List (String Global)) (fs gs go : List File)
+    (o : Option Common) → words ≡ Ok v → ws ≡ v.items → gs ≡ fs → go ≡ [] → IfSome o (IsCommonIn (texts ws) (gs ++ go))
+    → IfSome o (λ c. IfOk words (λ u. IsCommonIn (texts u.items) fs c))
+common_read words v ws fs gs go None is same e k h = tt
+common_read words v ws fs gs go (Some c) is same e k h =
+    let all : gs ++ go ≡ fs = ap (λ (l : List File). gs ++ l) k ∙ append-nil gs ∙ e in
+    let by_words : IsCommonIn (texts v.items) (gs ++ go) c =
+    subst (λ (l : List (String Global)). IsCommonIn (texts l) (gs ++ go) c) same h in
+    subst (λ (r : Made). IfOk r (λ u. IsCommonIn (texts u.items) fs c)) (sym is)
+    (subst (λ (l : List File). IsCommonIn (texts v.items) l c) all by_words)

@@ -5,6 +5,11 @@ use Rattle.irs_c.specs.declared.each.Answer.{Answer}
 use Rattle.irs_c.specs.declared.telling.Told.{Told}
 use Rattle.irs_c.proofs.each.outcome_of.Goals as goal
 
+pub returns-in_err-status-clause-no_text : goal.returns-in_err-status-clause-no_text
+returns-in_err-status-clause-no_text c =
+    memory_stops c.args.words.now c.in-Ok.words (c.args.common.now ++ c.args.own.now) c.from_residual.result
+    c.in_err-status.field-0.0 _ _ c.in-Ok.is c.from_residual.ensures.1 c.in_err-status.ensures.err refl
+
 pub returns-in_err-append-clause-no_text : goal.returns-in_err-append-clause-no_text
 returns-in_err-append-clause-no_text c =
     memory_stops c.args.words.now c.in-Ok.words (c.args.common.now ++ c.args.own.now)
