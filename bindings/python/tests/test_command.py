@@ -11,7 +11,7 @@ import time
 import unittest
 from pathlib import Path
 
-from books import HERE, example, monthly
+from books import HERE, example, mixed, monthly
 
 import irs
 
@@ -39,10 +39,10 @@ class Command(unittest.TestCase):
         if flows is not None:
             self.put(f"{name}.flows.json", flows)
 
-    def start(self, *words, **more):
+    def start(self, *words, program=("-m", "irs.command"), **more):
         environment = {**os.environ, "PYTHONPATH": str(PACKAGE), **more}
         return subprocess.Popen(
-            [sys.executable, "-m", "irs.command", *words],
+            [sys.executable, *program, *words],
             cwd=self.room,
             env=environment,
             stdout=subprocess.PIPE,
@@ -237,6 +237,31 @@ class Odd(Command):
         names = [row["name"] for row in self.rows()]
         self.assertFalse([name for name in names if name.startswith(("=", "@", "+", "-", "\t", "\r"))])
         self.assertIn("'=cmd|' calc'!A0", names)
+
+
+class Mixed(Command):
+    """A book of trades of all kinds."""
+
+    def setUp(self):
+        super().setUp()
+        self.folder.rmdir()
+        mixed(self.folder, 320)
+
+    def test_one_call_for_many_trades_is_a_call_for_each(self):
+        for command in ("audit", "check", "schedule", "emit", "net"):
+            alone = ("book", "--command", command, "--csv", "alone.csv")
+            self.assertEqual(self.run_book(*alone, program=(str(HERE / "one_by_one.py"),))[0], 1)
+            wanted = (self.room / "alone.csv").read_bytes()
+            self.assertEqual(wanted.count(b"\n"), 325)
+            for chunk in ("50", "400") if command == "audit" else ("33",):
+                status, _, said = self.run_book("book", "--command", command, "--chunk", chunk, "--jobs", "2")
+                self.assertEqual(status, 1, said)
+                self.assertEqual((self.room / "irs-book.csv").read_bytes(), wanted, (command, chunk))
+
+    def test_each_verdict_is_there(self):
+        self.assertEqual(self.run_book("book")[0], 1)
+        verdicts = {"agrees", "unverified", "departs", "refused", "bad file", "failed"}
+        self.assertEqual(set(self.verdicts().values()), verdicts)
 
 
 class Kept(Command):

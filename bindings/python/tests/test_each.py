@@ -5,21 +5,14 @@ import subprocess
 import sys
 import unittest
 from pathlib import Path
-from typing import Dict, List, Mapping, Sequence, Tuple
+from typing import Dict, List, Tuple
 from unittest import mock
 
-from books import EXAMPLES, HERE, example
+from books import EXAMPLES, HERE, by_one_call_each, example
 
 from irs import OutOfMemory, library
-from irs.library import Answer, Text
+from irs.library import Answer
 from irs.many import MOST_TRADES, Item, answers
-
-
-def by_one_call_each(
-    words: Sequence[Text], common: Mapping[str, Text], trades: Sequence[Mapping[str, Text]]
-) -> List[Answer]:
-    """What `library.run_each` does, by a call of `library.run` a trade."""
-    return [library.run(words, {**own, **common}) for own in trades]
 
 
 def examples() -> List[Tuple[List[str], Dict[str, bytes]]]:
