@@ -7,7 +7,7 @@ from __future__ import annotations
 import ctypes
 import functools
 import os
-from typing import Iterator, List, Mapping, NamedTuple, Optional, Sequence, Union
+from typing import Any, Iterator, List, Mapping, NamedTuple, Optional, Sequence, Union
 
 Text = Union[bytes, str]
 
@@ -67,9 +67,9 @@ def _library() -> ctypes.CDLL:
     for name in CALLS:
         if not hasattr(library, name):
             raise ImportError(f"{path} has no call {name}: it isn't of this package's version")
-    size, length = ctypes.c_size_t, ctypes.POINTER(ctypes.c_size_t)
-    given = [ctypes.POINTER(_Bytes), size, ctypes.POINTER(_File), size]
-    room = [ctypes.c_void_p, size, length]
+    size = ctypes.c_size_t
+    given: List[Any] = [ctypes.POINTER(_Bytes), size, ctypes.POINTER(_File), size]
+    room: List[Any] = [ctypes.c_void_p, size, ctypes.POINTER(size)]
     library.irs_run.restype = ctypes.c_uint8
     library.irs_run.argtypes = [*given, *room, *room]
     library.irs_run_each.restype = None
