@@ -4,6 +4,7 @@ from __future__ import annotations
 import subprocess
 import sys
 import unittest
+from concurrent.futures import ThreadPoolExecutor
 from pathlib import Path
 from typing import Dict, List, Tuple
 from unittest import mock
@@ -128,6 +129,14 @@ class Room(unittest.TestCase):
         self.assertEqual(set(library.run_each(["check", "D"], {}, trades)), {(0, b"ok\n", "")})
         views = [{"D": memoryview(document.encode())}, {"D": bytearray(document.encode())}]
         self.assertEqual(set(library.run_each(["check", "D"], {}, views)), {(0, b"ok\n", "")})  # type: ignore[arg-type]
+
+    def test_threads(self) -> None:
+        words, files = audited()
+        trades = [files, {words[1]: b"["}, {}] * 20
+        wanted = by_one_call_each(words, {}, trades)
+        with ThreadPoolExecutor(8) as threads:
+            for found in threads.map(lambda _: library.run_each(words, {}, trades), range(40)):
+                self.assertEqual(found, wanted)
 
     def test_what_is_no_file(self) -> None:
         for wrong in (None, 3, Path("D")):
