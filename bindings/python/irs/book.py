@@ -203,8 +203,8 @@ def _outcome(command: str, given: _Given, answer: Answer, schedule: Optional[Ans
     return Outcome(given.trade.name, verdict, answer.status, line, sentence, given.stamp)
 
 
-def _asked(command: str, common: Loaded, batch: Sequence[_Given]) -> Iterator[Outcome]:
-    """What trades come to that have the same calendars of their own, or none."""
+def _together(command: str, common: Loaded, batch: Sequence[_Given]) -> Iterator[Outcome]:
+    """What trades come to whose own calendars are the same, or which have none."""
     own = batch[0].own
     found = common.answers(command, [it.item for it in batch], own)
     lacking = [place for place, answer in enumerate(found) if _verdict(command, answer) == "unverified"]
@@ -214,10 +214,10 @@ def _asked(command: str, common: Loaded, batch: Sequence[_Given]) -> Iterator[Ou
 
 
 def _worked(command: str, common: Loaded, batch: Sequence[_Given]) -> List[Outcome]:
-    """What trades come to; where they can't be asked about together, each is asked about alone."""
+    """What trades come to; where that fails for all together, each is tried alone."""
     try:
         groups = [list(group) for _, group in itertools.groupby(batch, key=lambda it: it.own)]
-        return [outcome for group in groups for outcome in _asked(command, common, group)]
+        return [outcome for group in groups for outcome in _together(command, common, group)]
     except Exception as why:
         if len(batch) == 1:
             return [_unworked(batch[0].trade, why)]

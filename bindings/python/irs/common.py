@@ -1,8 +1,8 @@
 """What the trades of a book have in common: the calendar files, and a file of fixings for all.
 
-Each trade gets all of them. A calendar file at fault would be a fault of every trade, so the engine is asked about the
-files first. Those at fault go only to a trade that is refused without them, as a centre of it is in no other
-file (rule K12). So its answer is one that the engine gives: the fault, in the place of the broken rule.
+Each trade gets all of them. A calendar file at fault would be a fault of every trade, so the engine first reads the
+calendar files without a trade. Those at fault go only to a trade that it refuses without them, as a centre is in
+no calendar file (rule K12). Then it reports the fault in place of the broken rule.
 """
 from __future__ import annotations
 
@@ -84,15 +84,15 @@ def _names(calendars: Sequence[Calendar]) -> str:
 
 
 def _refusal(calendars: Sequence[Calendar]) -> Optional[Answer]:
-    """What the engine says of calendar files that it can't take together; `None` where it takes them."""
+    """What the engine answers for calendar files that it doesn't take together; `None` where it does."""
     answer = answers("check", [Item(json.dumps(SOUND).encode())], packed(calendars))[0]
     return None if answer.status == 0 else answer
 
 
 class Tried(NamedTuple):
-    """Calendar files that the engine was asked about: those that it takes together, and those at fault.
+    """Calendar files: those that the engine takes together, and those at fault.
 
-    The files of one fault are one file, or two that have a centre both.
+    The files of one fault are one file, or two that have the same centre.
     """
 
     sound: List[Calendar]
@@ -100,7 +100,7 @@ class Tried(NamedTuple):
 
 
 def tried(calendars: Sequence[Calendar]) -> Tried:
-    """Asks the engine about calendar files: about each, then about all that it takes alone."""
+    """Tries calendar files with the engine: each alone, then all that it takes alone."""
     alone = [(calendar, _refusal([calendar])) for calendar in calendars]
     faults = [[calendar] for calendar, refusal in alone if refusal is not None]
     taken = [calendar for calendar, refusal in alone if refusal is None]
@@ -133,13 +133,13 @@ class Loaded:
                 LOG.warning("the calendar %s can't be read: %s", name, shown(str(why)))
         sound, self.faults = tried(read)
         for fault in self.faults:
-            said = _refusal(fault)
-            LOG.warning("a trade that needs %s is a bad file: %s", _names(fault), said.sentence if said else "")
+            refusal = _refusal(fault)
+            LOG.warning("left out: %s: %s", _names(fault), refusal.sentence if refusal else "")
         self.calendars = packed(sound)
         self.fixings = None if common.fixings is None else _held(common.fixings)
 
     def answers(self, command: str, items: Sequence[Item], own: Sequence[Calendar] = ()) -> List[Answer]:
-        """The answer of each trade, in order. `own` are calendars that these trades have besides the common ones."""
+        """The answer of each trade, in order. These trades have their own calendars beside the common ones."""
         calendars = packed([*own, *self.calendars])
         found = answers(command, items, calendars, self.fixings)
         lacking = [place for place, answer in enumerate(found) if answer.text.startswith(NO_CALENDAR)]
