@@ -1,10 +1,10 @@
 -- Trade after trade: the outcomes so far, and with one more.
-use Rattle.std.proofs.Common.{◌≡◌, ◌≢◌, inl, inr, ◌⊎◌, ℕ, zero, suc, ◌+◌, ◌<◌, ◌≤◌, List, [], ◌∷◌, ◌++◌, length, map, take, drop}
-use Rattle.std.proofs.Common.{get_or, set, Result, Ok, Err, Vec, String, refl, sym, ◌∙◌, ap, subst, arith, append_assoc}
+use Rattle.std.proofs.Common.{◌≡◌, ◌≢◌, inl, inr, ◌⊎◌, ℕ, zero, suc, ◌+◌, ◌<◌, ◌≤◌, List, [], ◌∷◌, ◌++◌, length}
+use Rattle.std.proofs.Common.{map, take, drop, get_or, set, Result, Ok, Err, Vec, String, refl, sym, ◌∙◌, ap, subst}
+use Rattle.std.proofs.Common.{arith, append_assoc}
 use Rattle.std.specs.Prelude.{IfOk, IfErr}
 use Rattle.std.specs.Result.{IsErrAnd}
 use Rattle.std.specs.declared.alloc.Global.{Global}
-use Rattle.std.proofs.lemmas.Bool.{cases_lt}
 use Rattle.std.proofs.lemmas.List.{append-nil, take_all}
 use Rattle.irs_cli.specs.Commands.{IsListed, Words, texts}
 use Rattle.irs_cli.specs.Due.{Due}
@@ -71,7 +71,8 @@ none_yet words common trades before said e =
 pub one_more : (words : Made) (common : List File) (trades : List Trade) (before answers now : List Answer) (k : ℕ)
     (d : Trade) (a : Answer) (said more : List ℕ) → SoFar words common trades before k answers said
     → k < length trades → k < length before
-    → (o : Outcome) × RunFor words (common ++ (get_or trades k d).files.now) o × (a ≡ slot_of o) × (more ≡ said ++ (o.text ++ o.sentence))
+    → (o : Outcome) × RunFor words (common ++ (get_or trades k d).files.now) o × (a ≡ slot_of o)
+    × (more ≡ said ++ (o.text ++ o.sentence))
     → now ≡ set answers k a → SoFar words common trades before (k + 1) now more
 one_more words common trades before answers now k d a said more h less room (o, run, slot, grown) is =
     let os = h.outcomes in
@@ -134,12 +135,12 @@ pub text_run : (ws : Words) (fs : List File) (status : ℕ) (text sentence : Lis
     → IsRun ws fs (record { status = status; text = text; sentence = sentence })
 text_run ws fs status text sentence due absent listed unlisted few is =
     record {
-      memory = λ e. absurd (few.1.1 e);
+      memory = λ e. absurd (few.2 e);
       absent = absent;
       due = λ no _. due no;
       only_unlisted = listed;
       unlisted = λ none _. unlisted none;
-      listed = (few.0, few.1.0);
+      listed = (few.0, few.1);
       one = one_answer ws (file_in fs);
       explained = λ _. is;
     }
@@ -148,6 +149,12 @@ text_run ws fs status text sentence due absent listed unlisted few is =
 pub run_of : (words : Made) (v : Vec (String Global) Global) (fs : List File) (o : Outcome) → words ≡ Ok v
     → IsRun (texts v.items) fs o → RunFor words fs o
 run_of words v fs o e run = subst (λ (r : Made). RunFor r fs o) (sym e) run
+
+-- what a run of words that were made into text comes to, by the slice of them
+pub run_by : (words : Made) (v : Vec (String Global) Global) (ws : List (String Global)) (fs : List File) (o : Outcome)
+    → words ≡ Ok v → ws ≡ v.items → IsRun (texts ws) fs o → RunFor words fs o
+run_by words v ws fs o e same run =
+    run_of words v fs o e (subst (λ (l : List (String Global)). IsRun (texts l) fs o) same run)
 
 -- an error where memory ran out gives no text
 pub memory_stops : (words : Made) (v : Vec (String Global) Global) (fs : List File) (r : Result Answer ℕ) (e : ℕ)

@@ -1,8 +1,7 @@
 -- What is read of the common files is also read of these with a trade's own files after them.
-use Rattle.std.proofs.Common.{◌≡◌, ℕ, ◌<◌, List, [], ◌∷◌, ◌++◌, length, Option, Some, None, Bool, true, false, refl, subst, sym, ◌∙◌, ap, Bor}
+use Rattle.std.proofs.Common.{◌≡◌, ℕ, List, [], ◌∷◌, ◌++◌, Option, Some, None, Bool, true, false, refl, subst, sym, Bor}
 use Rattle.std.specs.Prelude.{if◌then◌else◌, IfSome, take}
 use Rattle.std.specs.Str.{bytes_eq}
-use Rattle.std.proofs.lemmas.List.{append-nil}
 use Rattle.irs_answers.specs.Given.{given_by, no_files, too_many}
 use Rattle.irs_answers.specs.declared.common.Common.{Common}
 use Rattle.irs_outside.specs.Outside.{IsFrontUnder}
@@ -82,11 +81,3 @@ pub common_for : (ws : Words) (fs own gs go : List File) (o : Option (Bor Common
     → IfSome o (λ c. IsCommonIn ws fs c.now) → IfSome o (λ c. IsCommonIn ws (gs ++ go) c.now)
 common_for ws fs own gs go None e k h = tt
 common_for ws fs own gs go (Some c) e k h = rw (e, k) (common_still ws fs own c.now h)
-
--- what is read of a source that has the common files alone is read of these
-pub common_of_source : (ws vs : Words) (fs gs go : List File) (o : Option Common) → ws ≡ vs → gs ≡ fs → go ≡ []
-    → IfSome o (IsCommonIn ws (gs ++ go)) → IfSome o (IsCommonIn vs fs)
-common_of_source ws vs fs gs go None w e k h = tt
-common_of_source ws vs fs gs go (Some c) w e k h =
-    let all : gs ++ go ≡ fs = ap (λ (l : List File). gs ++ l) k ∙ append-nil gs ∙ e in
-    subst (λ (l : List File). IsCommonIn vs l c) all (subst (λ (x : Words). IsCommonIn x (gs ++ go) c) w h)

@@ -79,7 +79,8 @@ pub extern "C" fn irs_run(
 }
 
 /// Runs one command for each of many trades: over the common files, and after them the trade's own. What a
-/// trade comes to is what `irs_run` gives for these files: the status, the text and the sentence. The fixings and the calendars that the words name are read once, if all of them are common.
+/// trade comes to is what `irs_run` gives for these files: the status, the text and the sentence. The fixings
+/// and the calendars that the words name are read once, if all of them are common.
 ///
 /// As many trades are run as `answers` has room for. The texts and the sentences go to `out`, those of a trade
 /// one after the other, as far as it has room; and the length of all to `needed`. A trade with 7 or 9 has no

@@ -58,7 +58,8 @@ fn run_kept<'a>(
 ) -> Result<(u8, Vec<u8>, RunCause), u8>
     requires { IfSome common (λ c. IsCommonIn (texts words.now) files.now c.now) }
     ensures due { IfOk result (λ r. r.0 ≢ 5 → Due (texts words.now) (file_in (files.now ++ own.now)) r.0 r.1.items) }
-    ensures absent { IfOk result (λ r. r.0 ≡ 5 → IsAbsent (texts words.now) (file_in (files.now ++ own.now)) r.1.items) }
+    ensures absent { IfOk result
+        (λ r. r.0 ≡ 5 → IsAbsent (texts words.now) (file_in (files.now ++ own.now)) r.1.items) }
     ensures only_unlisted { IfOk result (λ r. r.0 ≡ 4 → IsListed (texts words.now) → ⊥) }
     ensures unlisted { IfOk result (λ r. (IsListed (texts words.now) → ⊥) → r.0 ≡ 4) }
     ensures ok { IfOk result (λ r. (r.0 < 9) × (r.0 ≢ 6) × (r.0 ≢ 7)) }

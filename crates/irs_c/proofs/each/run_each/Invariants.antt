@@ -1,4 +1,4 @@
-use Rattle.std.proofs.Common.{ℕ, length, ◌-◌}
+use Rattle.std.proofs.Common.{length, ◌-◌}
 use Rattle.irs_c.proofs.EachLemmas.{SoFar}
 use Rattle.irs_c.proofs.each.run_each.Given as goal
 

@@ -17,7 +17,7 @@ returns-in-Ok-clause-absent c is5 = (_, c.in-Ok.ensures.run.absent is5, c.show_t
 
 pub returns-in-Ok-clause-said : goal.returns-in-Ok-clause-said
 returns-in-Ok-clause-said c ne7 ne9 =
-    (_, (_, (c.in-Ok.ensures.run.explained ne7, (c.show_text.ensures, c.show_sentence.ensures))))
+    (_, (_, c.in-Ok.ensures.run.explained ne7, (c.show_text.ensures, c.show_sentence.ensures)))
 
 pub returns-in-Ok-clause-only_unlisted : goal.returns-in-Ok-clause-only_unlisted
 returns-in-Ok-clause-only_unlisted c = c.in-Ok.ensures.run.only_unlisted

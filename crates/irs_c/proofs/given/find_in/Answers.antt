@@ -10,8 +10,8 @@ returns-in-Some c =
     sym c.find.ensures ∙ ap (λ (o : Option (Bor (List ℕ))). option_map (λ s. s.now) o) c.in-Some.is in
     sym (still_in c.args.files.now c.args.own.now c.args.name.now c.in-Some.bytes.now found)
 
-pub returns : goal.returns
-returns c =
+pub returns-in-None : goal.returns-in-None
+returns-in-None c =
     let none : file_in c.args.files.now c.args.name.now ≡ None =
     sym c.find.ensures ∙ ap (λ (o : Option (Bor (List ℕ))). option_map (λ s. s.now) o) c.in-None.is in
     c.find-in-None.ensures ∙ sym (looked_after c.args.files.now c.args.own.now c.args.name.now none)

@@ -36,7 +36,8 @@ absent : (ws : Words) (fs gs hs : List File) (gives : Gives) (failed : Option (L
     (before after : List ℕ) → gs ≡ fs
     → ((n : List ℕ) → file_in hs n ≡ file_in gs n) → ((n : List ℕ) → failed ≡ Some n → file_in hs n ≡ None)
     → before ≡ []
-    → (text : List ℕ) × NoFile ws (source (file_in gs) gives failed faults now) text × Grew (Some before) (Some after) text
+    → (text : List ℕ) × NoFile ws (source (file_in gs) gives failed faults now) text
+    × Grew (Some before) (Some after) text
     → IsAbsent ws (file_in fs) after
 absent ws fs gs hs gives failed faults now before after same told none empty (text, missed, grew) =
     let is : text ≡ after = grind arith in
