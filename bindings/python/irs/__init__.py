@@ -28,7 +28,7 @@ from .calls import (
 )
 from .errors import BadFile, BadWords, Error, NoFile, NotText, OutOfMemory, Refused, TooLong
 from .ladder import CashFlow
-from .library import Answer, engine, run
+from .library import Answer, engine, run, run_each
 from .rows import (
     Accrued,
     Break,
@@ -97,6 +97,7 @@ __all__ = [
     "observations",
     "overnight",
     "run",
+    "run_each",
     "schedule",
     "swap",
 ]

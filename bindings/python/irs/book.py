@@ -15,10 +15,11 @@ from functools import partial
 from pathlib import Path
 from typing import Any, Callable, Deque, Dict, Iterable, Iterator, List, NamedTuple, Optional, Sequence, Tuple, Union
 
-from .calls import Item, Told, run_each
 from .common import Common, Loaded, common_of, loaded, stamp_of
+from .errors import OutOfMemory
 from .files import read_regular
-from .library import Text, as_bytes, engine
+from .library import Answer, Text, as_bytes, engine
+from .many import Calendar, Item
 from .plain import shown
 from .pool import TRIES, Processes
 
@@ -37,10 +38,13 @@ CLEAN = ("agrees", "done")
 #: How many names of failed trades a summary keeps.
 MOST_NAMES = 100
 
+#: A worker reads the files of as many trades at once as have this many bytes, and of one at least.
+MOST_READ = 1 << 25
+
 
 class Trade(NamedTuple):
     """A trade of a book. `fixings` and `flows` are `None` where there are none; without fixings of its own a trade
-    has those that are common. A path is read by the worker."""
+    has those that are common. Calendars of its own it has beside the common ones. A path is read by the worker."""
 
     name: str
     document: Union[Text, Path]
@@ -134,14 +138,39 @@ def stamp(trade: Trade) -> str:
     return " ".join(stamps) if any(stamps) else ""
 
 
+class _Given(NamedTuple):
+    """A trade whose files were read, and what the files were then."""
+
+    trade: Trade
+    item: Item
+    own: Tuple[Calendar, ...]
+    stamp: str
+
+    @property
+    def size(self) -> int:
+        """How many bytes its files have."""
+        return sum(len(held) for held in self.item if held is not None)
+
+
+def _given(trade: Trade) -> _Given:
+    """Reads the files of a trade; `_Unreadable` or TypeError where they can't be had."""
+    before = stamp(trade)
+    item = Item(
+        _read(trade.document),
+        None if trade.flows is None else _read(trade.flows),
+        None if trade.fixings is None else _read(trade.fixings),
+    )
+    own = tuple((f"{number} of the trade", as_bytes(held)) for number, held in enumerate(trade.calendars, 1))
+    return _Given(trade, item, own, before)
+
+
 def _first_line(text: bytes) -> str:
     return text.partition(b"\n")[0].decode(errors="replace")
 
 
-def _missing(item: Item, calendars: Sequence[Tuple[str, bytes]], fixings: Optional[bytes]) -> str:
+def _missing(schedule: Answer) -> str:
     """Which fixings an audit lacked, by the schedule: how many, and the first."""
-    told = next(run_each("schedule", [item._replace(flows=None)], calendars, fixings))
-    resets = [line.split(" ") for line in told.text.decode(errors="replace").splitlines() if line.startswith("r ")]
+    resets = [line.split(" ") for line in schedule.text.decode(errors="replace").splitlines() if line.startswith("r ")]
     lacking = [fields for fields in resets if fields[5] == "-"]
     if not lacking:
         return "no fixing is missing"
@@ -152,38 +181,47 @@ def _missing(item: Item, calendars: Sequence[Tuple[str, bytes]], fixings: Option
     )
 
 
-def _verdict(command: str, told: Told) -> str:
+def _verdict(command: str, answer: Answer) -> str:
     """The verdict of an answer."""
-    if told.status == 0 and command == "audit":
-        return "agrees" if told.text.split()[2] == b"0" else "unverified"
-    if told.status in (3, 5, 8):
+    if answer.status == 0 and command == "audit":
+        return "agrees" if answer.text.split()[2] == b"0" else "unverified"
+    if answer.status in (3, 5, 8):
         return "bad file"
-    return {0: "done", 1: "departs", 2: "refused"}.get(told.status, "failed")
+    return {0: "done", 1: "departs", 2: "refused"}.get(answer.status, "failed")
 
 
-def _outcome(command: str, trade: Trade, common: Loaded) -> Outcome:
-    """What one trade comes to; `_Unreadable` or TypeError where its files can't be had."""
-    item = Item(
-        _read(trade.document),
-        None if trade.flows is None else _read(trade.flows),
-        None if trade.fixings is None else _read(trade.fixings),
-    )
-    document = as_bytes(item.document)
-    own = [(str(number), as_bytes(calendar)) for number, calendar in enumerate(trade.calendars, 1)]
-    calendars = common.calendars_for(document, own)
-    fixings = common.fixings_for(document) if item.fixings is None else None
-    told = next(run_each(command, [item], calendars, fixings))
-    verdict, line, sentence = _verdict(command, told), _first_line(told.text), told.sentence
+def _outcome(command: str, given: _Given, answer: Answer, schedule: Optional[Answer]) -> Outcome:
+    """What a trade comes to; an unverified one has its schedule."""
+    verdict, line, sentence = _verdict(command, answer), _first_line(answer.text), answer.sentence
     if verdict == "done" and command in ("schedule", "emit", "net"):
-        line = f"{len(told.text.splitlines())} lines"
-    elif verdict == "unverified":
-        amounts = told.text.split()[2].decode()
-        sentence = f"the cash flows agree, but {amounts} amounts aren't compared: {_missing(item, calendars, fixings)}"
-    elif told.status == 5 and trade.flows is None:
+        line = f"{len(answer.text.splitlines())} lines"
+    elif schedule is not None:
+        amounts = answer.text.split()[2].decode()
+        sentence = f"the cash flows agree, but {amounts} amounts aren't compared: {_missing(schedule)}"
+    elif answer.status == 5 and given.trade.flows is None:
         sentence = "the trade has no cash flows"
-    elif told.status == 7:
-        line, sentence = "memory ran out", "the trade couldn't be worked"
-    return Outcome(trade.name, verdict, told.status, line, sentence)
+    return Outcome(given.trade.name, verdict, answer.status, line, sentence, given.stamp)
+
+
+def _together(command: str, common: Loaded, batch: Sequence[_Given]) -> Iterator[Outcome]:
+    """What trades come to whose own calendars are the same, or which have none."""
+    own = batch[0].own
+    found = common.answers(command, [it.item for it in batch], own)
+    lacking = [place for place, answer in enumerate(found) if _verdict(command, answer) == "unverified"]
+    schedules = dict(zip(lacking, common.answers("schedule", [batch[place].item for place in lacking], own)))
+    for place, (given, answer) in enumerate(zip(batch, found)):
+        yield _outcome(command, given, answer, schedules.get(place))
+
+
+def _worked(command: str, common: Loaded, batch: Sequence[_Given]) -> List[Outcome]:
+    """What trades come to; where that fails for all together, each is tried alone."""
+    try:
+        groups = [list(group) for _, group in itertools.groupby(batch, key=lambda it: it.own)]
+        return [outcome for group in groups for outcome in _together(command, common, group)]
+    except Exception as why:
+        if len(batch) == 1:
+            return [_unworked(batch[0].trade, why)]
+        return [outcome for given in batch for outcome in _worked(command, common, [given])]
 
 
 def failed(trade: Trade, why: str) -> Outcome:
@@ -191,20 +229,41 @@ def failed(trade: Trade, why: str) -> Outcome:
     return Outcome(trade.name, "failed", None, why, "the trade couldn't be worked", stamp(trade))
 
 
-def outcome_of(command: str, trade: Trade, common: Common = Common()) -> Outcome:
-    """What one trade comes to; its verdict is `failed` where its files can't be read."""
-    before = stamp(trade)
-    try:
-        return _outcome(command, trade, loaded(common))._replace(stamp=before)
-    except _Unreadable as why:
-        return failed(trade, str(why))
-    except Exception as why:  # what is no text, or a common file that is gone
-        return failed(trade, f"{type(why).__name__}: {why}")
+def _unworked(trade: Trade, why: Exception) -> Outcome:
+    """The outcome of a trade that couldn't be worked, for this reason."""
+    if isinstance(why, MemoryError):
+        return failed(trade, "memory ran out")._replace(status=OutOfMemory.status)
+    return failed(trade, str(why) if isinstance(why, _Unreadable) else f"{type(why).__name__}: {why}")
 
 
 def work(command: str, common: Common, chunk: List[Trade]) -> List[Outcome]:
-    """What the trades of a chunk come to: what a worker does."""
-    return [outcome_of(command, trade, common) for trade in chunk]
+    """What the trades of a chunk come to, in no order: what a worker does.
+
+    The verdict of one whose files can't be read is `failed`, and so it is of all where the common files can't.
+    """
+    try:
+        held = loaded(common)
+    except Exception as why:  # a common file that is gone
+        return [_unworked(trade, why) for trade in chunk]
+    done: List[Outcome] = []
+    batch: List[_Given] = []
+    left = MOST_READ
+    for trade in chunk:
+        try:
+            batch.append(_given(trade))
+        except Exception as why:  # what is no file or no text
+            done.append(_unworked(trade, why))
+            continue
+        left -= batch[-1].size
+        if left <= 0:
+            done += _worked(command, held, batch)
+            batch, left = [], MOST_READ
+    return done + _worked(command, held, batch)
+
+
+def outcome_of(command: str, trade: Trade, common: Common = Common()) -> Outcome:
+    """What one trade comes to."""
+    return work(command, common, [trade])[0]
 
 
 def _chunks(trades: Iterable[Trade], size: int) -> Iterator[List[Trade]]:

@@ -11,18 +11,16 @@ TypeError for what is no document and no file.
 from __future__ import annotations
 
 import datetime
-import itertools
 import json
 import os
 from decimal import Decimal
 from functools import cached_property
 from pathlib import Path
-from typing import Any, Dict, Iterable, Iterator, List, Mapping, NamedTuple, Optional, Sequence, Tuple, Union
+from typing import Any, Dict, Iterable, Iterator, List, Mapping, Optional, Union
 
 from .documents import word_for
 from .errors import error_of
-from .library import Answer, Text, Told, run, runs_each
-from .library import run_each as library_run_each
+from .library import Answer, Text, run
 from .looks import Looks
 from .rows import (
     Accrued,
@@ -228,68 +226,6 @@ def _with_rates(
         files[name] = flows
         words.append(name)
     return _asked(words, files, calendars).text
-
-
-class Item(NamedTuple):
-    """A trade of `run_each`: its document, its cash flows, and fixings of its own in the place of the common ones."""
-
-    document: Text
-    flows: Optional[Text] = None
-    fixings: Optional[Text] = None
-
-
-#: How many trades go to the library in one call.
-MOST_TRADES = 64
-
-
-def _own_files(command: str, item: Item) -> Dict[str, Text]:
-    """The files that are a trade's own, by the words that name them."""
-    files: Dict[str, Text] = {word_for("document", item.document): item.document}
-    if command == "audit" and item.flows is not None:
-        files[word_for("flows", item.flows)] = item.flows
-    if command != "check" and item.fixings is not None:
-        files["fixings"] = item.fixings
-    return files
-
-
-def _words_of(
-    command: str, own: Sequence[str], calendars: Sequence[Tuple[str, bytes]], fixings: Optional[bytes]
-) -> Tuple[List[Text], Dict[str, Text]]:
-    """The words for trades with own files of these names, and the common files that the words name."""
-    common: Dict[str, Text] = {}
-    words: List[Text] = [command, own[0]]
-    if command != "check":
-        words.append("-" if fixings is None and "fixings" not in own else "fixings")
-        if fixings is not None and "fixings" not in own:
-            common["fixings"] = fixings
-    if command == "audit":
-        words.append(next((name for name in own if name.startswith("flows")), "flows"))
-    # A calendar's name is a word, so that a sentence has it.
-    for name, calendar in calendars:
-        common[f"calendar {name}"] = calendar
-        words.append(f"calendar {name}")
-    return words, common
-
-
-def _run_alone(words: Sequence[Text], common: Mapping[str, Text], trades: Sequence[Mapping[str, Text]]) -> List[Told]:
-    """What `library.run_each` does, by a call a trade."""
-    return [run(words, {**own, **common}) for own in trades]
-
-
-def run_each(
-    command: str, items: Iterable[Item], calendars: Sequence[Tuple[str, bytes]] = (), fixings: Optional[bytes] = None
-) -> Iterator[Told]:
-    """One command over many trades, with the calendars (name and bytes) and the fixings that they have in common.
-
-    Each trade's answer is the one that it has alone. This is the one place where a book asks the library. Trades that
-    follow each other, and name their files alike, go to it at once: it reads the common files once for them.
-    """
-    ask = library_run_each if runs_each() else _run_alone
-    named = ((tuple(own), own) for own in (_own_files(command, item) for item in items))
-    for names, group in itertools.groupby(named, key=lambda pair: pair[0]):
-        words, common = _words_of(command, names, calendars, fixings)
-        while trades := [own for _, own in itertools.islice(group, MOST_TRADES)]:
-            yield from ask(words, common, trades)
 
 
 def check(document: Document, calendars: Iterable[File] = ()) -> None:

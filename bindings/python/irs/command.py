@@ -193,9 +193,6 @@ def work(
     trades: Iterable[Trade], count: int, common: Common, words: argparse.Namespace, executor: Any, journal: Journal
 ) -> None:
     """Works the trades, each outcome into the journal."""
-    if executor is None:
-        # Read before the processes start, which so have it already.
-        loaded(common)
     told = outcomes(
         trades,
         words.command,
@@ -298,6 +295,11 @@ def night(words: argparse.Namespace) -> int:
     """The run that the words ask for."""
     trades, common = _trades(words), common_in(words.folder)
     _checked(words.csv)
+    try:
+        # What is wrong with the common files is said once, and processes of this machine have them already.
+        loaded(common)
+    except (OSError, ValueError) as why:
+        raise BadInput(f"the common files can't be taken: {shown(str(why))}") from why
     with journal_at(words.journal or words.csv.with_name(f"{words.csv.name}.journal")) as journal:
         try:
             journal.begin(asked_of(words, common), words.resume)

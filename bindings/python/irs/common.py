@@ -1,9 +1,8 @@
 """What the trades of a book have in common: the calendar files, and a file of fixings for all.
 
-The library reads each file that it gets with each call. So a trade gets only the calendars and the fixings that it
-can need: those whose centre or index is in the document's bytes. A name that isn't there in these bytes
-can't be in a leaf of a JSON document either, unless an escape spells it; a document with a backslash, and one
-that doesn't begin as JSON does, gets everything. So the answer is the one that all of them give.
+Each trade gets all of them. A calendar file at fault would be a fault of every trade, so the engine first reads the
+calendar files without a trade. Those at fault go only to a trade that it refuses without them, as a centre is in
+no calendar file (rule K12). Then it reports the fault in place of the broken rule.
 """
 from __future__ import annotations
 
@@ -13,14 +12,16 @@ import logging
 from pathlib import Path
 from typing import Dict, List, NamedTuple, Optional, Sequence, Tuple, Union
 
-from .calendar_files import centres_in
-from .calls import Item, run_each
 from .files import read_regular
-from .library import MOST_CALENDARS, Text, as_bytes
+from .library import MOST_BYTES, MOST_CALENDARS, Answer, Text, as_bytes
+from .many import Calendar, Item, answers
 from .plain import shown
 from .probes import SOUND
 
 LOG = logging.getLogger("irs.book")
+
+#: How an answer begins where a centre of the trade is in no calendar file that it got.
+NO_CALENDAR = b"refused K12 "
 
 
 class Common(NamedTuple):
@@ -36,15 +37,15 @@ class Common(NamedTuple):
 
 def common_of(calendars: Sequence[Union[Text, Path]] = (), fixings: Union[Text, Path, None] = None) -> Common:
     """What trades have in common, of files in memory or of paths."""
-    named: List[Tuple[str, Union[bytes, Path]]] = []
+    named: Dict[str, Union[bytes, Path]] = {}
     for number, calendar in enumerate(calendars, 1):
-        if isinstance(calendar, Path):
-            named.append((shown(calendar.name), calendar))
-        else:
-            named.append((str(number), as_bytes(calendar)))
+        name = shown(calendar.name) if isinstance(calendar, Path) else str(number)
+        while name in named:
+            name += " again"
+        named[name] = calendar if isinstance(calendar, Path) else as_bytes(calendar)
     held = fixings if fixings is None or isinstance(fixings, Path) else as_bytes(fixings)
     paths = [it for it in (*calendars, fixings) if isinstance(it, Path)]
-    return Common(tuple(named), held, " ".join(stamp_of(path) for path in paths))
+    return Common(tuple(named.items()), held, " ".join(stamp_of(path) for path in paths))
 
 
 def stamp_of(path: Path) -> str:
@@ -60,59 +61,94 @@ def _held(source: Union[bytes, Path]) -> bytes:
     return read_regular(source) if isinstance(source, Path) else source
 
 
-def spells_plainly(document: bytes) -> bool:
-    """Whether each name of a document is in its bytes as it is: it begins as JSON does, and has no escape."""
-    return document.lstrip(b" \t\r\n")[:1] in (b"{", b"[") and b"\\" not in document
+def packed(calendars: Sequence[Calendar]) -> List[Calendar]:
+    """The calendars in as many files as the engine takes: where there are more, some are joined.
+
+    ValueError where they don't fit.
+    """
+    if len(calendars) <= MOST_CALENDARS:
+        return list(calendars)
+    groups: List[List[Calendar]] = [[] for _ in range(MOST_CALENDARS)]
+    sizes = [0] * MOST_CALENDARS
+    for calendar in sorted(calendars, key=lambda it: len(it[1]), reverse=True):
+        least = sizes.index(min(sizes))
+        groups[least].append(calendar)
+        sizes[least] += len(calendar[1]) + 1
+    if max(sizes) > MOST_BYTES + 1:
+        raise ValueError(f"{len(calendars)} calendar files don't fit into {MOST_CALENDARS} of {MOST_BYTES} bytes")
+    return [(_names(group), b"\n".join(held for _, held in group)) for group in groups]
+
+
+def _names(calendars: Sequence[Calendar]) -> str:
+    return " and ".join(name for name, _ in calendars)
+
+
+def _refusal(calendars: Sequence[Calendar]) -> Optional[Answer]:
+    """What the engine answers for calendar files that it doesn't take together; `None` where it does."""
+    answer = answers("check", [Item(json.dumps(SOUND).encode())], packed(calendars))[0]
+    return None if answer.status == 0 else answer
+
+
+class Tried(NamedTuple):
+    """Calendar files: those that the engine takes together, and those at fault.
+
+    The files of one fault are one file, or two that have the same centre.
+    """
+
+    sound: List[Calendar]
+    faults: List[List[Calendar]]
+
+
+def tried(calendars: Sequence[Calendar]) -> Tried:
+    """Tries calendar files with the engine: each alone, then all that it takes alone."""
+    alone = [(calendar, _refusal([calendar])) for calendar in calendars]
+    faults = [[calendar] for calendar, refusal in alone if refusal is not None]
+    taken = [calendar for calendar, refusal in alone if refusal is None]
+    if _refusal(taken) is None:
+        return Tried(taken, faults)
+    sound: List[Calendar] = []
+    twice: List[Calendar] = []
+    for calendar in taken:
+        others = [other for other in twice if _refusal([other, calendar]) is not None]
+        if _refusal([*sound, calendar]) is not None:
+            others += [other for other in sound if _refusal([other, calendar]) is not None]
+        if not others:
+            sound.append(calendar)
+            continue
+        faults += [[other, calendar] for other in others]
+        sound = [it for it in sound if it not in others]
+        twice += [it for it in (*others, calendar) if it not in twice]
+    return Tried(sound, faults)
 
 
 class Loaded:
-    """The common files, read, and the parts of them that a document can need."""
+    """The common files, read. `calendars` are those that every trade gets."""
 
     def __init__(self, common: Common) -> None:
-        self.calendars: List[Tuple[str, bytes, List[bytes]]] = []
+        read: List[Calendar] = []
         for name, source in common.calendars:
             try:
-                held = _held(source)
+                read.append((name, _held(source)))
             except OSError as why:
                 LOG.warning("the calendar %s can't be read: %s", name, shown(str(why)))
-                continue
-            self.calendars.append((name, held, [centre.encode() for centre in centres_in(held)]))
+        sound, self.faults = tried(read)
+        for fault in self.faults:
+            refusal = _refusal(fault)
+            LOG.warning("left out: %s: %s", _names(fault), refusal.sentence if refusal else "")
+        self.calendars = packed(sound)
         self.fixings = None if common.fixings is None else _held(common.fixings)
-        self.lines = {} if self.fixings is None else _by_index(self.fixings)
 
-    def calendars_for(self, document: bytes, own: Sequence[Tuple[str, bytes]] = ()) -> List[Tuple[str, bytes]]:
-        """A trade's own calendars, and those that its document can need; some are joined where they are too many."""
-        every = not spells_plainly(document)
-        needed = [
-            *own,
-            *(
-                (name, held)
-                for name, held, centres in self.calendars
-                if every or any(centre in document for centre in centres)
-            ),
-        ]
-        if len(needed) <= MOST_CALENDARS:
-            return needed
-        groups = [needed[place::MOST_CALENDARS] for place in range(MOST_CALENDARS)]
-        return [(" and ".join(name for name, _ in group), b"\n".join(held for _, held in group)) for group in groups]
-
-    def fixings_for(self, document: bytes) -> Optional[bytes]:
-        """The lines of the common fixings that a document can need."""
-        if not self.lines or not spells_plainly(document):
-            return self.fixings
-        return b"".join(lines for index, lines in self.lines.items() if index in document)
-
-
-def _by_index(fixings: bytes) -> Dict[bytes, bytes]:
-    """The lines of each index; none where the library finds a fault in the file, which then is for it to report."""
-    if next(run_each("schedule", [Item(json.dumps(SOUND))], (), fixings)).status != 0:
-        return {}
-    found: Dict[bytes, List[bytes]] = {}
-    for line in fixings.split(b"\n"):
-        fields = line.rstrip(b" \t\r").split(None, 3)
-        if fields and not line.startswith(b"#"):
-            found.setdefault(fields[-1], []).append(line + b"\n")
-    return {index: b"".join(lines) for index, lines in found.items()}
+    def answers(self, command: str, items: Sequence[Item], own: Sequence[Calendar] = ()) -> List[Answer]:
+        """The answer of each trade, in order. These trades have their own calendars beside the common ones."""
+        calendars = packed([*own, *self.calendars])
+        found = answers(command, items, calendars, self.fixings)
+        lacking = [place for place, answer in enumerate(found) if answer.text.startswith(NO_CALENDAR)]
+        if self.faults and lacking:
+            faulty = packed([*own, *self.faults[0]])
+            again = answers(command, [items[place] for place in lacking], faulty, self.fixings)
+            for place, answer in zip(lacking, again):
+                found[place] = answer
+        return found
 
 
 @functools.lru_cache(maxsize=2)

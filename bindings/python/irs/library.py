@@ -7,7 +7,7 @@ from __future__ import annotations
 import ctypes
 import functools
 import os
-from typing import List, Mapping, NamedTuple, Optional, Sequence, Union
+from typing import Any, Iterator, List, Mapping, NamedTuple, Optional, Sequence, Union
 
 Text = Union[bytes, str]
 
@@ -21,11 +21,14 @@ ROOM = 1 << 16
 #: The same for a command whose texts are long.
 ROOM_OF = {"emit": 1 << 20, "schedule": 1 << 18}
 
-#: How much room `run_each` has for a trade of another command, in bytes.
-ROOM_OF_EACH = 1 << 12
+#: How much room the first call of :func:`run_each` has for a trade, in bytes: its text and its sentence.
+ROOM_OF_EACH = {**ROOM_OF, "net": 1 << 15, "check": 1 << 10, "audit": 1 << 10}
 
 #: How much room the first call of :func:`run` has for the sentence, in bytes.
 SENTENCE_ROOM = 1 << 10
+
+#: The calls of the library that this module makes.
+CALLS = ("irs_run", "irs_run_each", "irs_version")
 
 
 class _Bytes(ctypes.Structure):
@@ -40,7 +43,7 @@ class _Trade(ctypes.Structure):
     _fields_ = [("files", ctypes.POINTER(_File)), ("n_files", ctypes.c_size_t)]
 
 
-class _Slot(ctypes.Structure):
+class _Answer(ctypes.Structure):
     _fields_ = [("status", ctypes.c_uint8), ("text_len", ctypes.c_size_t), ("sentence_len", ctypes.c_size_t)]
 
 
@@ -53,49 +56,26 @@ class Answer(NamedTuple):
     sentence: str
 
 
-#: What a trade comes to.
-Told = Answer
-
-
 @functools.lru_cache(maxsize=None)
 def _library() -> ctypes.CDLL:
-    """The library, loaded by the first call; ImportError where it isn't there."""
+    """The library, loaded by the first call; ImportError where it isn't there, or lacks a call."""
     here = os.path.dirname(os.path.abspath(__file__))
     path = os.environ.get("IRS_LIBRARY", os.path.join(here, "libirs.so"))
     if not os.path.exists(path):
         raise ImportError(f"there is no {path}: `make library` builds it, and IRS_LIBRARY may name it")
     library = ctypes.CDLL(path)
+    for name in CALLS:
+        if not hasattr(library, name):
+            raise ImportError(f"{path} has no call {name}: it isn't of this package's version")
+    size = ctypes.c_size_t
+    given: List[Any] = [ctypes.POINTER(_Bytes), size, ctypes.POINTER(_File), size]
+    room: List[Any] = [ctypes.c_void_p, size, ctypes.POINTER(size)]
     library.irs_run.restype = ctypes.c_uint8
-    library.irs_run.argtypes = [
-        ctypes.POINTER(_Bytes),
-        ctypes.c_size_t,
-        ctypes.POINTER(_File),
-        ctypes.c_size_t,
-        ctypes.c_void_p,
-        ctypes.c_size_t,
-        ctypes.POINTER(ctypes.c_size_t),
-        ctypes.c_void_p,
-        ctypes.c_size_t,
-        ctypes.POINTER(ctypes.c_size_t),
-    ]
-    if hasattr(library, "irs_run_each"):
-        library.irs_run_each.restype = None
-        library.irs_run_each.argtypes = [
-            ctypes.POINTER(_Bytes),
-            ctypes.c_size_t,
-            ctypes.POINTER(_File),
-            ctypes.c_size_t,
-            ctypes.POINTER(_Trade),
-            ctypes.c_size_t,
-            ctypes.POINTER(_Slot),
-            ctypes.c_size_t,
-            ctypes.c_void_p,
-            ctypes.c_size_t,
-            ctypes.POINTER(ctypes.c_size_t),
-        ]
-    if hasattr(library, "irs_version"):
-        library.irs_version.restype = None
-        library.irs_version.argtypes = [ctypes.c_void_p, ctypes.c_size_t, ctypes.POINTER(ctypes.c_size_t)]
+    library.irs_run.argtypes = [*given, *room, *room]
+    library.irs_run_each.restype = None
+    library.irs_run_each.argtypes = [*given, ctypes.POINTER(_Trade), size, ctypes.POINTER(_Answer), size, *room]
+    library.irs_version.restype = None
+    library.irs_version.argtypes = room
     return library
 
 
@@ -109,78 +89,25 @@ def as_bytes(text: Text) -> bytes:
 
 
 def _lent(text: Text) -> _Bytes:
+    # A structure of ctypes keeps the bytes that it points to, and so does an array of such structures.
     held = as_bytes(text)
     return _Bytes(held, len(held))
 
 
-def engine() -> str:
-    """What `irs --version` prints: the versions, and the logic sum of the kit that proves the library.
-
-    It is empty for a library that has no such call.
-    """
-    library = _library()
-    if not hasattr(library, "irs_version"):
-        return ""
-    out, needed = ctypes.create_string_buffer(1024), ctypes.c_size_t()
-    library.irs_version(out, len(out), ctypes.byref(needed))
-    return ctypes.string_at(out, min(needed.value, len(out))).decode()
+def _lent_words(words: Sequence[Text]) -> "ctypes.Array[_Bytes]":
+    # One element more than there may be, as no pointer is NULL.
+    return (_Bytes * (len(words) + 1))(*map(_lent, words))
 
 
 def _lent_files(files: Mapping[str, Text]) -> "ctypes.Array[_File]":
-    pairs = [_File(_lent(name), _lent(content)) for name, content in files.items()]
-    return (_File * max(1, len(pairs)))(*pairs)
+    return (_File * (len(files) + 1))(*(_File(_lent(name), _lent(content)) for name, content in files.items()))
 
 
-def runs_each() -> bool:
-    """Whether the library has the call for many trades."""
-    return hasattr(_library(), "irs_run_each")
-
-
-def run_each(
-    words: Sequence[Text], common: Mapping[str, Text], trades: Sequence[Mapping[str, Text]]
-) -> List[Told]:
-    """Does what `run` does for each trade, over the common files and then the trade's own.
-
-    The fixings and the calendars that the words name are read once, where all of them are common. Where memory runs
-    out the status of a trade is 7, without text and sentence.
-
-    >>> run_each(["check", "document"], {}, [{"document": b"["}])
-    [Answer(status=2, text=b'refused K1 0 document 0\\n', sentence="K1: the document isn't JSON")]
-    """
-    lent_words = (_Bytes * max(1, len(words)))(*[_lent(word) for word in words])
-    lent_common = _lent_files(common)
-    own = [_lent_files(files) for files in trades]
-    lent_trades = (_Trade * max(1, len(own)))(*[_Trade(its, len(files)) for its, files in zip(own, trades)])
-    slots = (_Slot * max(1, len(own)))()
-    needed = ctypes.c_size_t()
-    library = _library()
-    room = (ROOM_OF.get(str(words[0]), ROOM_OF_EACH) if words else ROOM_OF_EACH) * max(1, len(trades))
-    while True:
-        out = ctypes.create_string_buffer(room)
-        library.irs_run_each(
-            lent_words,
-            len(words),
-            lent_common,
-            len(common),
-            lent_trades,
-            len(trades),
-            slots,
-            len(trades),
-            out,
-            room,
-            ctypes.byref(needed),
-        )
-        if needed.value <= room:
-            break
-        room = needed.value
-    told: List[Told] = []
-    said, place = ctypes.string_at(out, needed.value), 0
-    for slot in slots[: len(trades)]:
-        middle = place + slot.text_len
-        end = middle + slot.sentence_len
-        told.append(Told(slot.status, said[place:middle], said[middle:end].decode(errors="replace")))
-        place = end
-    return told
+def engine() -> str:
+    """What `irs --version` prints: the versions, and the logic sum of the kit that proves the library."""
+    out, needed = ctypes.create_string_buffer(1024), ctypes.c_size_t()
+    _library().irs_version(out, len(out), ctypes.byref(needed))
+    return ctypes.string_at(out, min(needed.value, len(out))).decode()
 
 
 def run(words: Sequence[Text], files: Optional[Mapping[str, Text]] = None) -> Answer:
@@ -193,9 +120,7 @@ def run(words: Sequence[Text], files: Optional[Mapping[str, Text]] = None) -> An
     >>> run(["check", "document"], {"document": b"["})
     Answer(status=2, text=b'refused K1 0 document 0\\n', sentence="K1: the document isn't JSON")
     """
-    lent_words = (_Bytes * max(1, len(words)))(*[_lent(word) for word in words])
-    pairs = [_File(_lent(name), _lent(content)) for name, content in (files or {}).items()]
-    lent_files = (_File * max(1, len(pairs)))(*pairs)
+    lent_words, lent_files = _lent_words(words), _lent_files(files or {})
     needed, said_needed = ctypes.c_size_t(), ctypes.c_size_t()
     library = _library()
     room = ROOM_OF.get(str(words[0]), ROOM) if words else ROOM
@@ -206,7 +131,7 @@ def run(words: Sequence[Text], files: Optional[Mapping[str, Text]] = None) -> An
             lent_words,
             len(words),
             lent_files,
-            len(pairs),
+            len(files or {}),
             out,
             room,
             ctypes.byref(needed),
@@ -218,3 +143,54 @@ def run(words: Sequence[Text], files: Optional[Mapping[str, Text]] = None) -> An
             sentence = ctypes.string_at(said, said_needed.value).decode(errors="replace")
             return Answer(status, ctypes.string_at(out, needed.value), sentence)
         room, said_room = max(room, needed.value), max(said_room, said_needed.value)
+
+
+def run_each(words: Sequence[Text], common: Mapping[str, Text], trades: Sequence[Mapping[str, Text]]) -> List[Answer]:
+    """Does what `run` does for each trade, over the common files and then the trade's own; a name that is in both is
+    the common one.
+
+    The fixings and the calendars that the words name are read once, where all of them are common. Where memory runs
+    out for a trade its status is 7, without text and sentence. The texts of all trades are in memory at once.
+
+    >>> run_each(["check", "document"], {}, [{"document": b"["}])
+    [Answer(status=2, text=b'refused K1 0 document 0\\n', sentence="K1: the document isn't JSON")]
+    """
+    lent_words, lent_common = _lent_words(words), _lent_files(common)
+    lent = [_lent_files(files) for files in trades]
+    library, needed = _library(), ctypes.c_size_t()
+    room = (ROOM_OF_EACH.get(str(words[0]), ROOM) if words else ROOM) * len(trades)
+    found: List[Answer] = []
+    while len(found) < len(trades):
+        left = range(len(found), len(trades))
+        own = (_Trade * len(left))(*(_Trade(lent[k], len(trades[k])) for k in left))
+        answers, out = (_Answer * len(left))(), ctypes.create_string_buffer(room)
+        library.irs_run_each(
+            lent_words,
+            len(words),
+            lent_common,
+            len(common),
+            own,
+            len(left),
+            answers,
+            len(left),
+            out,
+            room,
+            ctypes.byref(needed),
+        )
+        found += _whole_answers(answers, out)
+        # The trades whose texts didn't fit are run again, with the room that these texts need.
+        room = sum(answer.text_len + answer.sentence_len for answer in answers[len(found) - left.start :])
+    return found
+
+
+def _whole_answers(answers: "ctypes.Array[_Answer]", out: "ctypes.Array[ctypes.c_char]") -> Iterator[Answer]:
+    """The answers in order, up to the first whose text or sentence isn't whole in the room."""
+    held, place = memoryview(out), 0
+    for answer in answers:
+        middle = place + answer.text_len
+        end = middle + answer.sentence_len
+        if end > len(held):
+            return
+        sentence = bytes(held[middle:end]).decode(errors="replace")
+        yield Answer(answer.status, bytes(held[place:middle]), sentence)
+        place = end

@@ -1,11 +1,13 @@
 """How long a night takes: in one process, in all, and on a dask cluster of this machine.
 
     python3 measure.py [--trades 100000] [--kinds 1000] [--jobs 1,2,4] [--dask 2] [--kill SECONDS] [--lines 105000]
+                       [--own 250] [--chunk 50] [--folder FOLDER]
 
 The book is a folder of trades of 240 monthly periods, two streams: a fixed one, and a floating one with calendars
 and fixings. There are `--kinds` different trades, and the folder has links to them. All have one file of fixings
-of `--lines` lines in common. Every tenth trade is audited against the flows of another one, and departs.
-Each figure is of one run; what else the machine did meanwhile is in its load, which is printed.
+of `--lines` lines in common; with `--own` each trade has a file of that many lines of its own beside it. Every tenth
+trade is audited against the flows of another one, and departs. Each figure is of one run; what else the machine did
+meanwhile is in its load, which is printed.
 """
 from __future__ import annotations
 
@@ -20,6 +22,7 @@ import tempfile
 import threading
 import time
 from datetime import date, timedelta
+from functools import partial
 from pathlib import Path
 from typing import Any, Callable, List, Optional
 
@@ -105,8 +108,8 @@ def linked(source: Path, to: Path) -> None:
         to.write_bytes(source.read_bytes())
 
 
-def make_book(folder: Path, trades: int, kinds: int, lines: int) -> None:
-    """Writes the folder."""
+def make_book(folder: Path, trades: int, kinds: int, lines: int, own: int) -> None:
+    """Writes the folder; `own` is the number of lines of each trade's own fixings, or 0 where it has none."""
     (folder / "calendars").mkdir(parents=True)
     for centre in CENTRES:
         (folder / "calendars" / f"{centre}.cal").write_bytes(calendar(centre))
@@ -116,24 +119,40 @@ def make_book(folder: Path, trades: int, kinds: int, lines: int) -> None:
     calendars = [calendar(centre) for centre in CENTRES]
     indices = max(1, lines // ((LAST - FIRST).days + 1))
     for k in range(kinds):
-        text = document(k, indices)
+        text, of_index = document(k, indices), lines_of(rates, k % indices)
         (folder / "kinds" / f"{k}.json").write_bytes(text)
-        (folder / "kinds" / f"{k}.flows").write_bytes(
-            irs.emit(text, rates if k < 3 else own_lines(rates, k % indices), calendars)
-        )
+        (folder / "kinds" / f"{k}.flows").write_bytes(irs.emit(text, b"".join(of_index), calendars))
+        if own:
+            (folder / "kinds" / f"{k}.fixings").write_bytes(needed(text, of_index, calendars, own))
     for number in range(trades):
-        k = number % kinds
-        linked(folder / "kinds" / f"{k}.json", folder / f"T{number:07}.json")
+        k, name = number % kinds, f"T{number:07}"
+        linked(folder / "kinds" / f"{k}.json", folder / f"{name}.json")
         linked(
             folder / "kinds" / f"{(k + 1) % kinds if number % 10 == 3 else k}.flows",
-            folder / f"T{number:07}.flows.json",
+            folder / f"{name}.flows.json",
         )
+        if own:
+            linked(folder / "kinds" / f"{k}.fixings", folder / f"{name}.fixings")
 
 
-def own_lines(rates: bytes, index: int) -> bytes:
+def lines_of(rates: bytes, index: int) -> List[bytes]:
     """The lines of one index."""
     name = b" USD-INDEX-%d\n" % index
-    return b"".join(line for line in rates.splitlines(keepends=True) if line.endswith(name))
+    return [line for line in rates.splitlines(keepends=True) if line.endswith(name)]
+
+
+def needed(text: bytes, lines: List[bytes], calendars: List[bytes], count: int) -> bytes:
+    """The lines that a trade needs, by its schedule, and the first of the others: `count` in all, in their order."""
+    days = {str(reset.fixing).encode() for reset in irs.schedule(text, None, calendars).resets()}
+    others = count - sum(line[:10] in days for line in lines)
+    chosen = []
+    for line in lines:
+        if line[:10] in days:
+            chosen.append(line)
+        elif others > 0:
+            chosen.append(line)
+            others -= 1
+    return b"".join(chosen)
 
 
 def cpu() -> float:
@@ -181,7 +200,7 @@ def with_killer(pause: Optional[float], pids: Callable[[], List[int]], what: str
         stop.set()
 
 
-def on_dask(workers: int, folder: Path, pause: Optional[float]) -> None:
+def on_dask(workers: int, folder: Path, pause: Optional[float], **how: Any) -> None:
     """The run on a dask cluster of this machine."""
     try:
         from distributed import Client
@@ -189,9 +208,13 @@ def on_dask(workers: int, folder: Path, pause: Optional[float]) -> None:
         print("dask's distributed isn't installed")
         return
     with Client(n_workers=workers, threads_per_worker=1, dashboard_address=None) as client:
-        with_killer(
-            pause, lambda: list(client.run(os.getpid).values()), f"{workers} workers of dask", folder, executor=client
-        )
+        pids = partial(_pids_of, client)
+        with_killer(pause, pids, f"{workers} workers of dask", folder, executor=client, **how)
+
+
+def _pids_of(client: Any) -> List[int]:
+    """The numbers of the processes of a cluster's workers."""
+    return list(client.run(os.getpid).values())
 
 
 def main() -> None:
@@ -200,6 +223,8 @@ def main() -> None:
     parser.add_argument("--trades", type=int, default=100_000)
     parser.add_argument("--kinds", type=int, default=1_000)
     parser.add_argument("--lines", type=int, default=105_000)
+    parser.add_argument("--own", type=int, default=0)
+    parser.add_argument("--chunk", type=int, default=50)
     parser.add_argument("--jobs", default=f"1,{len(os.sched_getaffinity(0))}")
     parser.add_argument("--dask", type=int, default=0)
     parser.add_argument("--kill", type=float)
@@ -209,11 +234,13 @@ def main() -> None:
     with tempfile.TemporaryDirectory() as room:
         folder = asked.folder or Path(room, "book")
         if not folder.exists():
-            make_book(folder, asked.trades, asked.kinds, asked.lines)
+            make_book(folder, asked.trades, asked.kinds, asked.lines, asked.own)
+        how = {"chunk": asked.chunk}
         for jobs in map(int, asked.jobs.split(",")):
-            with_killer(asked.kill, children, "this process" if jobs == 1 else f"{jobs} processes", folder, jobs=jobs)
+            what = "this process" if jobs == 1 else f"{jobs} processes"
+            with_killer(asked.kill if jobs > 1 else None, children, what, folder, jobs=jobs, **how)
         if asked.dask:
-            on_dask(asked.dask, folder, asked.kill)
+            on_dask(asked.dask, folder, asked.kill, **how)
 
 
 if __name__ == "__main__":

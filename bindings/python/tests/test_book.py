@@ -16,7 +16,9 @@ from unittest import mock
 from books import ENDLESS, POISON, example, monthly
 
 import irs
-from irs import book, calls, library
+from irs import book, library, many
+from irs.common import packed, tried
+from irs.many import Item, answers
 
 AGREES = example("audit_agrees/flows.json")
 DEPARTS = example("audit_departs/flows.json")
@@ -25,14 +27,14 @@ BUSINESS = example("business_days/terms.json")
 FRANKFURT = example("business_days/de.cal")
 
 
-def poisoned(words, files=None):
+def poisoned(words, common, trades):
     """The library's call, which kills its process on one document and takes for ever on another."""
-    document = (files or {}).get("document")
-    if document == POISON:
+    documents = [trade.get("document") for trade in trades]
+    if POISON in documents:
         os.kill(os.getpid(), signal.SIGKILL)
-    while document == ENDLESS:
+    while ENDLESS in documents:
         time.sleep(1)
-    return library.run(words, files)
+    return library.run_each(words, common, trades)
 
 
 class OnlyMaps:
@@ -105,19 +107,19 @@ class Books(unittest.TestCase):
             list(book.outcomes(self.trades(2), "bulk"))
 
     def test_a_worker_that_dies_costs_its_own_trade_alone(self):
-        with mock.patch.object(calls, "run", poisoned):
+        with mock.patch.object(many, "run_each", poisoned):
             for place, jobs, chunk in ((0, 2, 50), (0, 4, 50), (150, 2, 7), (299, 4, 1)):
                 summary = book.run(self.poisoned(300, place), jobs=jobs, chunk=chunk)
                 self.assertEqual(dict(summary.verdicts), {"agrees": 299, "failed": 1}, (place, jobs, chunk))
                 self.assertEqual(summary.failed, [f"T{place}"])
 
     def test_several_that_kill_their_worker(self):
-        with mock.patch.object(calls, "run", poisoned):
+        with mock.patch.object(many, "run_each", poisoned):
             summary = book.run(self.poisoned(200, 0, 1, 77, 199), jobs=3, chunk=20)
         self.assertEqual(dict(summary.verdicts), {"agrees": 196, "failed": 4})
 
     def test_an_executor_that_breaks(self):
-        with mock.patch.object(calls, "run", poisoned), ProcessPoolExecutor(2) as executor:
+        with mock.patch.object(many, "run_each", poisoned), ProcessPoolExecutor(2) as executor:
             summary = book.run(self.poisoned(300, 20), executor=executor, chunk=10)
         self.assertEqual((dict(summary.verdicts), summary.failed), ({"agrees": 299, "failed": 1}, ["T20"]))
 
@@ -126,7 +128,7 @@ class Books(unittest.TestCase):
         self.assertEqual((dict(summary.verdicts), summary.failed), ({"agrees": 299, "failed": 1}, ["T20"]))
 
     def test_a_trade_that_takes_for_ever(self):
-        with mock.patch.object(calls, "run", poisoned):
+        with mock.patch.object(many, "run_each", poisoned):
             told = {
                 it.name: it for it in book.outcomes(self.poisoned(60, 5, what=ENDLESS), jobs=2, chunk=10, timeout=1.0)
             }
@@ -271,13 +273,6 @@ class Centres(unittest.TestCase):
             document = BUSINESS.replace(b'"DEFR"', spelling)
             self.assertEqual(self.verdict(document, self.calendars()), "ok", spelling)
 
-    def test_what_does_not_begin_as_json_gets_everything(self):
-        given = book.loaded(book.common_of(self.calendars(3), example("compounded/fixings")))
-        for document in (b"<swap>DE&#70;R</swap>", b"\xef\xbb\xbf{}", b"", b'{"a":"\\u0044"}'):
-            self.assertEqual(len(given.calendars_for(document)), 4, document)
-            self.assertEqual(given.fixings_for(document), example("compounded/fixings"))
-        self.assertEqual((given.calendars_for(b"{}"), given.fixings_for(b" [1]")), ([], b""))
-
     def test_more_than_sixteen_are_named(self):
         passed_over = {"businessCenter": [f"X{number:03}" for number in range(40)]}
         document = json.loads(BUSINESS)
@@ -285,19 +280,73 @@ class Centres(unittest.TestCase):
         root = {"dataDocument": {"trade": trade, "passedOver": passed_over}}
         self.assertEqual(self.verdict(json.dumps(root).encode(), self.calendars()), "ok")
 
-    def test_a_calendar_that_is_no_calendar(self):
+    def test_a_calendar_at_fault(self):
         broken = FRANKFURT.replace(b"weekend", b"weekends")
         told = book.outcome_of("check", book.Trade("T", BUSINESS), book.common_of([broken]))
         self.assertEqual((told.verdict, told.line), ("bad file", "bad calendar 1 3 syntax"))
-        fine = book.outcome_of("check", book.Trade("T", FIXED), book.common_of([broken]))
+        # It costs no trade that doesn't need it.
+        others = [broken.replace(b"DEFR", b"X001"), *self.calendars(20), b"x" * (library.MOST_BYTES + 1)]
+        for document in (FIXED, BUSINESS):
+            told = book.outcome_of("check", book.Trade("T", document), book.common_of(others))
+            self.assertEqual(told.verdict, "done")
+
+    def test_a_calendar_that_is_too_long(self):
+        told = book.outcome_of("check", book.Trade("T", BUSINESS), book.common_of([FRANKFURT + b" " * 4_194_304]))
+        self.assertEqual((told.verdict, told.line), ("bad file", "too long 2"))
+
+    def test_a_centre_in_two_files(self):
+        other = self.calendars(3)
+        told = book.outcome_of("check", book.Trade("T", BUSINESS), book.common_of([FRANKFURT, *other]))
+        self.assertEqual((told.verdict, told.line), ("bad file", "bad calendar 2 1 repeat"))
+        fine = book.outcome_of("check", book.Trade("T", FIXED), book.common_of([FRANKFURT, *other]))
         self.assertEqual(fine.verdict, "done")
+
+    def test_faults_are_found_whatever_the_order(self):
+        one, two, three = (FRANKFURT.replace(b"DEFR", centre) for centre in (b"ONE", b"TWO", b"THREE"))
+        files = {
+            "one": one,
+            "one, two": one + two,
+            "two": two,
+            "two once more": two,
+            "three": three,
+            "broken": b"what",
+        }
+        pairs = {("one", "one, two"), ("one, two", "two"), ("one, two", "two once more"), ("two", "two once more")}
+        wanted = {frozenset(pair) for pair in pairs} | {frozenset(["broken"])}
+        for _ in range(20):
+            named = random.sample(sorted(files.items()), len(files))
+            found = tried(named)
+            self.assertEqual(found.sound, [("three", three)])
+            self.assertEqual({frozenset(name for name, _ in fault) for fault in found.faults}, wanted)
+            self.assertEqual(len(found.faults), len(wanted))
+
+    def test_more_files_than_the_engine_takes(self):
+        calendars = [(str(number), held) for number, held in enumerate(self.calendars(100))]
+        files = packed(calendars)
+        self.assertEqual(len(files), library.MOST_CALENDARS)
+        self.assertEqual(answers("check", [Item(BUSINESS)], files)[0].status, 0)
+        self.assertEqual(sorted(name for names, _ in files for name in names.split(" and ")), sorted(dict(calendars)))
+        self.assertEqual(packed(calendars[:16]), calendars[:16])
+        with self.assertRaises(ValueError):
+            packed([(str(number), b" " * 3_000_000) for number in range(17)])
+
+    def test_calendars_of_a_trade_s_own(self):
+        own = book.Trade("T", BUSINESS, calendars=[FRANKFURT])
+        for common, verdict in (([], "done"), (self.calendars(20)[:-1], "done"), (self.calendars(20), "bad file")):
+            told = book.outcome_of("check", own, book.common_of(common))
+            self.assertEqual(told.verdict, verdict)
+        told = book.work("check", book.Common(), [own, book.Trade("U", BUSINESS), own._replace(name="V")])
+        self.assertEqual([it.verdict for it in told], ["done", "refused", "done"])
 
     def test_its_name_is_said(self):
         with TemporaryDirectory() as room:
             path = Path(room, "Frankfurt.cal")
             path.write_bytes(FRANKFURT.replace(b"weekend", b"weekends"))
             told = book.outcome_of("check", book.Trade("T", BUSINESS), book.common_of([path]))
-        self.assertIn("Frankfurt.cal", told.sentence)
+            self.assertIn("Frankfurt.cal", told.sentence)
+            # Two files may have one name.
+            named = book.common_of([path, path]).calendars
+        self.assertEqual([name for name, _ in named], ["Frankfurt.cal", "Frankfurt.cal again"])
 
 
 class CommonFixings(unittest.TestCase):
@@ -316,7 +365,7 @@ class CommonFixings(unittest.TestCase):
         )
         self.assertEqual(told.verdict, "agrees")
 
-    def test_they_cost_a_trade_no_more_than_its_own(self):
+    def test_they_are_read_once_for_a_chunk(self):
         document, own = example("compounded/terms.json"), example("compounded/fixings")
         others = (
             b"%d-%02d-%02d 0.01 3M OTHER-%d\n" % (2000 + n // 336, 1 + n // 28 % 12, 1 + n % 28, k)
@@ -324,21 +373,21 @@ class CommonFixings(unittest.TestCase):
             for n in range(250)
         )
         common = book.common_of((), b"".join(others) + own)
-        flows = irs.emit(document, own)
-        alone = [book.Trade("T", document, own, flows)] * 20
-        together = [book.Trade("T", document, None, flows)] * 20
-        book.work("audit", common, together[:1])
+        trades = [book.Trade("T", document, None, irs.emit(document, own))] * 100
+        # One more is unverified, and so its schedule is made too.
+        unknown = document.replace(b"USD-TEST", b"USD-OTHER")
+        trades.append(book.Trade("U", unknown, None, irs.emit(unknown)))
+        self.assertEqual(book.work("audit", common, trades)[-1].verdict, "unverified")
 
         def least(trades):
             times = []
             for _ in range(5):
                 began = time.process_time()
-                self.assertTrue(all(it.verdict == "agrees" for it in book.work("audit", common, trades)))
+                self.assertEqual(book.work("audit", common, trades)[0].verdict, "agrees")
                 times.append(time.process_time() - began)
             return min(times)
 
-        # It was 29 times as much when each trade got all lines.
-        self.assertLess(least(together), 3 * least(alone))
+        self.assertLess(least(trades), 6 * least(trades[:1]))
 
     def test_a_fault_in_them_is_told(self):
         document = example("compounded/terms.json")
@@ -355,6 +404,55 @@ class CommonFixings(unittest.TestCase):
         escaped = example("compounded/terms.json").replace(name, b"\\u%04x" % name[0] + name[1:])
         told = book.outcome_of("audit", book.Trade("T", escaped, None, irs.emit(escaped, own)), book.common_of((), own))
         self.assertEqual(told.verdict, "agrees")
+
+    def test_they_are_gone(self):
+        common = book.common_of((), Path("there is no such file"))
+        told = book.work("audit", common, [book.Trade("T", FIXED, None, AGREES)] * 2)
+        self.assertEqual([it.verdict for it in told], ["failed"] * 2)
+
+
+class Batches(unittest.TestCase):
+    """How the trades of a chunk go to the library."""
+
+    def test_files_that_are_large(self):
+        trades = [book.Trade(f"T{number}", FIXED + b" " * 100_000, None, AGREES) for number in range(50)]
+        wanted = [(f"T{number}", "agrees") for number in range(50)]
+        for most in (1, 250_000, 1 << 25):
+            calls = []
+
+            def counted(words, common, given):
+                calls.append(len(given))
+                return library.run_each(words, common, given)
+
+            with mock.patch.object(book, "MOST_READ", most), mock.patch.object(many, "run_each", counted):
+                told = book.work("audit", book.Common(), trades)
+            self.assertEqual([it[:2] for it in told], wanted)
+            self.assertEqual(max(calls), {1: 1, 250_000: 3}.get(most, 50))
+
+    def test_memory_that_runs_out_for_one(self):
+        def short(words, common, trades):
+            if len(trades) > 1:
+                return [library.Answer(7, b"", "") for _ in trades]
+            return [it if it.status else library.Answer(7, b"", "") for it in library.run_each(words, common, trades)]
+
+        trades = [book.Trade("A", FIXED, None, DEPARTS), book.Trade("B", FIXED, None, AGREES)]
+        trades.append(book.Trade("C", b"[", None, AGREES))
+        with mock.patch.object(many, "run_each", short):
+            told = book.work("audit", book.Common(), trades)
+        self.assertEqual([it.verdict for it in told], ["departs", "failed", "refused"])
+        self.assertEqual(told[1][2:5], (7, "memory ran out", "the trade couldn't be worked"))
+
+    def test_a_fault_of_the_program(self):
+        def wrong(words, common, trades):
+            if any(trade["document"] == POISON for trade in trades):
+                raise RuntimeError("it can't be")
+            return library.run_each(words, common, trades)
+
+        trades = [book.Trade(name, POISON if name == "B" else FIXED, None, AGREES) for name in "ABC"]
+        with mock.patch.object(many, "run_each", wrong):
+            told = book.work("audit", book.Common(), trades)
+        self.assertEqual([it.verdict for it in told], ["agrees", "failed", "agrees"])
+        self.assertEqual(told[1].line, "RuntimeError: it can't be")
 
 
 if __name__ == "__main__":

@@ -11,7 +11,7 @@ import time
 import unittest
 from pathlib import Path
 
-from books import HERE, example, monthly
+from books import HERE, example, mixed, monthly
 
 import irs
 
@@ -39,10 +39,10 @@ class Command(unittest.TestCase):
         if flows is not None:
             self.put(f"{name}.flows.json", flows)
 
-    def start(self, *words, **more):
+    def start(self, *words, program=("-m", "irs.command"), **more):
         environment = {**os.environ, "PYTHONPATH": str(PACKAGE), **more}
         return subprocess.Popen(
-            [sys.executable, "-m", "irs.command", *words],
+            [sys.executable, *program, *words],
             cwd=self.room,
             env=environment,
             stdout=subprocess.PIPE,
@@ -157,6 +157,61 @@ class Statuses(Command):
         self.assertNotIn("Traceback", said)
 
 
+class Calendars(Command):
+    """The calendar files of a folder: which trades get them, and what one at fault costs."""
+
+    def setUp(self):
+        super().setUp()
+        business, self.calendar = example("business_days/terms.json"), example("business_days/de.cal")
+        flows = irs.emit(business, None, [self.calendar])
+        self.trade("Fixed")
+        self.trade("Business", business, flows)
+        self.trade("Unknown", business.replace(b'"DEFR"', b'"DEFX"'), flows)
+
+    def centre(self, name):
+        return self.calendar.replace(b"DEFR", name.encode())
+
+    def check(self, business, unknown):
+        status, _, said = self.run_book()
+        self.assertEqual(status, 1, said)
+        self.assertEqual(self.verdicts(), {"Fixed": "agrees", "Business": business, "Unknown": unknown})
+        return said
+
+    def test_more_than_the_engine_takes(self):
+        for number in range(40):
+            self.put(f"calendars/C{number:03}.cal", self.centre(f"C{number:03}"))
+        self.check("refused", "refused")
+        self.put("calendars/DEFR.cal", self.calendar)
+        self.assertEqual(self.check("agrees", "refused"), "")
+
+    def test_one_at_fault_that_no_trade_needs(self):
+        self.put("calendars/A.cal", b"what")
+        self.put("calendars/DEFR.cal", self.calendar)
+        said = self.check("agrees", "bad file")
+        self.assertIn("A.cal", said)
+        self.assertEqual(said.count("\n"), 1)
+        self.assertIn("A.cal", next(row["sentence"] for row in self.rows() if row["name"] == "Unknown"))
+
+    def test_one_at_fault_that_a_trade_needs(self):
+        self.put("calendars/A.cal", self.centre("AAAA"))
+        self.put("calendars/DEFR.cal", self.calendar.replace(b"weekend", b"weekends"))
+        self.assertIn("DEFR.cal), line 3", self.check("bad file", "bad file"))
+
+    def test_a_centre_in_two_files(self):
+        self.put("calendars/DEFR.cal", self.calendar)
+        self.put("calendars/again.cal", self.calendar)
+        said = self.check("bad file", "bad file")
+        self.assertIn("DEFR.cal and again.cal", said)
+
+    def test_files_that_do_not_fit(self):
+        for number in range(17):
+            self.put(f"calendars/C{number:03}.cal", b"#" * 4_000_000 + b"\n")
+        status, out, said = self.run_book()
+        self.assertEqual((status, out), (2, ""))
+        self.assertIn("don't fit", said)
+        self.assertNotIn("Traceback", said)
+
+
 class Odd(Command):
     """One odd entry beside five good trades: the five agree, and the odd one is reported."""
 
@@ -237,6 +292,31 @@ class Odd(Command):
         names = [row["name"] for row in self.rows()]
         self.assertFalse([name for name in names if name.startswith(("=", "@", "+", "-", "\t", "\r"))])
         self.assertIn("'=cmd|' calc'!A0", names)
+
+
+class Mixed(Command):
+    """A book of trades of all kinds."""
+
+    def setUp(self):
+        super().setUp()
+        self.folder.rmdir()
+        mixed(self.folder, 320)
+
+    def test_one_call_for_many_trades_is_a_call_for_each(self):
+        for command in ("audit", "check", "schedule", "emit", "net"):
+            alone = ("book", "--command", command, "--csv", "alone.csv")
+            self.assertEqual(self.run_book(*alone, program=(str(HERE / "one_by_one.py"),))[0], 1)
+            wanted = (self.room / "alone.csv").read_bytes()
+            self.assertEqual(wanted.count(b"\n"), 325)
+            for chunk in ("50", "400") if command == "audit" else ("33",):
+                status, _, said = self.run_book("book", "--command", command, "--chunk", chunk, "--jobs", "2")
+                self.assertEqual(status, 1, said)
+                self.assertEqual((self.room / "irs-book.csv").read_bytes(), wanted, (command, chunk))
+
+    def test_each_verdict_is_there(self):
+        self.assertEqual(self.run_book("book")[0], 1)
+        verdicts = {"agrees", "unverified", "departs", "refused", "bad file", "failed"}
+        self.assertEqual(set(self.verdicts().values()), verdicts)
 
 
 class Kept(Command):

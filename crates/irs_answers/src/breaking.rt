@@ -1,4 +1,5 @@
 //! The text of `breaks`: each break between cash flows and a schedule. Its format is our rule.
+ghost use Rattle.std.specs.Prelude.{◌≡◌};
 ghost use Rattle.irs_answers.specs.CashFlows.{DueBreaks, DueFlows, IsStatusOf};
 ghost use Rattle.irs_answers.specs.Forms.{source_by};
 ghost use Rattle.irs_answers.specs.Outcomes.{Ends, IfAnswered};
