@@ -38,7 +38,10 @@ class Xml(unittest.TestCase):
         irs.check(b" \r\n\t" + body, self.CALENDARS)
         with self.assertRaises(irs.Refused) as caught:
             irs.check(b" " + self.TERMS, self.CALENDARS)
-        self.assertEqual(str(caught.exception.sentence), "K1: the document isn't XML that this program reads")
+        self.assertEqual(
+            str(caught.exception.sentence),
+            "K1: the document isn't XML that this program reads (reading stopped at line 1, column 7)",
+        )
 
     def test_cash_flows_in_xml(self):
         trade = example("xml_audited/trade.xml")
