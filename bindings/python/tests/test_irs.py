@@ -139,6 +139,12 @@ class Rows(unittest.TestCase):
             irs.audit(example("compounded/terms.json"), emitted, fixings=example("compounded/fixings")), irs.Yes(5, 0)
         )
 
+    def test_emit_xml(self):
+        terms, fixings = example("compounded/terms.json"), example("compounded/fixings")
+        emitted = irs.emit_xml(terms, fixings)
+        self.assertEqual(emitted, example("emitted_xml/output"))
+        self.assertEqual(irs.audit(terms, emitted, fixings), irs.Yes(5, 0))
+
     def test_what_has_accrued(self):
         day = datetime.date(2024, 4, 15)
         self.assertEqual(

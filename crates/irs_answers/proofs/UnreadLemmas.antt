@@ -27,7 +27,7 @@ stopped_placed document flows stopped.Memory = tt
 -- an error that becomes a refusal
 pub placed_by : (document flows : SourceText) (r : Result Reply Refusal) (e : Refusal) → IsErr r
     → IsErrAnd r (λ x. x ≡ e) → IsPlaced document flows e → AllPlaced document flows r
-placed_by document flows (Ok x) e h k p = absurd h
+placed_by document flows (Ok x) e h k p = absurd k
 placed_by document flows (Err x) e h k p = subst (λ (y : Refusal). IsPlaced document flows y) (sym k) p
 
 -- the reply that a refusal is

@@ -30,6 +30,10 @@ abbrev pub AllPlaced : SourceText → SourceText → Result Reply Refusal → Ty
 AllPlaced document flows (Ok r) = IsPlacedReply document flows r
 AllPlaced document flows (Err r) = IsPlaced document flows r
 
+-- the reply isn't of a text without a reading
+abbrev pub IsPlain : Reply → Type 0
+IsPlain r = (document flows : SourceText) → IsPlacedReply document flows r
+
 -- the refusal isn't of a text without a reading
 abbrev pub IsOtherwise : Refusal → Type 0
 IsOtherwise r = (document flows : SourceText) → IsPlaced document flows r

@@ -4,7 +4,7 @@ ghost use Rattle.irs_answers.specs.CashFlows.{DueBreaks, DueFlows, IsStatusOf};
 ghost use Rattle.irs_answers.specs.Forms.{source_by};
 ghost use Rattle.irs_answers.specs.Outcomes.{Ends, IfAnswered};
 ghost use Rattle.irs_answers.specs.Replying.{reply_status, reply_text};
-ghost use Rattle.irs_answers.specs.Unread.{FlowsAlone};
+ghost use Rattle.irs_answers.specs.Unread.{FlowsAlone, IsPlain};
 
 use crate::flows::stated_flows;
 use crate::forms::Source;
@@ -35,6 +35,7 @@ pub(crate) fn breaks_answer(
 fn listed(list: &BreakList, text: Vec<u8>) -> Reply
     ensures status { IsStatusOf list.now (reply_status result) }
     ensures text { reply_text result ≡ text.items }
+    ensures plain { IsPlain result }
 {
     if list.any() {
         Reply::Breaks(text)

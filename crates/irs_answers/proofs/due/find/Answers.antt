@@ -131,6 +131,15 @@ returns-in_err-schedule-clause-refused c =
     (refuse_rules t g swap sides cal c.in_ok-fixings.fixings.now e spells files c.in_ok-fixings.ensures.fixings
     c.in_err-schedule.ensures.refused)
 
+pub returns-in_err-schedule-clause-placed : goal.returns-in_err-schedule-clause-placed
+returns-in_err-schedule-clause-placed c =
+    let e = c.in_err-schedule.field-0.0 in
+    let made = c.from_residual-in_err-schedule in
+    let document = source_by c.args.files.now.document in
+    let flows = source_by c.args.files.now.flows in
+    refused_by made.result e (IsPlaced document flows) made.ensures.0 made.ensures.1
+    (c.in_err-schedule.ensures.placed document flows)
+
 pub returns-clause-passes : goal.returns-clause-passes
 returns-clause-passes c =
     let t = c.args.task in
