@@ -10,7 +10,7 @@ TOP = Path(__file__).resolve().parent.parent
 HELP = TOP / "examples" / "help" / "output"
 
 #: A line of the table: two spaces, `irs`, the name, the parameters, and perhaps what it does.
-LINE = re.compile(r"^  irs ([a-z]+) ((?:[A-Z]+(?:\.\.)?)(?: [A-Z]+(?:\.\.)?)*)(?: {2,}(.*))?$")
+LINE = re.compile(r"^  irs ([a-z]+(?:-[a-z]+)*) ((?:[A-Z]+(?:\.\.)?)(?: [A-Z]+(?:\.\.)?)*)(?: {2,}(.*))?$")
 
 #: The next line has what it does where the first has no room for it.
 CONTINUED = re.compile(r"^ {10,}(\S.*)$")

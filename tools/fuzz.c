@@ -149,6 +149,7 @@ static const struct { const char *command, *front, *back; } DONE[] = {
     {"audit", "yes ", "\n"},
     {"breaks", "irs-breaks 1 ", "\n"},
     {"emit", "{\"swap\":{\"swapStream\":", "}\n"},
+    {"emit-xml", "<?xml version=\"1.0\" encoding=\"UTF-8\"?>\n<swap xmlns=", "\n</swap>\n"},
     {"net", "irs-net 1\n", "\nend\n"},
     {"accrue", "irs-accrued 1 ", "\nend\n"},
     {"observations", "irs-observations 1 ", "\nend\n"},
@@ -244,11 +245,12 @@ static void compare_with_schedule(const struct answer *is, const struct input *i
 }
 
 /* What is emitted is audited with yes. */
-static void audit_emitted(const struct answer *is, const struct input *in) {
+static void audit_emitted(const struct answer *is, const struct input *in, const char *name) {
     struct irs_bytes words[MOST_WORDS + 1];
     struct irs_file files[MOST_FILES + 1];
-    const char *name = "what emit prints";
     if (in->n_words < 3 || in->n_words == MOST_WORDS || is->status != 0) return;
+    /* A file has no more bytes. */
+    if (is->length > 4194304) return;
     words[0] = irs_lend("audit", 5);
     memcpy(words + 1, in->words + 1, 2 * sizeof *words);
     words[3] = irs_lend(name, strlen(name));
@@ -270,7 +272,8 @@ int LLVMFuzzerTestOneInput(const uint8_t *at, size_t length) {
         look_at(&is, &in);
         look_at_sentence(&is, &in);
         if (is_word(in.words[0], "check")) compare_with_schedule(&is, &in);
-        if (is_word(in.words[0], "emit")) audit_emitted(&is, &in);
+        if (is_word(in.words[0], "emit")) audit_emitted(&is, &in, "what emit prints");
+        if (is_word(in.words[0], "emit-xml")) audit_emitted(&is, &in, "what emit-xml prints.xml");
         let_go(&is);
     }
     drop(&in);

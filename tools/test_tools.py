@@ -79,7 +79,7 @@ class InRoom(unittest.TestCase):
 class Table(unittest.TestCase):
     def test_it_is_that_of_the_formats(self) -> None:
         page = (TOP / "docs" / "FORMATS.md").read_text()
-        listed = re.findall(r"^    irs ([a-z]+) (.*)$", page, re.M)
+        listed = re.findall(r"^    irs ([a-z]+(?:-[a-z]+)*) (.*)$", page, re.M)
         found = [(it.name, " ".join(it.parameters)) for it in commands.commands()]
         self.assertEqual(sorted(found), sorted(listed))
         self.assertTrue(all(it.summary for it in commands.commands()))

@@ -272,6 +272,11 @@ def emit(document: Document, fixings: Optional[File] = None, calendars: Iterable
     return _with_rates("emit", [], _document(document), fixings, calendars)
 
 
+def emit_xml(document: Document, fixings: Optional[File] = None, calendars: Iterable[File] = ()) -> bytes:
+    """The schedule as cash flows in FpML XML: what :func:`emit` gives, as a document in XML."""
+    return _with_rates("emit-xml", [], _document(document), fixings, calendars)
+
+
 def accrue(
     day: Day, document: Document, fixings: Optional[File] = None, calendars: Iterable[File] = ()
 ) -> List[Accrued]:

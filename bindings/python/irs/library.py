@@ -19,7 +19,7 @@ MOST_CALENDARS = 16
 ROOM = 1 << 16
 
 #: The same for a command whose texts are long.
-ROOM_OF = {"emit": 1 << 20, "schedule": 1 << 18}
+ROOM_OF = {"emit": 1 << 20, "emit-xml": 1 << 21, "schedule": 1 << 18}
 
 #: How much room the first call of :func:`run_each` has for a trade, in bytes: its text and its sentence.
 ROOM_OF_EACH = {**ROOM_OF, "net": 1 << 15, "check": 1 << 10, "audit": 1 << 10}

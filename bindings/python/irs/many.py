@@ -12,7 +12,7 @@ Calendar = Tuple[str, bytes]
 
 #: The most trades of a call. Their texts are in memory together, so there are fewer where the texts are long.
 MOST_TRADES = 256
-MOST_TRADES_OF = {"schedule": 64, "emit": 16}
+MOST_TRADES_OF = {"schedule": 64, "emit": 16, "emit-xml": 8}
 
 
 class Item(NamedTuple):

@@ -38,7 +38,10 @@ class Xml(unittest.TestCase):
         irs.check(b" \r\n\t" + body, self.CALENDARS)
         with self.assertRaises(irs.Refused) as caught:
             irs.check(b" " + self.TERMS, self.CALENDARS)
-        self.assertEqual(str(caught.exception.sentence), "K1: the document isn't XML that this program reads")
+        self.assertEqual(
+            str(caught.exception.sentence),
+            "K1: the document isn't XML that this program reads (reading stopped at line 1, column 7)",
+        )
 
     def test_cash_flows_in_xml(self):
         trade = example("xml_audited/trade.xml")
@@ -135,6 +138,12 @@ class Rows(unittest.TestCase):
         self.assertEqual(
             irs.audit(example("compounded/terms.json"), emitted, fixings=example("compounded/fixings")), irs.Yes(5, 0)
         )
+
+    def test_emit_xml(self):
+        terms, fixings = example("compounded/terms.json"), example("compounded/fixings")
+        emitted = irs.emit_xml(terms, fixings)
+        self.assertEqual(emitted, example("emitted_xml/output"))
+        self.assertEqual(irs.audit(terms, emitted, fixings), irs.Yes(5, 0))
 
     def test_what_has_accrued(self):
         day = datetime.date(2024, 4, 15)

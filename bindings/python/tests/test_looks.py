@@ -550,7 +550,8 @@ class Show(unittest.TestCase):
             (done.returncode, done.stderr),
             (
                 2,
-                b"irs-show: refused K1 0 document 0: K1: the document isn't XML that this program reads\n",
+                b"irs-show: refused K1 0 document 0: K1: the document isn't XML that this program reads "
+                b"(reading stopped at line 1, column 28)\n",
             ),
         )
         done = run_show(EXAMPLES / "fixed_leg" / "terms.json", "--from", "15.7.2024")

@@ -1,7 +1,7 @@
 -- The text of a carrier: the value as serde_json writes it, and LF; it reads as the value.
-use Rattle.std.proofs.Common.{◌≡◌, ℕ, ◌≤◌, List, [], ◌∷◌, ◌++◌, false, Some, Result, Ok, Err, ap, ◌∙◌, sym, subst}
-use Rattle.std.proofs.Common.{refl, arith}
-use Rattle.std.specs.Prelude.{IfOk, IsErr}
+use Rattle.std.proofs.Common.{◌≡◌, ℕ, ◌-◌, ◌^◌, ◌<◌, ◌≤◌, List, [], ◌∷◌, ◌++◌, length, false, Some, Result, Ok, Err}
+use Rattle.std.proofs.Common.{ap, ◌∙◌, sym, subst, refl, arith}
+use Rattle.std.specs.Prelude.{IfErr, IfOk, IsErr}
 use Rattle.irs_base.specs.declared.memory.Memory.{Memory as WantOfMemory}
 use Rattle.std.specs.Result.{IsErrAnd}
 use Rattle.std.proofs.lemmas.Str.{IsUtf8-append, IsUtf8-from_ascii}
@@ -14,12 +14,13 @@ use Rattle.irs_emit.proofs.ReadBack.{Built, built_depth, built_floatless, line_f
 use Rattle.irs_json.specs.Reading.{Reads}
 use Rattle.irs_xml.proofs.TextLaws.{reads_one}
 use Rattle.irs_xml.specs.Document.{XmlReads}
-use Rattle.irs_xml.specs.Places.{ReadsNone}
+use Rattle.irs_xml.specs.Places.{PlaceIn, ReadsNone}
 use Rattle.irs_xml.specs.declared.reading.XmlErr.{XmlErr}
 use Rattle.irs_xml.specs.declared.reading.XmlErr.TheVariants as xml
 use Rattle.irs_answers.specs.Carried.{DueCarrier, MeansXml, ReadsBack, carrier_text}
+use Rattle.irs_answers.specs.Forms.{xml_text}
 use Rattle.irs_answers.specs.Messages.{refused, unreadable}
-use Rattle.irs_answers.specs.Outcomes.{Ends, IfRefused, answer_of, of_read, of_xml}
+use Rattle.irs_answers.specs.Outcomes.{Ends, IfRefused, ReadFails, answer_of, of_read, of_xml}
 use Rattle.irs_answers.specs.Steps.{Is}
 use Rattle.irs_answers.specs.declared.forms.ReadErr.{ReadErr}
 use Rattle.irs_answers.specs.declared.forms.ReadErr.TheVariants as reading
@@ -59,13 +60,19 @@ module _ (v : Data) (bytes new : List ℕ) (from : MeansXml v) (text : has_float
 
 -- ---- an error of the reader
 
--- an error of the reader of XML says that the bytes mean nothing
+xml_fails : (e : XmlErr) (bytes : List ℕ) → ReadsNone bytes e → (length bytes < 2 ^ 32 - 1 → PlaceIn bytes e)
+    → ReadFails (xml_text bytes) (of_xml e)
+xml_fails (xml.NotXml line column) bytes none place =
+    record { none = λ r. none r.0 r.1; stops = (refl, place) }
+xml_fails xml.Memory bytes none place = tt
+
+-- an error of the reader of XML says that the bytes mean nothing, and where the reading stopped
 pub no_reading : {A : Type 0} (r : Result A ReadErr) (e : XmlErr) (bytes : List ℕ) → IsErr r
-    → IsErrAnd r (λ x. x ≡ of_xml e) → ReadsNone bytes e → r ≡ Err reading.Unreadable → (d : Data) → XmlReads bytes d
-    → ⊥
-no_reading (Ok x) e bytes h k none is d reads = absurd k
-no_reading (Err x) (xml.NotXml line column) bytes h k none is d reads = none d reads
-no_reading (Err x) xml.Memory bytes h k none is d reads = absurd (cc)
+    → IsErrAnd r (λ x. x ≡ of_xml e) → ReadsNone bytes e → (length bytes < 2 ^ 32 - 1 → PlaceIn bytes e)
+    → IfErr r (λ x. ReadFails (xml_text bytes) x)
+no_reading (Ok x) e bytes h k none place = tt
+no_reading (Err x) e bytes h k none place =
+    subst (λ (y : ReadErr). ReadFails (xml_text bytes) y) (sym k) (xml_fails e bytes none place)
 
 -- ---- what a carrier comes to
 
@@ -74,12 +81,13 @@ abbrev pub Carries : List ℕ → ℕ → List ℕ → Type 0
 Carries bytes status text = Ends (DueCarrier bytes) status text × (status ≡ 0 → ReadsBack bytes text)
 
 -- bytes that mean nothing are refused
-pub refuse_carrier : (bytes : List ℕ) (e : ReadErr) → (e ≡ reading.Unreadable → (v : Data) → XmlReads bytes v → ⊥)
+pub refuse_carrier : (bytes : List ℕ) (e : ReadErr) → ReadFails (xml_text bytes) e
     → IfRefused (of_read e) (Carries bytes)
-refuse_carrier bytes reading.Unreadable h =
+refuse_carrier bytes (reading.Unreadable u) h =
     let line = refused unreadable in (
       record {
-        due = unread (XmlReads bytes) (Is 2 line 2 line) (λ v. Is 0 (carrier_text v) 2 line) (h refl) (refl, refl);
+        due = unread (XmlReads bytes) (Is 2 line 2 line) (λ v. Is 0 (carrier_text v) 2 line)
+            (λ v reads. h.none (v, reads)) (refl, refl);
         verdict = omega arith;
       },
       λ e. absurd (omega (arith, e)),

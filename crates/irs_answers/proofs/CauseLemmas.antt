@@ -76,6 +76,7 @@ caused_by task.Schedule r j = other task.Schedule r (λ e. cc)
 caused_by task.Audit r j = caused task.Audit r j
 caused_by (task.Breaks from) r j = other (task.Breaks from) r (λ e. cc)
 caused_by task.Emit r j = other task.Emit r (λ e. cc)
+caused_by task.EmitXml r j = other task.EmitXml r (λ e. cc)
 caused_by (task.Accrue date) r j = other (task.Accrue date) r (λ e. cc)
 caused_by task.Net r j = other task.Net r (λ e. cc)
 caused_by (task.Observations stream) r j = other (task.Observations stream) r (λ e. cc)

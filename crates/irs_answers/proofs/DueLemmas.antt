@@ -41,7 +41,7 @@ use Rattle.irs_net.specs.declared.sides.Sides.{Sides}
 use Rattle.irs_net.proofs.SideLemmas.{one_sides_of}
 use Rattle.irs_answers.specs.declared.tasks.Task.{Task}
 use Rattle.irs_answers.specs.declared.tasks.Task.TheVariants.{Check, Schedule, Audit, Emit, Accrue, Net, Overnight}
-use Rattle.irs_answers.specs.declared.tasks.Task.TheVariants.{Average, Breaks, Interpolate, Observations}
+use Rattle.irs_answers.specs.declared.tasks.Task.TheVariants.{Average, Breaks, EmitXml, Interpolate, Observations}
 use Rattle.irs_answers.specs.declared.refusals.Refusal.{Refusal}
 use Rattle.irs_answers.specs.declared.refusals.Refusal.TheVariants.{Rule, Calendars, Fixings}
 use Rattle.irs_answers.specs.declared.replies.Reply.{Reply}
@@ -55,7 +55,7 @@ use Rattle.irs_answers.specs.Due.{HasSides, IsFixingsFault, KeepsTerms, SidesIf,
 use Rattle.irs_answers.specs.Due.{DueKept, DueDated, DueTerms, DueFixings, DueCalendars, DueSides, DueDocument, DueFor}
 use Rattle.irs_answers.specs.Due.{Passes}
 use Rattle.irs_answers.specs.Outcomes.{Answer, answer_of, of_read, of_stopped, Ends, FixingsFail, IfRefused, IfAnswered}
-use Rattle.irs_answers.specs.Outcomes.{IsRuleFirst, IsUnscheduled, IsScheduled}
+use Rattle.irs_answers.specs.Outcomes.{IsRuleFirst, IsUnscheduled, IsScheduled, ReadFails}
 use Rattle.irs_answers.proofs.AccrueSame.{accrued_same}
 use Rattle.irs_answers.proofs.FirstLemmas.{one_first, one_fixings_fault, no_fixings}
 use Rattle.irs_answers.proofs.SameRates.{SameRates, same_back, same_file, schedule_same, kept_same, first_same_table}
@@ -163,6 +163,7 @@ answered_same Schedule g swap sides cal r q s status text e h = h
 answered_same Audit g swap sides cal r q s status text e h = h
 answered_same (Breaks from) g swap sides cal r q s status text e h = h
 answered_same Emit g swap sides cal r q s status text e h = h
+answered_same EmitXml g swap sides cal r q s status text e h = h
 answered_same (Accrue date) g swap sides cal r q s status text e h =
     (h.0, accrued_same r q e swap cal date s text h.1)
 answered_same Net g swap sides cal r q s status text e h = h
@@ -347,9 +348,8 @@ module _ (t : Task) (g : Given) where
   -- ---- the errors of the calls are what is due
 
   -- a text without a reading is refused
-  pub refuse_text : (e : ReadErr) → (e ≡ reading.Unreadable → (v : Data) → TextReads g.document v → ⊥)
-      → IfRefused (of_read e) (Ends (DueFor t g))
-  refuse_text reading.Unreadable h = record { due = at_text (λ k. h refl k.0 k.1); verdict = omega arith }
+  pub refuse_text : (e : ReadErr) → ReadFails g.document e → IfRefused (of_read e) (Ends (DueFor t g))
+  refuse_text (reading.Unreadable u) h = record { due = at_text h.none; verdict = omega arith }
   refuse_text reading.Memory h = tt
 
   -- a document that breaks a rule is refused

@@ -1,8 +1,7 @@
 -- What is due for cash flows.
-use Rattle.std.proofs.Common.{◌≡◌, inl, inr, Bool, true, false, ℕ, ℤ, ◌<◌, List, Option, Result, Ok, Err, refl, sym}
+use Rattle.std.proofs.Common.{◌≡◌, inl, inr, Bool, true, false, ℕ, ℤ, ◌<◌, List, Option, Result, Ok, refl, sym}
 use Rattle.std.proofs.Common.{◌∙◌, ap, subst, arith}
-use Rattle.std.specs.Prelude.{IfErr, IsErr, IsTrue}
-use Rattle.std.specs.Result.{IsErrAnd}
+use Rattle.std.specs.Prelude.{IsTrue}
 use Rattle.serde_json.specs.Data.{Data}
 use Rattle.irs_base.specs.declared.places.Broken.{Broken}
 use Rattle.irs_base.specs.declared.places.Place.{Place}
@@ -15,18 +14,20 @@ use Rattle.irs_audit.specs.FlowReading.{FlowsOf, IsFirstShape, kind_of}
 use Rattle.irs_audit.specs.Verdicts.{IsVerdict}
 use Rattle.irs_audit.specs.declared.departures.Verdict.{Verdict}
 use Rattle.irs_audit.specs.declared.departures.Verdict.TheVariants.{Yes, No}
-use Rattle.irs_audit.specs.declared.error.FlowErr.{FlowErr}
 use Rattle.irs_audit.specs.declared.error.FlowErr.TheVariants as flowing
 use Rattle.irs_audit.specs.declared.error.ShapeKind.{ShapeKind}
 use Rattle.irs_audit.specs.declared.error.ShapeKind.TheVariants.{NotJson}
-use Rattle.irs_answers.specs.declared.refusals.Refusal.TheVariants.{Flows}
+use Rattle.irs_answers.specs.declared.refusals.Refusal.{Refusal}
+use Rattle.irs_answers.specs.declared.refusals.Refusal.TheVariants.{Calendars, Fixings, Flows, Memory, Rule, Unreadable}
+use Rattle.irs_answers.specs.declared.refusals.Refusal.TheVariants.{UnreadableFlows}
 use Rattle.irs_breaks.specs.BreakLists.{IsBreakList}
 use Rattle.irs_breaks.specs.BreakTexts.{breaks_text}
 use Rattle.irs_breaks.specs.Findings.{Findings}
 use Rattle.irs_answers.specs.CashFlows.{BadFlows, DueBreaks, DueFlows, DueStated, DueVerdict, IsStatusOf, OfFlows}
 use Rattle.irs_answers.specs.Steps.{Is}
 use Rattle.irs_answers.specs.FlowMessages.{bad_flows, whole_document, verdict_status, verdict_text}
-use Rattle.irs_answers.specs.Outcomes.{Ends, FlowsFail, IfRefused, SpellsFlows}
+use Rattle.irs_answers.specs.Outcomes.{Ends, FlowsRefused, IfRefused, SpellsFlows}
+use Rattle.irs_answers.specs.Unread.{IsPlaced}
 use Rattle.irs_answers.proofs.DueLemmas.{one_reading}
 use Rattle.irs_answers.proofs.FirstLemmas.{one_first}
 use Rattle.irs_answers.proofs.StepLemmas.{read, unread}
@@ -62,12 +63,27 @@ module _ (Due : OfFlows) (file : SourceText) where
       (in_text v 3 (bad_flows (kind_of h.fault.rule) h.fault.place) reads (at_fault v h.fault h.first))
 
   -- faulty cash flows are refused
-  pub refuse_flows : (e : FlowErr) → FlowsFail file e → IfRefused (Flows e) (Ends (DueFlows Due file))
-  refuse_flows (flowing.Shape how place) (inl h) =
-      rw (h.1, h.2) (record { due = at_text h.0; verdict = omega arith })
-  refuse_flows (flowing.Shape how place) (inr h) =
+  pub refuse_flows : (r : Refusal) → FlowsRefused file r → IfRefused r (Ends (DueFlows Due file))
+  refuse_flows (Unreadable u) h = absurd h
+  refuse_flows (Rule b) h = absurd h
+  refuse_flows (Calendars e) h = absurd h
+  refuse_flows (Fixings e) h = absurd h
+  refuse_flows (UnreadableFlows u) h = record { due = at_text h.none; verdict = omega arith }
+  refuse_flows (Flows (flowing.Shape how place)) h =
       record { due = due_shape h.0 how place h.1 h.2; verdict = omega arith }
-  refuse_flows flowing.Memory h = tt
+  refuse_flows (Flows flowing.Memory) h = tt
+  refuse_flows Memory h = tt
+
+-- a refusal of flows says how they have no reading, if they have none, and nothing of a document
+pub flows_placed : (file : SourceText) (r : Refusal) → FlowsRefused file r → (document : SourceText)
+    → IsPlaced document file r
+flows_placed file (Unreadable u) h document = absurd h
+flows_placed file (Rule b) h document = tt
+flows_placed file (Calendars e) h document = tt
+flows_placed file (Fixings e) h document = tt
+flows_placed file (UnreadableFlows u) h document = h
+flows_placed file (Flows e) h document = tt
+flows_placed file Memory h document = tt
 
 -- a reading has one value
 same_ok : {E : Type 0} (x y : Data) → (let r : Result Data E = Ok x in r ≡ Ok y) → x ≡ y
@@ -116,12 +132,6 @@ due_breaks file from s flows list status text spells one is spelt =
       due = due_stated (DueBreaks from s) file flows status text spells (list, one, is, spelt);
       verdict = breaks_low list status is;
     }
-
--- an error that is passed on
-pub failed_by : {A : Type 0} (r : Result A FlowErr) (e : FlowErr) (P : FlowErr → Type 0) → IsErr r
-    → IsErrAnd r (λ x. x ≡ e) → P e → IfErr r P
-failed_by (Ok x) e P h k p = tt
-failed_by (Err x) e P h k p = subst P (sym k) p
 
 -- a test that failed doesn't hold
 pub not_true : (b : Bool) → b ≡ false → IsTrue b → ⊥

@@ -2,6 +2,7 @@ pub mod PageLemmas
 pub mod FirstLemmas
 pub mod SameRates
 pub mod StepLemmas
+pub mod UnreadLemmas
 pub mod CauseLemmas
 pub mod SameDerived
 pub mod DerivedSame

@@ -23,6 +23,7 @@ use Rattle.irs_schedule.specs.Parts.{Part}
 use Rattle.irs_schedule.specs.RowTexts.{text_of}
 use Rattle.irs_terms.specs.declared.stream_list.Swap.{Swap}
 use Rattle.irs_emit.specs.Emitted.{emit_text}
+use Rattle.irs_emit_xml.specs.Flows.{flows_text}
 use Rattle.irs_breaks.specs.BreakTexts.{breaks_text}
 use Rattle.irs_breaks.specs.Findings.{Findings}
 use Rattle.irs_answers.specs.FlowMessages.{bad_flows, verdict_status, verdict_text, whole_document}
@@ -42,7 +43,7 @@ use Rattle.irs_terms.specs.declared.amounts.FloatTerms.{FloatTerms}
 use Rattle.irs_terms.specs.declared.frequency.Frequency.{Frequency}
 use Rattle.irs_answers.specs.declared.tasks.Task.{Task}
 use Rattle.irs_answers.specs.declared.tasks.Task.TheVariants.{Check, Schedule, Audit, Emit, Accrue, Net as OfNet}
-use Rattle.irs_answers.specs.declared.tasks.Task.TheVariants.{Overnight, Average, Breaks, Interpolate, Observations}
+use Rattle.irs_answers.specs.declared.tasks.Task.TheVariants.{Overnight, Average, Breaks, EmitXml, Interpolate, Observations}
 use Rattle.irs_answers.specs.Carried.{DueCarrier, carrier_text}
 use Rattle.irs_answers.specs.Given.{Given}
 use Rattle.irs_answers.specs.Messages.{all_kept, refused, unreadable, bad_calendar, bad_fixings}
@@ -189,6 +190,7 @@ module _ (s u : ℕ) (t v : List ℕ) where
   one_answered Audit g f h k = one_flows (DueVerdict f.parts) (one_verdict f.parts) g.flows h k
   one_answered (Breaks from) g f h k = one_flows (DueBreaks from f.parts) (one_list from f.parts) g.flows h k
   one_answered Emit g f h k = both 0 (emit_text f.parts) h k
+  one_answered EmitXml g f h k = both 0 (flows_text f.parts) h k
   one_answered (Accrue date) g f h k = (h.0 ∙ sym k.0, one_page (accruing f.swap f.cal f.table) date f.parts t v h.1 k.1)
   one_answered OfNet g f h k = (h.0 ∙ sym k.0, one_netted f.sides f.parts h.1 k.1)
   one_answered (Observations stream) g f h k = one_observations stream (accruing f.swap f.cal f.table) f.parts h k

@@ -77,6 +77,7 @@ JudgedIf task.Schedule r = Unit {0}
 JudgedIf task.Audit r = IfOk r IsJudged
 JudgedIf (task.Breaks from) r = Unit {0}
 JudgedIf task.Emit r = Unit {0}
+JudgedIf task.EmitXml r = Unit {0}
 JudgedIf (task.Accrue date) r = Unit {0}
 JudgedIf task.Net r = Unit {0}
 JudgedIf (task.Observations stream) r = Unit {0}

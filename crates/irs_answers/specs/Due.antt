@@ -18,12 +18,13 @@ use Rattle.irs_schedule.specs.Parts.{Part}
 use Rattle.irs_schedule.specs.RowTexts.{text_of}
 use Rattle.irs_schedule.specs.Schedules.{IsSchedule}
 use Rattle.irs_emit.specs.Emitted.{emit_text}
+use Rattle.irs_emit_xml.specs.Flows.{flows_text}
 use Rattle.irs_answers.specs.Accrued.{TellsAccrued, accruing}
 use Rattle.irs_answers.specs.CashFlows.{DueBreaks, DueFlows, DueVerdict}
 use Rattle.irs_base.specs.Order.{First, Only, is_before}
 use Rattle.irs_answers.specs.declared.tasks.Task.{Task}
 use Rattle.irs_answers.specs.declared.tasks.Task.TheVariants.{Check, Schedule, Audit, Emit, Accrue, Net, Overnight}
-use Rattle.irs_answers.specs.declared.tasks.Task.TheVariants.{Average, Breaks, Interpolate, Observations}
+use Rattle.irs_answers.specs.declared.tasks.Task.TheVariants.{Average, Breaks, EmitXml, Interpolate, Observations}
 use Rattle.irs_answers.specs.Tasks.{nets, uses_rates}
 use Rattle.irs_answers.specs.Forms.{TextReads, SourceText}
 use Rattle.irs_answers.specs.Given.{Given}
@@ -93,6 +94,7 @@ Answered Schedule g f status text = Is 0 (text_of f.parts) status text
 Answered Audit g f status text = DueFlows (DueVerdict f.parts) g.flows status text
 Answered (Breaks from) g f status text = DueFlows (DueBreaks from f.parts) g.flows status text
 Answered Emit g f status text = Is 0 (emit_text f.parts) status text
+Answered EmitXml g f status text = Is 0 (flows_text f.parts) status text
 Answered (Accrue date) g f status text =
     (status ≡ 0) × TellsAccrued date (accruing f.swap f.cal f.table) f.parts text
 Answered Net g f status text = (status ≡ 0) × TellsNet f.sides f.parts text

@@ -14,5 +14,6 @@ pub mod Due
 pub mod Replying
 pub mod Causes
 pub mod Outcomes
+pub mod Unread
 pub mod Common
 pub mod Found

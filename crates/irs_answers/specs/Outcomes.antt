@@ -1,5 +1,5 @@
 -- What a task comes to: a reply, or a refusal.
-use Rattle.std.specs.Prelude.{◌≡◌, ◌⊎◌, ℕ, ◌<◌, List, Option, Some, None, IfSome, option_map, Result, Ok, Err}
+use Rattle.std.specs.Prelude.{◌⊎◌, ℕ, ◌<◌, List, Option, Some, None, IfSome, option_map, Result, Ok, Err}
 use Rattle.irs_base.specs.declared.places.Broken.{Broken}
 use Rattle.irs_base.specs.Order.{Only}
 use Rattle.irs_base.specs.declared.stopped.Stopped.{Stopped}
@@ -8,9 +8,10 @@ use Rattle.irs_json.specs.declared.JsonErr.{JsonErr}
 use Rattle.irs_json.specs.declared.JsonErr.TheVariants as json
 use Rattle.irs_xml.specs.declared.XmlErr.{XmlErr}
 use Rattle.irs_xml.specs.declared.XmlErr.TheVariants as xml
-use Rattle.irs_answers.specs.Forms.{IsReadable, TextReads, SourceText}
+use Rattle.irs_answers.specs.Forms.{IsUnread, TextReads, SourceText}
 use Rattle.irs_answers.specs.declared.forms.ReadErr.{ReadErr}
 use Rattle.irs_answers.specs.declared.forms.ReadErr.TheVariants as reading
+use Rattle.irs_answers.specs.declared.forms.Unread.TheVariants as unread
 use Rattle.irs_calendar.specs.Calendars.{spot_of}
 use Rattle.irs_calendar.specs.declared.calendars.CalErr.{CalErr}
 use Rattle.irs_calendar.specs.declared.sections.Section.{Section}
@@ -24,12 +25,13 @@ use Rattle.irs_schedule.specs.Schedules.{IsSchedule}
 use Rattle.irs_terms.specs.declared.stream_list.Swap.{Swap}
 use Rattle.serde_json.specs.Data.{Data}
 use Rattle.irs_audit.specs.FlowParts.{FlowPart}
-use Rattle.irs_audit.specs.FlowReading.{FlowsOf, IsFirstShape}
+use Rattle.irs_audit.specs.FlowReading.{FlowsOf, IsFirstFault}
 use Rattle.irs_audit.specs.declared.error.FlowErr.{FlowErr}
 use Rattle.irs_audit.specs.declared.error.FlowErr.TheVariants as flowing
 use Rattle.irs_audit.specs.declared.error.ShapeKind.TheVariants.{NotJson}
 use Rattle.irs_answers.specs.declared.refusals.Refusal.{Refusal}
 use Rattle.irs_answers.specs.declared.refusals.Refusal.TheVariants.{Rule, Calendars, Fixings, Flows, Memory}
+use Rattle.irs_answers.specs.declared.refusals.Refusal.TheVariants.{Unreadable, UnreadableFlows}
 use Rattle.irs_answers.specs.declared.replies.Reply.{Reply}
 use Rattle.irs_answers.specs.Messages.{refused, unreadable, bad_calendar, bad_fixings}
 use Rattle.irs_answers.specs.FlowMessages.{bad_flows, whole_document}
@@ -39,17 +41,17 @@ use Rattle.irs_answers.specs.Steps.{Is}
 
 -- the error of the JSON reader as an error of reading a document
 abbrev pub of_json : JsonErr → ReadErr
-of_json json.NotJson = reading.Unreadable
+of_json json.NotJson = reading.Unreadable unread.Json
 of_json json.Memory = reading.Memory
 
--- the error of the XML reader, without its line and column
+-- the error of the XML reader, with its line and column
 abbrev pub of_xml : XmlErr → ReadErr
-of_xml (xml.NotXml line column) = reading.Unreadable
+of_xml (xml.NotXml line column) = reading.Unreadable (unread.Xml line column)
 of_xml xml.Memory = reading.Memory
 
 -- the refusal where a document has no reading, or memory ran out
 abbrev pub of_read : ReadErr → Refusal
-of_read reading.Unreadable = Rule unreadable
+of_read (reading.Unreadable u) = Unreadable u
 of_read reading.Memory = Memory
 
 -- the refusal where a document or a swap breaks a rule, or memory ran out
@@ -78,9 +80,11 @@ flows_answer flowing.Memory = None
 
 -- the answer of a refusal; none where memory ran out
 abbrev pub answer_of : Refusal → Option Answer
+answer_of (Unreadable u) = Some (2, refused unreadable)
 answer_of (Rule b) = Some (2, refused b)
 answer_of (Calendars e) = calendars_answer e
 answer_of (Fixings e) = fixings_answer e
+answer_of (UnreadableFlows u) = Some (3, bad_flows NotJson whole_document)
 answer_of (Flows e) = flows_answer e
 answer_of Memory = None
 
@@ -108,12 +112,24 @@ FixingsFail bytes fixing.Memory = Unit {0}
 abbrev pub SpellsFlows : SourceText → List FlowPart → Type 0
 SpellsFlows w flows = (v : Data) × TextReads w v × FlowsOf v flows
 
--- an error of a file of flows reports that it has no reading, its first fault, or that memory ran out
+-- an error of reading a text reports how it has no reading, or that memory ran out
+abbrev pub ReadFails : SourceText → ReadErr → Type 0
+ReadFails w (reading.Unreadable u) = IsUnread w u
+ReadFails w reading.Memory = Unit {0}
+
+-- an error of flows that have a reading reports its first fault, or that memory ran out
 abbrev pub FlowsFail : SourceText → FlowErr → Type 0
-FlowsFail w (flowing.Shape kind place) =
-    (¬ (IsReadable w) × (kind ≡ NotJson) × (place ≡ whole_document))
-    ⊎ ((v : Data) × TextReads w v × IsFirstShape v kind place)
-FlowsFail w flowing.Memory = Unit {0}
+FlowsFail w e = (v : Data) × TextReads w v × IsFirstFault v e
+
+-- a refusal of flows reports how they have no reading, their first fault, or that memory ran out
+abbrev pub FlowsRefused : SourceText → Refusal → Type 0
+FlowsRefused w (Unreadable u) = ⊥
+FlowsRefused w (Rule b) = ⊥
+FlowsRefused w (Calendars e) = ⊥
+FlowsRefused w (Fixings e) = ⊥
+FlowsRefused w (UnreadableFlows u) = IsUnread w u
+FlowsRefused w (Flows e) = FlowsFail w e
+FlowsRefused w Memory = Unit {0}
 
 -- no rule of the swap is broken, and the schedule is the only one
 pub record IsScheduled (swap : Swap) (cal : List Section) (table : RateTable) (s : List Part) : Type 0 where

@@ -7,8 +7,9 @@ use Rattle.irs_calendar.specs.declared.calendars.CalErr.TheVariants as calendar
 use Rattle.irs_calendar.specs.declared.machine.Fault.TheVariants.{Syntax, Repeat, TooMany}
 use Rattle.irs_resets.specs.declared.fixings.FixErr.{FixErr}
 use Rattle.irs_schedule.specs.RowTexts.{text_of}
-use Rattle.irs_answers.specs.FlowMessages.{bad_flows, verdict_status, verdict_text}
-use Rattle.irs_answers.specs.Messages.{bad_calendar, bad_fixings, refused}
+use Rattle.irs_audit.specs.declared.error.ShapeKind.TheVariants.{NotJson}
+use Rattle.irs_answers.specs.FlowMessages.{bad_flows, verdict_status, verdict_text, whole_document}
+use Rattle.irs_answers.specs.Messages.{bad_calendar, bad_fixings, refused, unreadable}
 use Rattle.irs_answers.specs.declared.refusals.Refusal.{Refusal}
 use Rattle.irs_answers.specs.declared.refusals.Refusal.TheVariants as refusal
 use Rattle.irs_answers.specs.declared.replies.Reply.{Reply}
@@ -34,17 +35,21 @@ flows_text flowing.Memory = []
 
 -- the status of a refusal
 abbrev pub refusal_status : Refusal → ℕ
+refusal_status (refusal.Unreadable u) = 2
 refusal_status (refusal.Rule b) = 2
 refusal_status (refusal.Calendars e) = 3
 refusal_status (refusal.Fixings e) = 3
+refusal_status (refusal.UnreadableFlows u) = 3
 refusal_status (refusal.Flows e) = 3
 refusal_status refusal.Memory = 7
 
 -- the line of a refusal; none where memory ran out
 abbrev pub refusal_text : Refusal → List ℕ
+refusal_text (refusal.Unreadable u) = refused unreadable
 refusal_text (refusal.Rule b) = refused b
 refusal_text (refusal.Calendars e) = calendars_text e
 refusal_text (refusal.Fixings e) = fixings_text e
+refusal_text (refusal.UnreadableFlows u) = bad_flows NotJson whole_document
 refusal_text (refusal.Flows e) = flows_text e
 refusal_text refusal.Memory = []
 

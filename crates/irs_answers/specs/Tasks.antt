@@ -5,7 +5,7 @@ use Rattle.irs_terms.specs.Lawful.{IsLawfulTenor}
 use Rattle.irs_average.specs.Averages.{most_step}
 use Rattle.irs_answers.specs.declared.tasks.Task.{Task}
 use Rattle.irs_answers.specs.declared.tasks.Task.TheVariants.{Check, Schedule, Audit, Emit, Accrue, Net, Overnight}
-use Rattle.irs_answers.specs.declared.tasks.Task.TheVariants.{Average, Breaks, Interpolate, Observations}
+use Rattle.irs_answers.specs.declared.tasks.Task.TheVariants.{Average, Breaks, EmitXml, Interpolate, Observations}
 
 -- whether a task's schedule is made with the rates of the file of fixings; where there is no file, there are no rates
 abbrev pub uses_rates : Task → Bool
@@ -14,6 +14,7 @@ uses_rates Schedule = true
 uses_rates Audit = true
 uses_rates (Breaks from) = true
 uses_rates Emit = true
+uses_rates EmitXml = true
 uses_rates (Accrue date) = true
 uses_rates Net = true
 uses_rates (Observations stream) = true
@@ -28,6 +29,7 @@ nets Schedule = false
 nets Audit = false
 nets (Breaks from) = false
 nets Emit = false
+nets EmitXml = false
 nets (Accrue date) = false
 nets Net = true
 nets (Observations stream) = false
@@ -42,6 +44,7 @@ IsLawfulTask Schedule = Unit {0}
 IsLawfulTask Audit = Unit {0}
 IsLawfulTask (Breaks from) = Unit {0}
 IsLawfulTask Emit = Unit {0}
+IsLawfulTask EmitXml = Unit {0}
 IsLawfulTask (Accrue date) = Unit {0}
 IsLawfulTask Net = Unit {0}
 IsLawfulTask (Observations stream) = Unit {0}

@@ -1,6 +1,7 @@
 //! The last step of each task, where no rule is broken.
 ghost use Rattle.std.specs.Prelude.{◌≡◌, IfOk};
 ghost use Rattle.irs_emit.specs.Emitted.{emit_text};
+ghost use Rattle.irs_emit_xml.specs.Flows.{flows_text};
 ghost use Rattle.irs_answers.specs.Accrued.{IsAccruing, TellsAccrued, accruing};
 ghost use Rattle.irs_answers.specs.CashFlows.{DueFlows, DueVerdict};
 ghost use Rattle.irs_answers.specs.Causes.{IsJudged, JudgedIf};
@@ -12,6 +13,7 @@ ghost use Rattle.irs_answers.specs.Messages.{all_kept};
 ghost use Rattle.irs_answers.specs.Outcomes.{Ends, IfAnswered};
 ghost use Rattle.irs_answers.specs.Steps.{Is};
 ghost use Rattle.irs_answers.specs.Tasks.{IsLawfulTask};
+ghost use Rattle.irs_answers.specs.Unread.{AllPlaced, FlowsAlone, NoneUnread};
 ghost use Rattle.irs_terms.specs.Lawful.{IsLawful};
 
 use crate::accruing::accrued_page;
@@ -29,6 +31,7 @@ use crate::replies::Reply;
 use crate::tasks::Task;
 use irs_base::Day;
 use irs_emit::emit_flows;
+use irs_emit_xml::emit_xml;
 use irs_schedule::Schedule;
 use std::alloc::Global;
 
@@ -46,6 +49,7 @@ pub(crate) fn answer_by(
     ensures due { IfAnswered result
         (Ends (Answered task.now (given_with files.now common.now.files) (facts_by found.entry))) }
     ensures judged { JudgedIf task.now result }
+    ensures placed { AllPlaced (source_by files.now.document) (source_by files.now.flows) result }
 {
     match *task {
         Task::Check => check_answer(alloc),
@@ -53,6 +57,7 @@ pub(crate) fn answer_by(
         Task::Audit => audit_answer(alloc, &files.flows, &found.schedule),
         Task::Breaks(from) => breaks_answer(alloc, &from, &files.flows, &found.schedule),
         Task::Emit => emit_answer(alloc, &found.schedule),
+        Task::EmitXml => emit_xml_answer(alloc, &found.schedule),
         Task::Accrue(date) => accrue_answer(alloc, &found, date),
         Task::Net => net_answer(alloc, &found),
         Task::Observations(stream) => observations_answer(alloc, stream, &found),
@@ -68,7 +73,8 @@ pub(crate) fn answer_by(
 }
 
 fn check_answer(alloc: Global) -> Result<Reply, Refusal>
-    ensures { IfAnswered result (Ends (Is 0 all_kept)) }
+    ensures due { IfAnswered result (Ends (Is 0 all_kept)) }
+    ensures placed { NoneUnread result }
 {
     Ok(Reply::done(alloc, b"ok\n")?)
 }
@@ -76,20 +82,30 @@ fn check_answer(alloc: Global) -> Result<Reply, Refusal>
 fn audit_answer(alloc: Global, flows: &Source, schedule: &Schedule) -> Result<Reply, Refusal>
     ensures due { IfAnswered result (Ends (DueFlows (DueVerdict schedule.now) (source_by flows.now))) }
     ensures judged { IfOk result IsJudged }
+    ensures placed { FlowsAlone (source_by flows.now) result }
 {
     Ok(Reply::Verdict(verdict_on(alloc, schedule, flows)?))
 }
 
 fn emit_answer(alloc: Global, schedule: &Schedule) -> Result<Reply, Refusal>
-    ensures { IfAnswered result (Ends (Is 0 (emit_text schedule.now))) }
+    ensures due { IfAnswered result (Ends (Is 0 (emit_text schedule.now))) }
+    ensures placed { NoneUnread result }
 {
     Ok(Reply::Text(emit_flows(alloc, schedule)?))
 }
 
+fn emit_xml_answer(alloc: Global, schedule: &Schedule) -> Result<Reply, Refusal>
+    ensures due { IfAnswered result (Ends (Is 0 (flows_text schedule.now))) }
+    ensures placed { NoneUnread result }
+{
+    Ok(Reply::Text(emit_xml(alloc, schedule)?))
+}
+
 fn accrue_answer(alloc: Global, found: &Found<'_>, date: Day) -> Result<Reply, Refusal>
     requires { IsAccruing (accruing found.now.swap found.now.calendars.now found.now.fixings.now) found.now.schedule }
-    ensures { let x = accruing found.now.swap found.now.calendars.now found.now.fixings.now in
+    ensures due { let x = accruing found.now.swap found.now.calendars.now found.now.fixings.now in
         IfAnswered result (Ends (λ status text. (status ≡ 0) × TellsAccrued date x found.now.schedule text)) }
+    ensures placed { NoneUnread result }
 {
     Ok(Reply::Text(accrued_page(alloc, found, date)?))
 }

@@ -4,6 +4,7 @@ ghost use Rattle.irs_answers.specs.CashFlows.{DueBreaks, DueFlows, IsStatusOf};
 ghost use Rattle.irs_answers.specs.Forms.{source_by};
 ghost use Rattle.irs_answers.specs.Outcomes.{Ends, IfAnswered};
 ghost use Rattle.irs_answers.specs.Replying.{reply_status, reply_text};
+ghost use Rattle.irs_answers.specs.Unread.{FlowsAlone, IsPlain};
 
 use crate::flows::stated_flows;
 use crate::forms::Source;
@@ -21,7 +22,8 @@ pub(crate) fn breaks_answer(
     flows: &Source,
     schedule: &Schedule,
 ) -> Result<Reply, Refusal>
-    ensures { IfAnswered result (Ends (DueFlows (DueBreaks from.now schedule.now) (source_by flows.now))) }
+    ensures due { IfAnswered result (Ends (DueFlows (DueBreaks from.now schedule.now) (source_by flows.now))) }
+    ensures placed { FlowsAlone (source_by flows.now) result }
 {
     let stated = stated_flows(alloc, flows)?;
     let list = breaks(alloc, from, schedule, &stated)?;
@@ -33,6 +35,7 @@ pub(crate) fn breaks_answer(
 fn listed(list: &BreakList, text: Vec<u8>) -> Reply
     ensures status { IsStatusOf list.now (reply_status result) }
     ensures text { reply_text result ≡ text.items }
+    ensures plain { IsPlain result }
 {
     if list.any() {
         Reply::Breaks(text)

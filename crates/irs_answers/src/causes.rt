@@ -73,9 +73,11 @@ fn status_of(refusal: Refusal) -> u8
     ensures { result ≡ refusal_status refusal }
 {
     match refusal {
+        Refusal::Unreadable(_) => Status::RuleBroken.number(),
         Refusal::Rule(_) => Status::RuleBroken.number(),
         Refusal::Calendars(_) => Status::BadFile.number(),
         Refusal::Fixings(_) => Status::BadFile.number(),
+        Refusal::UnreadableFlows(_) => Status::BadFile.number(),
         Refusal::Flows(_) => Status::BadFile.number(),
         Refusal::Memory => Status::NoMemory.number(),
     }

@@ -9,6 +9,7 @@ ghost use Rattle.irs_overnight.specs.FileLaw.{file_text};
 ghost use Rattle.irs_answers.specs.Derived.{DueAverage, DueInterpolate, DueOvernight, FloatingStream, IsFloatingAt};
 ghost use Rattle.irs_answers.specs.Derived.{IsUnfixed};
 ghost use Rattle.irs_answers.specs.Outcomes.{Ends, IfAnswered};
+ghost use Rattle.irs_answers.specs.Unread.{NoneUnread};
 
 use crate::due::Found;
 use crate::refusals::Refusal;
@@ -27,8 +28,9 @@ pub(crate) fn overnight_answer(
     found: &Found<'_>,
 ) -> Result<Reply, Refusal>
     requires { IsUnfixed found.now.swap found.now.calendars.now found.now.schedule }
-    ensures { IfAnswered result
+    ensures due { IfAnswered result
         (Ends (DueOvernight number found.now.swap found.now.calendars.now found.now.fixings.now found.now.schedule)) }
+    ensures placed { NoneUnread result }
 {
     let swap = &found.swap;
     let (stream, float) = floating(swap, number)?;
@@ -49,8 +51,9 @@ pub(crate) fn average_answer(
     requires some { 1 ≤ step }
     requires few { step ≤ most_step }
     requires unfixed { IsUnfixed found.now.swap found.now.calendars.now found.now.schedule }
-    ensures { IfAnswered result
+    ensures due { IfAnswered result
         (Ends (DueAverage number mean step found.now.swap found.now.calendars.now found.now.fixings.now found.now.schedule)) }
+    ensures placed { NoneUnread result }
 {
     let (swap, schedule) = (&found.swap, &found.schedule);
     let (stream, float) = floating(swap, number)?;
@@ -81,8 +84,9 @@ pub(crate) fn interpolate_answer(
     requires low { IsLawfulTenor low }
     requires high { IsLawfulTenor high }
     requires unfixed { IsUnfixed found.now.swap found.now.calendars.now found.now.schedule }
-    ensures { IfAnswered result
+    ensures due { IfAnswered result
         (Ends (DueInterpolate number side low high found.now.swap found.now.fixings.now found.now.schedule)) }
+    ensures placed { NoneUnread result }
 {
     let swap = &found.swap;
     floating(swap, number)?;

@@ -8,10 +8,12 @@ ghost use Rattle.irs_answers.specs.Causes.{IsCauseOf, cause_of};
 ghost use Rattle.irs_answers.specs.Common.{AreRead};
 ghost use Rattle.irs_answers.specs.Given.{IsWithin, given_by, given_with};
 ghost use Rattle.irs_answers.specs.Due.{BreaksSides, DueFor, HasSides, Passes, rates_for};
+ghost use Rattle.irs_answers.specs.Forms.{source_by};
 ghost use Rattle.irs_answers.specs.Found.{facts_by};
 ghost use Rattle.irs_answers.specs.Outcomes.{Ends, IfAnswered, IfRefused, IsScheduled, IsUnscheduled};
 ghost use Rattle.irs_answers.specs.Replying.{reply_status, reply_text};
 ghost use Rattle.irs_answers.specs.Tasks.{IsLawfulTask};
+ghost use Rattle.irs_answers.specs.Unread.{AllPlaced, IsOtherwise, IsPlaced, IsPlacedReply};
 
 use crate::answers::answer_by;
 use crate::common::Common;
@@ -54,6 +56,7 @@ pub fn reply_of(alloc: Global, task: Task, files: TaskFiles) -> Result<Reply, Me
     requires within { IsWithin (given_by files) }
     ensures due { IfOk result (λ r. Ends (DueFor task (given_by files)) (reply_status r) (reply_text r)) }
     ensures cause { IfOk result (λ r. IsCauseOf task (cause_of r) (reply_status r) (reply_text r)) }
+    ensures placed { IfOk result (λ r. IsPlacedReply (given_by files).document (given_by files).flows r) }
 {
     let (own, common) = files.split(alloc);
     let common = Common::read(alloc, common);
@@ -73,6 +76,7 @@ pub fn reply_by(
     ensures due { let given = given_with files.now common.now.files in
         IfOk result (λ r. Ends (DueFor task given) (reply_status r) (reply_text r)) }
     ensures cause { IfOk result (λ r. IsCauseOf task (cause_of r) (reply_status r) (reply_text r)) }
+    ensures placed { IfOk result (λ r. IsPlacedReply (source_by files.now.document) (source_by files.now.flows) r) }
 {
     match carry_out(alloc, task, files, common) {
         Ok(reply) => Ok(reply),
@@ -91,6 +95,7 @@ fn carry_out(
     requires read { AreRead common.now }
     ensures due { IfAnswered result (Ends (DueFor task (given_with files.now common.now.files))) }
     ensures cause { IfOk result (λ r. IsCauseOf task (cause_of r) (reply_status r) (reply_text r)) }
+    ensures placed { AllPlaced (source_by files.now.document) (source_by files.now.flows) result }
 {
     let found = find(alloc, task, files, common)?;
     answer_by(alloc, &task, files, common, found)
@@ -110,6 +115,7 @@ pub fn find<'a>(
     ensures lawful { IfOk result (λ f. IsLawful f.swap) }
     ensures refused { IfErr result
         (λ r. IfRefused r (Ends (DueFor task (given_with files.now common.now.files)))) }
+    ensures placed { IfErr result (λ r. IsPlaced (source_by files.now.document) (source_by files.now.flows) r) }
 {
     let document = read_document(alloc, &files.document)?;
     let swap = read_swap(alloc, &document)?;
@@ -151,6 +157,7 @@ fn schedule_for(
     ensures schedule { IfOk result (λ s. IsScheduled swap.now calendars.now (rates_for task.now fixings.now) s) }
     ensures refused { IfErr result
         (λ r. IfRefused r (IsUnscheduled swap.now calendars.now (rates_for task.now fixings.now))) }
+    ensures placed { IfErr result (λ r. IsOtherwise r) }
 {
     if task.uses_rates() {
         schedule_of(alloc, swap, calendars, fixings)
@@ -169,6 +176,7 @@ pub fn schedule_of(
     requires { IsLawful swap.now }
     ensures schedule { IfOk result (λ s. IsScheduled swap.now calendars.now fixings.now s) }
     ensures refused { IfErr result (λ r. IfRefused r (IsUnscheduled swap.now calendars.now fixings.now)) }
+    ensures placed { IfErr result (λ r. IsOtherwise r) }
 {
     match check_terms(swap, calendars) {
         Some(broken) => Err(Refusal::Rule(broken)),

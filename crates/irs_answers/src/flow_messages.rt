@@ -1,10 +1,11 @@
 //! The lines of an audit: the verdict, and the first fault of the flows. Names of fields are FpML's. They take
 //! no memory.
 ghost use Rattle.std.specs.Prelude.{◌≡◌, ◌≤◌, ◌++◌, ◌∷◌, codes, decimal, length};
-ghost use Rattle.irs_answers.specs.FlowMessages.{bad_flows, departure_text, shape_name};
+ghost use Rattle.irs_answers.specs.FlowMessages.{bad_flows, departure_text, shape_name, whole_document};
+ghost use Rattle.irs_audit.specs.declared.error.ShapeKind.TheVariants.{NotJson};
 
 use irs_audit::{Departure, ShapeKind};
-use irs_base::{Line, Place};
+use irs_base::{Elem, Line, Place};
 
 /// The line of flows that agree: `yes ROWS UNFIXED`.
 pub(crate) fn yes_line(rows: u32, unfixed: u32, line: &mut Line)
@@ -42,6 +43,18 @@ pub(crate) fn bad_flows_line(kind: ShapeKind, place: Place, line: &mut Line)
     line.put_field(elem.path().as_bytes());
     line.put_number(place.index);
     line.push(b"\n");
+}
+
+/// The line of flows without a reading.
+pub(crate) fn not_read_line(line: &mut Line)
+    ensures { line.new ≡ bad_flows NotJson whole_document }
+{
+    let place = Place {
+        stream: 0,
+        elem: Elem::DOCUMENT,
+        index: 0,
+    };
+    bad_flows_line(ShapeKind::NotJson, place, line);
 }
 
 fn shape_name(kind: ShapeKind) -> &'static str

@@ -1,11 +1,10 @@
 //! The two forms of a document's text, and the value that it means.
-ghost use Rattle.irs_answers.specs.Forms.{TextReads, no_text, source_by};
-ghost use Rattle.irs_answers.specs.Outcomes.{of_json, of_xml};
+ghost use Rattle.irs_answers.specs.Forms.{TextReads, json_text, no_text, source_by, xml_text};
+ghost use Rattle.irs_answers.specs.Outcomes.{ReadFails, of_json, of_xml};
 ghost use Rattle.irs_json.specs.Reading.{Reads};
 ghost use Rattle.irs_xml.specs.Document.{XmlReads};
-ghost use Rattle.serde_json.specs.Data.{Data};
 ghost use Rattle.serde_json.specs.View.{view};
-ghost use Rattle.std.specs.Prelude.{◌≡◌, IfOk, IsErrOf};
+ghost use Rattle.std.specs.Prelude.{◌≡◌, IfErr, IfOk};
 
 use irs_json::{JsonErr, Value, parse};
 use irs_xml::{XmlErr, read_xml};
@@ -41,11 +40,21 @@ impl Source {
     }
 }
 
+/// How a text has no reading.
+#[derive(Clone, Copy)]
+pub enum Unread {
+    /// It isn't JSON.
+    Json,
+    /// It isn't XML that is read here. The line and the column, from 1 and in bytes, are where the reader
+    /// stopped.
+    Xml { line: u32, column: u32 },
+}
+
 /// Why a text gave no value.
 #[derive(Clone, Copy)]
 pub enum ReadErr {
     /// The text has no reading in its form.
-    Unreadable,
+    Unreadable(Unread),
     /// Memory ran out.
     Memory,
 }
@@ -55,7 +64,7 @@ impl From<JsonErr> for ReadErr {
 
     fn from(e: JsonErr) -> ReadErr {
         match e {
-            JsonErr::NotJson => ReadErr::Unreadable,
+            JsonErr::NotJson => ReadErr::Unreadable(Unread::Json),
             JsonErr::Memory => ReadErr::Memory,
         }
     }
@@ -66,16 +75,17 @@ impl From<XmlErr> for ReadErr {
 
     fn from(e: XmlErr) -> ReadErr {
         match e {
-            XmlErr::NotXml(_, _) => ReadErr::Unreadable,
+            XmlErr::NotXml(line, column) => ReadErr::Unreadable(Unread::Xml { line, column }),
             XmlErr::Memory => ReadErr::Memory,
         }
     }
 }
 
-/// The value that a text means in its form. `Unreadable` comes only where it means none.
+/// The value that a text means in its form. `Unreadable` comes only where it means none, and says where the
+/// reading of XML stopped.
 pub fn read_document(alloc: Global, source: &Source) -> Result<Value, ReadErr>
     ensures reads { IfOk result (λ v. TextReads (source_by source.now) (view v)) }
-    ensures none { IsErrOf result ReadErr.Unreadable → (d : Data) → ¬ (TextReads (source_by source.now) d) }
+    ensures fails { IfErr result (λ e. ReadFails (source_by source.now) e) }
 {
     match source.form {
         Form::Json => read_json(alloc, &source.bytes),
@@ -86,15 +96,15 @@ pub fn read_document(alloc: Global, source: &Source) -> Result<Value, ReadErr>
 // The value of a JSON text.
 fn read_json(alloc: Global, bytes: &[u8]) -> Result<Value, ReadErr>
     ensures reads { IfOk result (λ v. Reads bytes.now (view v)) }
-    ensures none { IsErrOf result ReadErr.Unreadable → (d : Data) → ¬ (Reads bytes.now d) }
+    ensures fails { IfErr result (λ e. ReadFails (json_text bytes.now) e) }
 {
     Ok(parse(alloc, bytes)?)
 }
 
-/// The value of FpML XML. `Unreadable` comes only where the bytes mean none.
+/// The value of FpML XML. `Unreadable` comes only where the bytes mean none, and says where the reading stopped.
 pub(crate) fn read_fpml(alloc: Global, bytes: &[u8]) -> Result<Value, ReadErr>
     ensures reads { IfOk result (λ v. XmlReads bytes.now (view v)) }
-    ensures none { IsErrOf result ReadErr.Unreadable → (d : Data) → ¬ (XmlReads bytes.now d) }
+    ensures fails { IfErr result (λ e. ReadFails (xml_text bytes.now) e) }
 {
     Ok(read_xml(alloc, bytes)?)
 }

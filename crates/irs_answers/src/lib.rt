@@ -26,7 +26,7 @@ pub use causes::Cause;
 pub use common::Common;
 pub use due::{Found, find, reply_by, reply_of, schedule_of};
 pub use files::TaskFiles;
-pub use forms::{Form, ReadErr, Source, read_document};
+pub use forms::{Form, ReadErr, Source, Unread, read_document};
 pub use refusals::Refusal;
 pub use replies::{Reply, verdict_line};
 pub use tasks::Task;

@@ -1,8 +1,8 @@
 //! The lines of broken rules and of faulty files. They take no memory.
 ghost use Rattle.std.specs.Prelude.{◌≡◌, ◌≤◌, ◌++◌, ◌∷◌, codes, decimal, length};
-ghost use Rattle.irs_answers.specs.Messages.{refused};
+ghost use Rattle.irs_answers.specs.Messages.{refused, unreadable};
 
-use irs_base::{Broken, Line};
+use irs_base::{Broken, Elem, Line, Place, Rule};
 
 /// The line of a broken rule: `refused RULE STREAM PATH INDEX`.
 pub(crate) fn refused_line(broken: Broken, line: &mut Line)
@@ -17,6 +17,19 @@ pub(crate) fn refused_line(broken: Broken, line: &mut Line)
     line.put_field(elem.path().as_bytes());
     line.put_number(place.index);
     line.push(b"\n");
+}
+
+/// The line of a document without a reading: that of K1.
+pub(crate) fn unreadable_line(line: &mut Line)
+    ensures { line.new ≡ refused unreadable }
+{
+    let place = Place {
+        stream: 0,
+        elem: Elem::DOCUMENT,
+        index: 0,
+    };
+    let rule = Rule::K1;
+    refused_line(Broken { rule, place }, line);
 }
 
 /// The line of a calendar file that is at fault: `bad calendar FILE LINE FAULT`.

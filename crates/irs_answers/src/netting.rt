@@ -5,6 +5,7 @@ ghost use Rattle.irs_base.specs.Members.{Every};
 ghost use Rattle.irs_net.specs.Nets.{HasPlaces};
 ghost use Rattle.irs_answers.specs.Netted.{IsSided, TellsNet, TellsNetOf, net_page};
 ghost use Rattle.irs_answers.specs.Outcomes.{Ends, IfAnswered};
+ghost use Rattle.irs_answers.specs.Unread.{NoneUnread};
 
 use crate::due::Found;
 use crate::refusals::Refusal;
@@ -17,8 +18,9 @@ use std::alloc::Global;
 /// The net of a schedule, by the sides that were read.
 pub(crate) fn net_answer(alloc: Global, found: &Found<'_>) -> Result<Reply, Refusal>
     requires { IsSided found.now.sides found.now.schedule }
-    ensures { IfAnswered result
+    ensures due { IfAnswered result
         (Ends (λ status text. (status ≡ 0) × TellsNet found.now.sides found.now.schedule text)) }
+    ensures placed { NoneUnread result }
 {
     let Some(sides) = found.sides else {
         unreachable!()

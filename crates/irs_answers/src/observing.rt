@@ -10,6 +10,7 @@ ghost use Rattle.irs_answers.specs.Accrued.{IsAccruing, accruing};
 ghost use Rattle.irs_answers.specs.Observed.{AreRowsIn, DailyStream, DueObservations, IsDailyAt, daily_stream};
 ghost use Rattle.irs_answers.specs.Observed.{no_daily_stream as no_daily_stream_of};
 ghost use Rattle.irs_answers.specs.Outcomes.{Ends, IfAnswered};
+ghost use Rattle.irs_answers.specs.Unread.{NoneUnread};
 
 use crate::due::Found;
 use crate::refusals::Refusal;
@@ -29,8 +30,9 @@ pub(crate) fn observations_answer(
     found: &Found<'_>,
 ) -> Result<Reply, Refusal>
     requires { IsAccruing (accruing found.now.swap found.now.calendars.now found.now.fixings.now) found.now.schedule }
-    ensures { let x = accruing found.now.swap found.now.calendars.now found.now.fixings.now in
+    ensures due { let x = accruing found.now.swap found.now.calendars.now found.now.fixings.now in
         IfAnswered result (Ends (DueObservations number x found.now.schedule)) }
+    ensures placed { NoneUnread result }
 {
     let (stream, float, parameters) = daily(&found.swap, number)?;
     let rows = rows_of(alloc, number, found, stream, float, parameters)?;

@@ -1,26 +1,29 @@
 //! Why a task isn't carried out.
 ghost use Rattle.std.specs.Prelude.{◌≡◌};
-ghost use Rattle.irs_answers.specs.Messages.{unreadable};
 ghost use Rattle.irs_answers.specs.Outcomes.{of_read, of_stopped};
 ghost use Rattle.irs_answers.specs.declared.refusals.Refusal.TheVariants.{Rule as OfRule, Calendars as OfCalendars};
 ghost use Rattle.irs_answers.specs.declared.refusals.Refusal.TheVariants.{Fixings as OfFixings, Flows as OfFlows};
 ghost use Rattle.irs_answers.specs.declared.refusals.Refusal.TheVariants.{Memory as OfMemory};
 
-use crate::forms::ReadErr;
+use crate::forms::{ReadErr, Unread};
 use irs_audit::FlowErr;
-use irs_base::{Broken, Elem, Memory, Place, Rule, Stopped};
+use irs_base::{Broken, Memory, Stopped};
 use irs_calendar::CalErr;
 use irs_resets::FixErr;
 
 /// Why a task isn't carried out: the first step that fails.
 #[derive(Clone, Copy)]
 pub enum Refusal {
+    /// The document has no reading, which is K1.
+    Unreadable(Unread),
     /// A rule is broken.
     Rule(Broken),
     /// A calendar file is outside its grammar or limits.
     Calendars(CalErr),
     /// The file of fixings is outside its grammar.
     Fixings(FixErr),
+    /// The flows have no reading.
+    UnreadableFlows(Unread),
     /// The flows are out of shape.
     Flows(FlowErr),
     /// Memory ran out.
@@ -41,7 +44,7 @@ impl From<ReadErr> for Refusal {
 
     fn from(e: ReadErr) -> Refusal {
         match e {
-            ReadErr::Unreadable => Refusal::Rule(unreadable()),
+            ReadErr::Unreadable(unread) => Refusal::Unreadable(unread),
             ReadErr::Memory => Refusal::Memory,
         }
     }
@@ -89,20 +92,5 @@ impl From<FlowErr> for Refusal {
 
     fn from(e: FlowErr) -> Refusal {
         Refusal::Flows(e)
-    }
-}
-
-/// The rule that a document without a reading breaks.
-fn unreadable() -> Broken
-    ensures { result ≡ unreadable }
-{
-    let place = Place {
-        stream: 0,
-        elem: Elem::DOCUMENT,
-        index: 0,
-    };
-    Broken {
-        rule: Rule::K1,
-        place,
     }
 }

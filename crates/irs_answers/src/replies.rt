@@ -5,10 +5,12 @@ ghost use Rattle.irs_answers.specs.Causes.{IsJudged};
 ghost use Rattle.irs_answers.specs.Outcomes.{answer_of};
 ghost use Rattle.irs_answers.specs.declared.refusals.Refusal.TheVariants.{Calendars as OfCalendars, Fixings as OfFixings};
 ghost use Rattle.irs_answers.specs.declared.refusals.Refusal.TheVariants.{Flows as OfFlows};
+ghost use Rattle.irs_answers.specs.declared.replies.Reply.TheVariants.{Refused};
+ghost use Rattle.irs_answers.specs.Unread.{IsPlain};
 ghost use Rattle.irs_answers.specs.Replying.{calendars_text, fixings_text, flows_text, refusal_text, reply_status, reply_text};
 
-use crate::flow_messages::{bad_flows_line, departure_line, yes_line};
-use crate::messages::{bad_calendar_line, bad_fixings_line, refused_line};
+use crate::flow_messages::{bad_flows_line, departure_line, not_read_line, yes_line};
+use crate::messages::{bad_calendar_line, bad_fixings_line, refused_line, unreadable_line};
 use crate::refusals::Refusal;
 use irs_audit::{FlowErr, Verdict};
 use irs_base::{Line, Memory};
@@ -35,7 +37,8 @@ pub enum Reply {
 impl Reply {
     /// A text of a task that is done. `Memory` comes where memory ran out.
     pub(crate) fn done(alloc: Global, text: &[u8]) -> Result<Reply, Memory>
-        ensures { IfOk result (λ r. (reply_status r ≡ 0) × (reply_text r ≡ text.now)) }
+        ensures done { IfOk result (λ r. (reply_status r ≡ 0) × (reply_text r ≡ text.now)) }
+        ensures plain { IfOk result (λ r. IsPlain r) }
     {
         Ok(Reply::Text(Vec::from_slice(alloc, text)?))
     }
@@ -56,11 +59,14 @@ impl Refusal {
     pub fn reply(self) -> Result<Reply, Memory>
         ensures answer { IfOk result (λ r. answer_of self ≡ Some (reply_status r, reply_text r)) }
         ensures judged { IfOk result IsJudged }
+        ensures refused { IfOk result (λ r. r ≡ Refused self) }
     {
         match self {
+            Refusal::Unreadable(_) => Ok(Reply::Refused(self)),
             Refusal::Rule(_) => Ok(Reply::Refused(self)),
             Refusal::Calendars(e) => calendars_reply(e),
             Refusal::Fixings(e) => fixings_reply(e),
+            Refusal::UnreadableFlows(_) => Ok(Reply::Refused(self)),
             Refusal::Flows(e) => flows_reply(e),
             Refusal::Memory => Err(Memory),
         }
@@ -71,9 +77,11 @@ impl Refusal {
         ensures { line.new ≡ refusal_text self }
     {
         match self {
+            Refusal::Unreadable(_) => unreadable_line(line),
             Refusal::Rule(broken) => refused_line(broken, line),
             Refusal::Calendars(e) => calendars_line(e, line),
             Refusal::Fixings(e) => fixings_line(e, line),
+            Refusal::UnreadableFlows(_) => not_read_line(line),
             Refusal::Flows(e) => flows_line(e, line),
             Refusal::Memory => line.clear(),
         }
@@ -84,6 +92,7 @@ impl Refusal {
 fn calendars_reply(e: CalErr) -> Result<Reply, Memory>
     ensures answer { IfOk result (λ r. answer_of (OfCalendars e) ≡ Some (reply_status r, reply_text r)) }
     ensures judged { IfOk result IsJudged }
+    ensures refused { IfOk result (λ r. r ≡ Refused (OfCalendars e)) }
 {
     match e {
         CalErr::Syntax(_, _) => Ok(Reply::Refused(Refusal::Calendars(e))),
@@ -97,6 +106,7 @@ fn calendars_reply(e: CalErr) -> Result<Reply, Memory>
 fn fixings_reply(e: FixErr) -> Result<Reply, Memory>
     ensures answer { IfOk result (λ r. answer_of (OfFixings e) ≡ Some (reply_status r, reply_text r)) }
     ensures judged { IfOk result IsJudged }
+    ensures refused { IfOk result (λ r. r ≡ Refused (OfFixings e)) }
 {
     match e {
         FixErr::Syntax(_) => Ok(Reply::Refused(Refusal::Fixings(e))),
@@ -109,6 +119,7 @@ fn fixings_reply(e: FixErr) -> Result<Reply, Memory>
 fn flows_reply(e: FlowErr) -> Result<Reply, Memory>
     ensures answer { IfOk result (λ r. answer_of (OfFlows e) ≡ Some (reply_status r, reply_text r)) }
     ensures judged { IfOk result IsJudged }
+    ensures refused { IfOk result (λ r. r ≡ Refused (OfFlows e)) }
 {
     match e {
         FlowErr::Shape(_, _) => Ok(Reply::Refused(Refusal::Flows(e))),

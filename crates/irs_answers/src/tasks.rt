@@ -19,6 +19,8 @@ pub enum Task {
     Breaks(Option<Day>),
     /// The schedule of a document as cash flows.
     Emit,
+    /// The same cash flows in FpML XML.
+    EmitXml,
     /// What has accrued on a day in each stream of the schedule.
     Accrue(Day),
     /// What falls due between the two parties on each date and in each currency.
@@ -53,6 +55,7 @@ impl Task {
             Task::Audit => true,
             Task::Breaks(_) => true,
             Task::Emit => true,
+            Task::EmitXml => true,
             Task::Accrue(_) => true,
             Task::Net => true,
             Task::Observations(_) => true,
@@ -72,6 +75,7 @@ impl Task {
             Task::Audit => false,
             Task::Breaks(_) => false,
             Task::Emit => false,
+            Task::EmitXml => false,
             Task::Accrue(_) => false,
             Task::Net => true,
             Task::Observations(_) => false,

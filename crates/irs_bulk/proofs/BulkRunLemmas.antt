@@ -20,7 +20,8 @@ use Rattle.irs_audit.specs.declared.error.FlowErr.TheVariants as flowing
 use Rattle.irs_audit.proofs.VerdictLemmas.{one_verdict}
 use Rattle.irs_answers.specs.declared.tasks.Task.TheVariants.{Schedule}
 use Rattle.irs_answers.specs.declared.refusals.Refusal.{Refusal}
-use Rattle.irs_answers.specs.declared.refusals.Refusal.TheVariants.{Rule, Calendars, Fixings, Flows, Memory}
+use Rattle.irs_answers.specs.declared.refusals.Refusal.TheVariants.{Rule, Calendars, Fixings, Flows, Memory, Unreadable}
+use Rattle.irs_answers.specs.declared.refusals.Refusal.TheVariants.{UnreadableFlows}
 use Rattle.irs_answers.specs.Forms.{json_text}
 use Rattle.irs_answers.specs.Due.{Spells, facts}
 use Rattle.irs_answers.specs.Outcomes.{Answer, answer_of, Ends, IfRefused, IsScheduled, IsUnscheduled}
@@ -138,9 +139,11 @@ flows_zero flowing.Memory = tt
 
 -- the status of a refusal isn't 0
 refused_zero : (r : Refusal) → IfSome (answer_of r) (λ a. a.0 ≡ 0 → ⊥)
+refused_zero (Unreadable u) = λ z. omega (arith, z)
 refused_zero (Rule b) = λ z. omega (arith, z)
 refused_zero (Calendars e) = calendars_zero e
 refused_zero (Fixings e) = fixings_zero e
+refused_zero (UnreadableFlows u) = λ z. omega (arith, z)
 refused_zero (Flows e) = flows_zero e
 refused_zero Memory = tt
 

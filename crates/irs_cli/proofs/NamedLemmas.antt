@@ -45,6 +45,7 @@ at_role kind.Audit j = at_three j
 at_role kind.Breaks j = at_three j
 at_role kind.Bulk j = at_none j
 at_role kind.Emit j = at_two j
+at_role kind.EmitXml j = at_two j
 at_role kind.Accrue j = at_two j
 at_role kind.Net j = at_two j
 at_role kind.Observations j = at_two j

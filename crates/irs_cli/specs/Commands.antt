@@ -62,6 +62,7 @@ kind_of w =
     if bytes_eq w (codes "breaks") then Some kind.Breaks else
     if bytes_eq w (codes "bulk") then Some kind.Bulk else
     if bytes_eq w (codes "emit") then Some kind.Emit else
+    if bytes_eq w (codes "emit-xml") then Some kind.EmitXml else
     if bytes_eq w (codes "accrue") then Some kind.Accrue else
     if bytes_eq w (codes "net") then Some kind.Net else
     if bytes_eq w (codes "observations") then Some kind.Observations else
@@ -78,6 +79,7 @@ params_of kind.Audit = 0
 params_of kind.Breaks = 1
 params_of kind.Bulk = 1
 params_of kind.Emit = 0
+params_of kind.EmitXml = 0
 params_of kind.Accrue = 1
 params_of kind.Net = 0
 params_of kind.Observations = 1
@@ -94,6 +96,7 @@ roles_of kind.Audit = Document ∷ Fixings ∷ Flows ∷ []
 roles_of kind.Breaks = Document ∷ Fixings ∷ Flows ∷ []
 roles_of kind.Bulk = []
 roles_of kind.Emit = Document ∷ Fixings ∷ []
+roles_of kind.EmitXml = Document ∷ Fixings ∷ []
 roles_of kind.Accrue = Document ∷ Fixings ∷ []
 roles_of kind.Net = Document ∷ Fixings ∷ []
 roles_of kind.Observations = Document ∷ Fixings ∷ []
@@ -110,6 +113,7 @@ calendars_of kind.Audit = most_calendars
 calendars_of kind.Breaks = most_calendars
 calendars_of kind.Bulk = 0
 calendars_of kind.Emit = most_calendars
+calendars_of kind.EmitXml = most_calendars
 calendars_of kind.Accrue = most_calendars
 calendars_of kind.Net = most_calendars
 calendars_of kind.Observations = most_calendars
@@ -212,6 +216,7 @@ IsRequest kind.Audit ws r = r ≡ OverFiles task.Audit
 IsRequest kind.Breaks ws r = AsksBreaks ws r
 IsRequest kind.Bulk ws r = AsksBulk ws r
 IsRequest kind.Emit ws r = r ≡ OverFiles task.Emit
+IsRequest kind.EmitXml ws r = r ≡ OverFiles task.EmitXml
 IsRequest kind.Accrue ws r = AsksAccrue ws r
 IsRequest kind.Net ws r = r ≡ OverFiles task.Net
 IsRequest kind.Observations ws r = AsksObservations ws r

@@ -3,7 +3,8 @@
 //! `check DOC CAL..` asks whether a document keeps every rule, without fixings. `schedule DOC FIX CAL..` asks
 //! for its schedule. `audit DOC FIX FLOWS CAL..` asks whether the cash flows of FLOWS agree with that
 //! schedule. `breaks FROM DOC FIX FLOWS CAL..` asks for each break between them, for what is due from a day
-//! on, or with `-` for all. `emit DOC FIX CAL..` asks for the schedule as cash flows.
+//! on, or with `-` for all. `emit DOC FIX CAL..` asks for the schedule as cash flows, and
+//! `emit-xml DOC FIX CAL..` for the same in FpML XML.
 //! `accrue DATE DOC FIX CAL..` asks what has accrued on a day in each stream of that schedule.
 //! `net DOC FIX CAL..` asks what falls due between the two parties. `observations STREAM DOC FIX CAL..` asks
 //! for the days and the daily rates of each rate of a stream. `overnight STREAM DOC DAILY CAL..` asks for the
@@ -47,6 +48,8 @@ pub(crate) enum Kind {
     Bulk,
     /// `emit`: a schedule as cash flows (FpML `cashflows`).
     Emit,
+    /// `emit-xml`: the same cash flows in FpML XML.
+    EmitXml,
     /// `accrue`: what has accrued on a day.
     Accrue,
     /// `net`: what falls due between the two parties.
@@ -123,6 +126,8 @@ pub(crate) fn kind_of(word: &str) -> Option<Kind>
         Some(Kind::Bulk)
     } else if word == "emit" {
         Some(Kind::Emit)
+    } else if word == "emit-xml" {
+        Some(Kind::EmitXml)
     } else if word == "accrue" {
         Some(Kind::Accrue)
     } else if word == "net" {
@@ -154,6 +159,7 @@ impl Kind {
             Kind::Breaks => 1,
             Kind::Bulk => 1,
             Kind::Emit => 0,
+            Kind::EmitXml => 0,
             Kind::Accrue => 1,
             Kind::Net => 0,
             Kind::Observations => 1,
@@ -175,6 +181,7 @@ impl Kind {
             Kind::Breaks => &[Role::Document, Role::Fixings, Role::Flows],
             Kind::Bulk => &[],
             Kind::Emit => &[Role::Document, Role::Fixings],
+            Kind::EmitXml => &[Role::Document, Role::Fixings],
             Kind::Accrue => &[Role::Document, Role::Fixings],
             Kind::Net => &[Role::Document, Role::Fixings],
             Kind::Observations => &[Role::Document, Role::Fixings],
@@ -196,6 +203,7 @@ impl Kind {
             Kind::Breaks => MOST_FILES,
             Kind::Bulk => 0,
             Kind::Emit => MOST_FILES,
+            Kind::EmitXml => MOST_FILES,
             Kind::Accrue => MOST_FILES,
             Kind::Net => MOST_FILES,
             Kind::Observations => MOST_FILES,
@@ -258,6 +266,7 @@ fn request_of(kind: Kind, words: &[String]) -> Option<Request>
         Kind::Breaks => breaks_of(words),
         Kind::Bulk => bulk_of(words),
         Kind::Emit => Some(Request::OverFiles(Task::Emit)),
+        Kind::EmitXml => Some(Request::OverFiles(Task::EmitXml)),
         Kind::Accrue => accrue_of(words),
         Kind::Net => Some(Request::OverFiles(Task::Net)),
         Kind::Observations => observations_of(words),

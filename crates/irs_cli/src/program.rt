@@ -33,13 +33,14 @@ use std::alloc::Global;
 /// command. 5: a file can't be read. 6: a write failed. 7: out of memory. 8: a file is too long.
 ///
 /// The commands over files are `check DOC CAL..`, `schedule DOC FIX CAL..`, `audit DOC FIX FLOWS CAL..`,
-/// `breaks FROM DOC FIX FLOWS CAL..`, `emit DOC FIX CAL..`, `accrue DATE DOC FIX CAL..`, `net DOC FIX CAL..`,
-/// `observations STREAM DOC FIX CAL..`, `overnight STREAM DOC DAILY CAL..`,
-/// `average STREAM KIND STEP DOC FIX CAL..` and `interpolate STREAM SIDE LOW HIGH DOC FIX CAL..`. Each takes
-/// 0 to 16 calendars, and `-` as FIX or DAILY means no fixings. All files are fetched first, in the order of
-/// the words; the flows are read when no rule is broken. `bulk N`, with N from 1 to 500, names no file.
-/// `carrier DOC` prints the value of a document in XML as JSON; its name ends in `.xml`. Every DOC and FLOWS
-/// with such a name is read as XML, any other as JSON.
+/// `breaks FROM DOC FIX FLOWS CAL..`, `emit DOC FIX CAL..`, `emit-xml DOC FIX CAL..`,
+/// `accrue DATE DOC FIX CAL..`, `net DOC FIX CAL..`, `observations STREAM DOC FIX CAL..`,
+/// `overnight STREAM DOC DAILY CAL..`, `average STREAM KIND STEP DOC FIX CAL..` and
+/// `interpolate STREAM SIDE LOW HIGH DOC FIX CAL..`. Each takes 0 to 16 calendars, and `-` as FIX or DAILY
+/// means no fixings. All files are fetched first, in the order of the words; the flows are read when no rule
+/// is broken. `bulk N`, with N from 1 to 500, names no file. `carrier DOC` prints the value of a document in
+/// XML as JSON; its name ends in `.xml`. Every DOC and FLOWS with such a name is read as XML, any other as
+/// JSON.
 pub fn run<F: Files, S: Sink>(alloc: Global, words: &[String], files: &mut F, out: &mut S) -> u8
     // What the source states of its files is the same afterwards.
     ensures told { (n : List ℕ) → F.told files.new n ≡ F.told files.old n }

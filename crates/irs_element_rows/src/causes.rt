@@ -1,6 +1,6 @@
 //! What a run came to, by its status and the line that it printed.
 use crate::order_rows::{broken_of, elem_of};
-use irs_answers::Refusal;
+use irs_answers::{Refusal, Unread};
 use irs_audit::{Departure, Field, FlowErr, RowKind, ShapeKind};
 use irs_base::Place;
 use irs_calendar::CalErr;
@@ -83,9 +83,22 @@ fn field_of(name: &str) -> Option<Field> {
     }
 }
 
-// `refused RULE STREAM PATH INDEX`.
+// `refused RULE STREAM PATH INDEX`; K1 may have the place where the reading of XML stopped after it.
 fn refused(line: &str) -> Option<Refusal> {
-    Some(Refusal::Rule(broken_of(line.strip_prefix("refused ")?)?))
+    match line.strip_prefix("refused K1 0 document 0") {
+        Some(rest) => Some(Refusal::Unreadable(unread(rest)?)),
+        None => Some(Refusal::Rule(broken_of(line.strip_prefix("refused ")?)?)),
+    }
+}
+
+// Nothing, or ` at LINE COLUMN`.
+fn unread(rest: &str) -> Option<Unread> {
+    if rest.is_empty() {
+        return Some(Unread::Json);
+    }
+    let (line, column) = rest.strip_prefix(" at ")?.split_once(' ')?;
+    let (line, column) = (number_of(line)?, number_of(column)?);
+    Some(Unread::Xml { line, column })
 }
 
 // A calendar, fixing or flow file that is at fault.
@@ -95,7 +108,7 @@ fn bad_file(line: &str) -> Option<Refusal> {
     } else if let Some(rest) = line.strip_prefix("bad fixings ") {
         Some(Refusal::Fixings(bad_fixings(rest)?))
     } else {
-        Some(Refusal::Flows(bad_flows(line.strip_prefix("bad flows ")?)?))
+        flows_at_fault(line.strip_prefix("bad flows ")?)
     }
 }
 
@@ -120,6 +133,14 @@ fn bad_fixings(text: &str) -> Option<FixErr> {
         "syntax" => Some(FixErr::Syntax(line)),
         "repeat" => Some(FixErr::Repeat(line)),
         _ => None,
+    }
+}
+
+// `KIND STREAM PATH INDEX`; `notjson` may have the place where the reading of XML stopped after it.
+fn flows_at_fault(text: &str) -> Option<Refusal> {
+    match text.strip_prefix("notjson 0 document 0") {
+        Some(rest) => Some(Refusal::UnreadableFlows(unread(rest)?)),
+        None => Some(Refusal::Flows(bad_flows(text)?)),
     }
 }
 

@@ -1,6 +1,8 @@
 -- The sentence on what a run comes to, as texts that are joined.
 use Rattle.irs_answers.specs.declared.causes.Cause.{Cause}
 use Rattle.irs_answers.specs.declared.causes.Cause.TheVariants as reply
+use Rattle.irs_answers.specs.declared.forms.Unread.{Unread}
+use Rattle.irs_answers.specs.declared.forms.Unread.TheVariants as unread
 use Rattle.irs_answers.specs.declared.refusals.Refusal.{Refusal}
 use Rattle.irs_answers.specs.declared.refusals.Refusal.TheVariants as refusal
 use Rattle.irs_audit.specs.RowNames.{field_name, row_name}
@@ -9,6 +11,7 @@ use Rattle.irs_audit.specs.declared.error.FlowErr.{FlowErr}
 use Rattle.irs_audit.specs.declared.error.FlowErr.TheVariants as flowing
 use Rattle.irs_audit.specs.declared.error.ShapeKind.{ShapeKind}
 use Rattle.irs_audit.specs.declared.error.ShapeKind.TheVariants.{NotJson}
+use Rattle.irs_base.specs.Elements.{document}
 use Rattle.irs_base.specs.Paths.{path_of}
 use Rattle.irs_base.specs.Rules.{rule_number}
 use Rattle.irs_base.specs.declared.places.Broken.{Broken}
@@ -74,6 +77,44 @@ refused words b =
     about (codes "K") (decimal (rule_number b.rule)) (codes ": ") (file_name words role.Document 0)
     (row_of_rule b.rule) b.place.stream (path_of b.place.elem) (index_told b.rule b.place.index)
 
+-- ---- a text without a reading
+
+-- a text, where it is said where the reading of XML stopped
+abbrev pub if_stopped : Unread → List ℕ → List ℕ
+if_stopped unread.Json text = []
+if_stopped (unread.Xml line column) text = text
+
+-- the line where the reading of XML stopped
+abbrev pub line_stopped : Unread → List ℕ
+line_stopped unread.Json = []
+line_stopped (unread.Xml line column) = decimal line
+
+-- the column where it stopped
+abbrev pub column_stopped : Unread → List ℕ
+column_stopped unread.Json = []
+column_stopped (unread.Xml line column) = decimal column
+
+-- what a row of the table says of a text without a reading in the file of this name, after three opening texts; and where
+-- the reading of XML stopped
+abbrev pub unread_as : List ℕ → List ℕ → List ℕ → List ℕ → ℕ → Unread → List (List ℕ)
+unread_as one two three file row u =
+    one ∷ two ∷ three
+    ∷ before row ∷ name_words (path_of document) ∷ after_in file row
+    ∷ if_stopped u (codes " (reading stopped at line ") ∷ line_stopped u
+    ∷ if_stopped u (codes ", column ") ∷ column_stopped u ∷ if_stopped u (codes ")")
+    ∷ []
+
+-- a document without a reading
+abbrev pub no_document : List (List ℕ) → Unread → List (List ℕ)
+no_document words u =
+    unread_as (codes "K") (decimal (rule_number K1)) (codes ": ") (file_name words role.Document 0) (row_of_rule K1) u
+
+-- cash flows without a reading
+abbrev pub no_flows : List (List ℕ) → Unread → List (List ℕ)
+no_flows words u =
+    unread_as (codes "cash flows (") (file_name words role.Flows 0) (codes "): ") (file_name words role.Flows 0)
+    (row_of_shape NotJson) u
+
 -- ---- memory
 
 -- memory ran out
@@ -120,9 +161,11 @@ bad_flows words flowing.Memory = no_memory
 
 -- a task isn't carried out
 abbrev pub refused_by : List (List ℕ) → Refusal → List (List ℕ)
+refused_by words (refusal.Unreadable u) = no_document words u
 refused_by words (refusal.Rule b) = refused words b
 refused_by words (refusal.Calendars e) = bad_calendars words e
 refused_by words (refusal.Fixings e) = bad_fixings words e
+refused_by words (refusal.UnreadableFlows u) = no_flows words u
 refused_by words (refusal.Flows e) = bad_flows words e
 refused_by words refusal.Memory = no_memory
 

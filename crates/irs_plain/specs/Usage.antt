@@ -11,6 +11,7 @@ commands =
     ∷ codes "audit DOC FIX FLOWS CAL.."
     ∷ codes "breaks FROM DOC FIX FLOWS CAL.."
     ∷ codes "emit DOC FIX CAL.."
+    ∷ codes "emit-xml DOC FIX CAL.."
     ∷ codes "net DOC FIX CAL.."
     ∷ codes "accrue DATE DOC FIX CAL.."
     ∷ codes "observations STREAM DOC FIX CAL.."

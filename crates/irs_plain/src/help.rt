@@ -3,12 +3,13 @@
 /// The listed commands. DOC is a document of terms and FLOWS one of cash flows. FIX and DAILY are files of
 /// fixings, or `-` for none. CAL is a calendar file, DATE a date, and FROM a date or `-` for all. The other
 /// words are those of the command.
-pub const COMMANDS: [&str; 13] = [
+pub const COMMANDS: [&str; 14] = [
     "check DOC CAL..",
     "schedule DOC FIX CAL..",
     "audit DOC FIX FLOWS CAL..",
     "breaks FROM DOC FIX FLOWS CAL..",
     "emit DOC FIX CAL..",
+    "emit-xml DOC FIX CAL..",
     "net DOC FIX CAL..",
     "accrue DATE DOC FIX CAL..",
     "observations STREAM DOC FIX CAL..",
@@ -29,6 +30,7 @@ irs: proved schedules of interest rate swaps
   irs breaks FROM DOC FIX FLOWS CAL..
                                   each difference of cash flows, for what is due from FROM on
   irs emit DOC FIX CAL..          the schedule as cash flows in FpML's words
+  irs emit-xml DOC FIX CAL..      the schedule as cash flows in FpML XML
   irs net DOC FIX CAL..           what the two parties pay each other, by day and currency
   irs accrue DATE DOC FIX CAL..   what has accrued in each stream on a day
   irs observations STREAM DOC FIX CAL..

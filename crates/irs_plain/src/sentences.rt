@@ -7,8 +7,11 @@ ghost use Rattle.irs_plain.specs.Sentences.{about as about_of, after_in as after
 ghost use Rattle.irs_plain.specs.Sentences.{bad_calendar as bad_calendar_of, bad_calendars as bad_calendars_of};
 ghost use Rattle.irs_plain.specs.Sentences.{bad_fixing as bad_fixing_of, bad_fixings as bad_fixings_of};
 ghost use Rattle.irs_plain.specs.Sentences.{bad_flows as bad_flows_of, bad_shape as bad_shape_of, some_break as some_break_of};
+ghost use Rattle.irs_plain.specs.Sentences.{column_stopped as column_stopped_of, if_stopped as if_stopped_of};
 ghost use Rattle.irs_plain.specs.Sentences.{departs as departs_of, ending as ending_of, help_hint as help_hint_of};
 ghost use Rattle.irs_plain.specs.Sentences.{is_of_field as is_of_field_of, is_silent as is_silent_of, is_unread as is_unread_of};
+ghost use Rattle.irs_plain.specs.Sentences.{line_stopped as line_stopped_of, no_document as no_document_of};
+ghost use Rattle.irs_plain.specs.Sentences.{no_flows as no_flows_of, unread_as as unread_as_of};
 ghost use Rattle.irs_plain.specs.Sentences.{no_memory as no_memory_of, no_text as no_text_of, of_field as of_field_of};
 ghost use Rattle.irs_plain.specs.Sentences.{index_told as index_told_of, not_agreed as not_agreed_of};
 ghost use Rattle.irs_plain.specs.Sentences.{number_unless_stream as number_unless_stream_of};
@@ -26,7 +29,7 @@ use crate::lookup::{after, before, row_of_rule, row_of_shape};
 use crate::parts::{Part, Sentence, of_three, put_parts, short};
 use crate::words::word_at;
 use crate::wrong_words::{is_help, unlisted};
-use irs_answers::Refusal;
+use irs_answers::{Refusal, Unread};
 use irs_audit::{Departure, FlowErr, ShapeKind};
 use irs_base::{Broken, Elem, Place, Rule};
 use irs_calendar::CalErr;
@@ -150,6 +153,92 @@ fn refused(words: &[String], broken: Broken) -> Sentence<'_>
     )
 }
 
+// ---- a text without a reading
+
+// The text, where it is said where the reading of XML stopped.
+fn if_stopped<'a>(unread: Unread, text: &'a [u8]) -> &'a [u8]
+    ensures { result.now ≡ if_stopped_of unread text.now }
+{
+    match unread {
+        Unread::Json => b"",
+        Unread::Xml { .. } => text,
+    }
+}
+
+// The line where the reading of XML stopped.
+fn line_stopped<'a>(unread: Unread) -> Part<'a>
+    ensures { part_text result ≡ line_stopped_of unread }
+{
+    match unread {
+        Unread::Json => Part::Text(b""),
+        Unread::Xml { line, .. } => Part::Number(line),
+    }
+}
+
+// The column where it stopped.
+fn column_stopped<'a>(unread: Unread) -> Part<'a>
+    ensures { part_text result ≡ column_stopped_of unread }
+{
+    match unread {
+        Unread::Json => Part::Text(b""),
+        Unread::Xml { column, .. } => Part::Number(column),
+    }
+}
+
+// What a row of the table says of a text without a reading, after an opening of three parts; and where the
+// reading of XML stopped.
+fn unread_as<'a>(opening: Opening<'a>, row: usize, unread: Unread) -> Sentence<'a>
+    ensures { said result
+        ≡ joined (unread_as_of opening.entry.first.now (part_text opening.entry.second) opening.entry.third.now
+        opening.entry.file.now row unread) }
+{
+    let none = Part::Text(b"");
+    Sentence {
+        parts: [
+            Part::Text(opening.first),
+            opening.second,
+            Part::Text(opening.third),
+            Part::Text(before(row)),
+            Part::Text(name_words(path_in(Elem::DOCUMENT))),
+            Part::Text(after_in(opening.file, row)),
+            Part::Text(if_stopped(unread, b" (reading stopped at line ")),
+            line_stopped(unread),
+            Part::Text(if_stopped(unread, b", column ")),
+            column_stopped(unread),
+            Part::Text(if_stopped(unread, b")")),
+            none,
+            none,
+        ],
+    }
+}
+
+// The document has no reading.
+fn no_document(words: &[String], unread: Unread) -> Sentence<'_>
+    ensures { said result ≡ joined (no_document_of (texts words.now) unread) }
+{
+    let opening = Opening {
+        first: b"K",
+        second: Part::Number(u32::from(Rule::K1.number())),
+        third: b": ",
+        file: file_name(words, Role::Document, 0),
+    };
+    unread_as(opening, row_of_rule(Rule::K1), unread)
+}
+
+// The cash flows have no reading.
+fn no_flows(words: &[String], unread: Unread) -> Sentence<'_>
+    ensures { said result ≡ joined (no_flows_of (texts words.now) unread) }
+{
+    let name = file_name(words, Role::Flows, 0);
+    let opening = Opening {
+        first: b"cash flows (",
+        second: Part::Text(name),
+        third: b"): ",
+        file: name,
+    };
+    unread_as(opening, row_of_shape(ShapeKind::NotJson), unread)
+}
+
 // ---- a file at fault
 
 // A line of the calendar file with that number is at fault.
@@ -270,9 +359,11 @@ fn refused_by(words: &[String], refusal: Refusal) -> Sentence<'_>
     ensures { said result ≡ joined (refused_by_of (texts words.now) refusal) }
 {
     match refusal {
+        Refusal::Unreadable(unread) => no_document(words, unread),
         Refusal::Rule(broken) => refused(words, broken),
         Refusal::Calendars(e) => bad_calendars(words, e),
         Refusal::Fixings(e) => bad_fixings(words, e),
+        Refusal::UnreadableFlows(unread) => no_flows(words, unread),
         Refusal::Flows(e) => bad_flows(words, e),
         Refusal::Memory => no_memory(),
     }

@@ -11,6 +11,7 @@ use Rattle.irs_answers.specs.Outcomes.{Ends, of_stopped}
 use Rattle.irs_answers.proofs.DerivedLemmas.{averaged_first, averaged_rows, ends_done, float_lawful, overnight_asked}
 use Rattle.irs_answers.proofs.DerivedLemmas.{refuse_stopped, stream_kept}
 use Rattle.irs_answers.proofs.StepLemmas.{answered_by}
+use Rattle.irs_answers.proofs.UnreadLemmas.{placed_by, stopped_placed}
 use Rattle.irs_answers.proofs.derived.average_answer.Goals as goal
 
 pub reset_days-requires-clause-kept : goal.reset_days-requires-clause-kept
@@ -32,8 +33,15 @@ average-requires c =
       few = c.requires.few;
     }
 
-pub returns-in_err-rows : goal.returns-in_err-rows
-returns-in_err-rows c =
+pub returns-in_err-rows-clause-placed : goal.returns-in_err-rows-clause-placed
+returns-in_err-rows-clause-placed c =
+    let made = c.from_residual-in_err-rows in
+    let e = c.in_err-rows.field-0.0 in
+    λ document flows. placed_by document flows made.result (of_stopped e) made.ensures.0 made.ensures.1
+    (stopped_placed document flows e)
+
+pub returns-in_err-rows-clause-due : goal.returns-in_err-rows-clause-due
+returns-in_err-rows-clause-due c =
     let f = c.args.found.now in
     let n = c.args.number in
     let x : FloatingStream = record { stream = c.in_ok-stream.stream.now; float = c.in_ok-stream.float.now } in
@@ -56,8 +64,8 @@ fixings_page-requires c =
     (float_lawful f.swap f.calendars.now f.schedule c.requires.unfixed c.args.number x
     c.in_ok-stream.ensures.floats).index.1
 
-pub returns : goal.returns
-returns c =
+pub returns-clause-due : goal.returns-clause-due
+returns-clause-due c =
     let f = c.args.found.now in
     let n = c.args.number in
     let x : FloatingStream = record { stream = c.in_ok-stream.stream.now; float = c.in_ok-stream.float.now } in

@@ -16,8 +16,8 @@ interpolate-requires c =
     stub_is_asked f.swap f.calendars.now f.schedule q.unfixed c.args.number _ c.in_ok-floating.ensures.floats c.args.side
     c.args.low c.args.high f.fixings.now q.low q.high
 
-pub returns-in_err-row : goal.returns-in_err-row
-returns-in_err-row c =
+pub returns-in_err-row-clause-due : goal.returns-in_err-row-clause-due
+returns-in_err-row-clause-due c =
     let f = c.args.found.now in
     let n = c.args.number in
     let made = c.from_residual-in_err-row in
@@ -38,8 +38,8 @@ fixings_page-requires c = let f = c.args.found.now in
     stub_short f.swap c.args.number c.args.side c.in-Some.index.now c.in-Some.tenor c.requires.unfixed.lawful
     c.in-Some.ensures.some
 
-pub returns : goal.returns
-returns c =
+pub returns-clause-due : goal.returns-clause-due
+returns-clause-due c =
     let f = c.args.found.now in
     let n = c.args.number in
     let a = stub_asked f.swap n c.args.side c.args.low c.args.high f.schedule f.fixings.now in

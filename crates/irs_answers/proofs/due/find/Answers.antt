@@ -1,14 +1,16 @@
-use Rattle.std.proofs.Common.{ap, Err}
 use Rattle.serde_json.specs.Data.{Data}
 use Rattle.serde_json.specs.View.{view}
 use Rattle.irs_calendar.specs.Grammar.{CalFiles}
 use Rattle.irs_answers.specs.declared.refusals.Refusal.TheVariants.{Rule, Calendars, Fixings}
 use Rattle.irs_answers.specs.Due.{DueFor, Spells, facts}
+use Rattle.irs_answers.specs.Forms.{source_by}
 use Rattle.irs_answers.specs.Given.{given_with}
 use Rattle.irs_answers.specs.Outcomes.{IfRefused, Ends, of_read, of_stopped}
+use Rattle.irs_answers.specs.Unread.{IsPlaced}
 use Rattle.irs_answers.proofs.DueLemmas.{passes_by, refuse_text, refuse_read, refuse_sides, refuse_calendars}
 use Rattle.irs_answers.proofs.DueLemmas.{refuse_fixings, refuse_rules}
 use Rattle.irs_answers.proofs.StepLemmas.{refused_by}
+use Rattle.irs_answers.proofs.UnreadLemmas.{read_placed, stopped_placed}
 use Rattle.irs_answers.proofs.due.find.Goals as goal
 
 pub returns-in_err-document-clause-refused : goal.returns-in_err-document-clause-refused
@@ -18,7 +20,16 @@ returns-in_err-document-clause-refused c =
     let t = c.args.task in
     let g = given_with c.args.files.now c.args.common.now.files in
     refused_by made.result (of_read e) (λ r. IfRefused r (Ends (DueFor t g))) made.ensures.0 made.ensures.1
-    (refuse_text t g e (λ q v reads. c.in_err-document.ensures.none (ap Err q) v reads))
+    (refuse_text t g e c.in_err-document.ensures.fails)
+
+pub returns-in_err-document-clause-placed : goal.returns-in_err-document-clause-placed
+returns-in_err-document-clause-placed c =
+    let e = c.in_err-document.field-0.0 in
+    let made = c.from_residual in
+    let document = source_by c.args.files.now.document in
+    let flows = source_by c.args.files.now.flows in
+    refused_by made.result (of_read e) (IsPlaced document flows) made.ensures.0 made.ensures.1
+    (read_placed document flows e c.in_err-document.ensures.fails)
 
 pub returns-in_err-swap-clause-refused : goal.returns-in_err-swap-clause-refused
 returns-in_err-swap-clause-refused c =
@@ -30,6 +41,15 @@ returns-in_err-swap-clause-refused c =
     refused_by made.result (of_stopped e) (λ r. IfRefused r (Ends (DueFor t g))) made.ensures.0 made.ensures.1
     (refuse_read t g v e c.in_ok-document.ensures.reads
     c.in_err-swap.ensures.broken)
+
+pub returns-in_err-swap-clause-placed : goal.returns-in_err-swap-clause-placed
+returns-in_err-swap-clause-placed c =
+    let e = c.in_err-swap.field-0.0 in
+    let made = c.from_residual-in_err-swap in
+    let document = source_by c.args.files.now.document in
+    let flows = source_by c.args.files.now.flows in
+    refused_by made.result (of_stopped e) (IsPlaced document flows) made.ensures.0 made.ensures.1
+    (stopped_placed document flows e)
 
 pub returns-in_err-sides-clause-refused : goal.returns-in_err-sides-clause-refused
 returns-in_err-sides-clause-refused c =
@@ -110,6 +130,15 @@ returns-in_err-schedule-clause-refused c =
     refused_by made.result e (λ r. IfRefused r (Ends (DueFor t g))) made.ensures.0 made.ensures.1
     (refuse_rules t g swap sides cal c.in_ok-fixings.fixings.now e spells files c.in_ok-fixings.ensures.fixings
     c.in_err-schedule.ensures.refused)
+
+pub returns-in_err-schedule-clause-placed : goal.returns-in_err-schedule-clause-placed
+returns-in_err-schedule-clause-placed c =
+    let e = c.in_err-schedule.field-0.0 in
+    let made = c.from_residual-in_err-schedule in
+    let document = source_by c.args.files.now.document in
+    let flows = source_by c.args.files.now.flows in
+    refused_by made.result e (IsPlaced document flows) made.ensures.0 made.ensures.1
+    (c.in_err-schedule.ensures.placed document flows)
 
 pub returns-clause-passes : goal.returns-clause-passes
 returns-clause-passes c =

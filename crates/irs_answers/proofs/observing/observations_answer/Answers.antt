@@ -5,8 +5,8 @@ use Rattle.irs_answers.specs.Outcomes.{Ends}
 use Rattle.irs_answers.proofs.ObservedLemmas.{shows}
 use Rattle.irs_answers.proofs.observing.observations_answer.Goals as goal
 
-pub returns : goal.returns
-returns c =
+pub returns-clause-due : goal.returns-clause-due
+returns-clause-due c =
     let f = c.args.found.now in
     let n = c.args.number in
     let x : Accruing = accruing f.swap f.calendars.now f.fixings.now in

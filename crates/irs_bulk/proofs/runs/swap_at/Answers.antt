@@ -1,9 +1,9 @@
-use Rattle.std.proofs.Common.{◌≡◌, ℕ, List, Err, refl, sym, ap, subst}
+use Rattle.std.proofs.Common.{◌≡◌, ℕ, List, refl, subst}
 use Rattle.serde_json.specs.Data.{Data}
 use Rattle.serde_json.specs.View.{view}
 use Rattle.irs_answers.specs.declared.tasks.Task.TheVariants.{Schedule}
 use Rattle.irs_answers.specs.Forms.{TextReads, json_text}
-use Rattle.irs_answers.specs.Outcomes.{Ends, IfRefused, of_read, of_stopped}
+use Rattle.irs_answers.specs.Outcomes.{Ends, IfRefused, ReadFails, of_read, of_stopped}
 use Rattle.irs_answers.proofs.DueLemmas.{refuse_read, refuse_text}
 use Rattle.irs_answers.proofs.StepLemmas.{refused_by}
 use Rattle.irs_bulk.specs.BulkRuns.{DueSchedule, files_of}
@@ -19,8 +19,7 @@ returns-in_err-document-clause-refused c =
     let text : c.in_ok-bytes.bytes.items ≡ document_text plain k = c.in_ok-bytes.ensures in
     refused_by made.result (of_read e) (λ r. IfRefused r (Ends (DueSchedule plain k))) made.ensures.0 made.ensures.1
     (refuse_text Schedule (files_of plain k) e
-    (λ q v reads. c.in_err-document.ensures.none (ap Err q) v
-    (subst (λ (l : List ℕ). TextReads (json_text l) v) (sym text) reads)))
+    (subst (λ (l : List ℕ). ReadFails (json_text l) e) text c.in_err-document.ensures.fails))
 
 pub returns-in_err-read_swap-clause-refused : goal.returns-in_err-read_swap-clause-refused
 returns-in_err-read_swap-clause-refused c =

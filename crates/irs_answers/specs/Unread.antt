@@ -1,0 +1,51 @@
+-- What a reply and a refusal say of texts that have no reading.
+use Rattle.std.specs.Prelude.{Result, Ok, Err}
+use Rattle.irs_answers.specs.Forms.{IsUnread, SourceText}
+use Rattle.irs_answers.specs.declared.refusals.Refusal.{Refusal}
+use Rattle.irs_answers.specs.declared.refusals.Refusal.TheVariants.{Calendars, Fixings, Flows, Memory, Rule, Unreadable}
+use Rattle.irs_answers.specs.declared.refusals.Refusal.TheVariants.{UnreadableFlows}
+use Rattle.irs_answers.specs.declared.replies.Reply.{Reply}
+use Rattle.irs_answers.specs.declared.replies.Reply.TheVariants as reply
+
+-- where a refusal says how the document or the flows have no reading, that is so
+abbrev pub IsPlaced : SourceText → SourceText → Refusal → Type 0
+IsPlaced document flows (Unreadable u) = IsUnread document u
+IsPlaced document flows (Rule b) = Unit {0}
+IsPlaced document flows (Calendars e) = Unit {0}
+IsPlaced document flows (Fixings e) = Unit {0}
+IsPlaced document flows (UnreadableFlows u) = IsUnread flows u
+IsPlaced document flows (Flows e) = Unit {0}
+IsPlaced document flows Memory = Unit {0}
+
+-- the same of a reply
+abbrev pub IsPlacedReply : SourceText → SourceText → Reply → Type 0
+IsPlacedReply document flows (reply.Text text) = Unit {0}
+IsPlacedReply document flows (reply.Rows schedule) = Unit {0}
+IsPlacedReply document flows (reply.Breaks text) = Unit {0}
+IsPlacedReply document flows (reply.Verdict w) = Unit {0}
+IsPlacedReply document flows (reply.Refused r) = IsPlaced document flows r
+
+-- the same of either
+abbrev pub AllPlaced : SourceText → SourceText → Result Reply Refusal → Type 0
+AllPlaced document flows (Ok r) = IsPlacedReply document flows r
+AllPlaced document flows (Err r) = IsPlaced document flows r
+
+-- the reply isn't of a text without a reading
+abbrev pub IsPlain : Reply → Type 0
+IsPlain r = (document flows : SourceText) → IsPlacedReply document flows r
+
+-- the refusal isn't of a text without a reading
+abbrev pub IsOtherwise : Refusal → Type 0
+IsOtherwise r = (document flows : SourceText) → IsPlaced document flows r
+
+-- the refusal isn't of a document without a reading
+abbrev pub IsOfFlows : SourceText → Refusal → Type 0
+IsOfFlows flows r = (document : SourceText) → IsPlaced document flows r
+
+-- neither a reply nor a refusal is of a text without a reading
+abbrev pub NoneUnread : Result Reply Refusal → Type 0
+NoneUnread r = (document flows : SourceText) → AllPlaced document flows r
+
+-- neither a reply nor a refusal is of a document without a reading
+abbrev pub FlowsAlone : SourceText → Result Reply Refusal → Type 0
+FlowsAlone flows r = (document : SourceText) → AllPlaced document flows r
