@@ -76,13 +76,15 @@ class Wait(NamedTuple):
 
 
 class Look(NamedTuple):
-    """All of one trade. `refusal` says why there is no schedule; then the parts after it are
-    empty. `flows_refusal` says why the other party's cash flows can't be compared."""
+    """All of one trade. `notes` are sentences on calendar files that were left out. `refusal` says
+    why there is no schedule; then the parts after it are empty. `flows_refusal` says why the other
+    party's cash flows can't be compared."""
 
     name: str
     files: List[FileLine]
     today: str
     headline: Said
+    notes: Sequence[str] = ()
     refusal: Optional[Refusal] = None
     schedule: Optional[Schedule] = None
     view: str = ""
@@ -209,7 +211,7 @@ def look_at(inputs: Inputs, today: date, party: Optional[str] = None) -> Look:
     `today` is the day that the timeline marks, and `party` the party that the flows are seen
     from. Raises `UnknownParty` for an unknown party.
     """
-    look = Look(brief(inputs.document.name), _files(inputs), today.isoformat(), Said("", BAD))
+    look = Look(brief(inputs.document.name), _files(inputs), today.isoformat(), Said("", BAD), inputs.notes)
     reply = ask("schedule", inputs)
     if reply.status:
         return _refused(look, refusal_of(reply))
