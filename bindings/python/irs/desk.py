@@ -338,7 +338,7 @@ def _served(arguments: Optional[List[str]]) -> int:
     folder = asked.calendars
     if folder is not None and not folder.is_dir():
         raise BadInput(f"{shown(str(folder))} is no folder")
-    offered, unread = ([], []) if folder is None else folder_at(folder)
+    offered, unread = folder_at(folder) if folder is not None else ([], [])
     token = secrets.token_urlsafe(24)
     server = make_server(make_app(token, offered, unread), asked.port)
     address = f"http://{ADDRESS}:{server.server_port}/{token}/"

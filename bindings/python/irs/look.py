@@ -22,6 +22,7 @@ from .plain import brief
 from .printed import UNKNOWN, StreamText, printed
 from .refusals import Refusal, refusal_of
 from .replies import Reply, ask
+from .rows import Yes, verdict_of
 from .stubs import index_of_period, stubs_of
 from .tables import Cell, Column, Table, exchange_table, folded, ledger_table, period_table
 from .timeline import Timeline, timeline
@@ -152,12 +153,13 @@ def _headline(streams: Sequence[StreamText]) -> Said:
 def _verdict(reply: Reply) -> Said:
     if reply.status == 1:
         return Said(f"Departs: {reply.sentence}.", BAD)
-    _, rows, unfixed = reply.line.split()
-    if unfixed == "0":
-        return Said(f"Agrees in all {rows} rows.", GOOD)
+    verdict = verdict_of(reply.text)
+    assert isinstance(verdict, Yes)  # the status is 0
+    if verdict.unfixed == 0:
+        return Said(f"Agrees in all {verdict.rows} rows.", GOOD)
     return Said(
-        f"Agrees in what is known: {rows} rows. Not compared, as a fixing is missing: "
-        f"{counted(int(unfixed), 'amount')}.",
+        f"Agrees in what is known: {verdict.rows} rows. Not compared, as a fixing is missing: "
+        f"{counted(verdict.unfixed, 'amount')}.",
         WAITS,
     )
 
