@@ -110,9 +110,8 @@ class Calendars:
         self._faults = found
         self.notes += [left_out(fault) for fault in faults]
         taken = {word for word, _ in sound}
-        self._named, self._folder = (
-            [word for word in words if word in taken] for words in (self._named, self._folder)
-        )
+        self._named = [word for word in self._named if word in taken]
+        self._folder = [word for word in self._folder if word in taken]
 
     def _contents(self, words: Iterable[str]) -> List[Tuple[str, bytes]]:
         return [(word, self._files[word].content) for word in words]

@@ -23,6 +23,9 @@ OTHER = FRANKFURT.replace(b"weekend SAT SUN\n", b"weekend SAT SUN\n1996-12-16\n"
 
 BROKEN = FRANKFURT.replace(b"weekend", b"weekends")
 
+#: What the page asks of a request.
+HOST = {"Host": "127.0.0.1"}
+
 REPEAT = "this centre is there already"
 SYNTAX = "line 3: this line isn't allowed here"
 
@@ -258,12 +261,12 @@ class Served(unittest.TestCase):
     def look(self, client, document, uploads=(), **fields):
         fields["document"] = (io.BytesIO(document.content), document.name)
         fields["calendars"] = [(io.BytesIO(file.content), file.name) for file in uploads]
-        answer = client.post(f"{TOP}look", data=fields, content_type="multipart/form-data", headers={"Host": "127.0.0.1"})
+        answer = client.post(f"{TOP}look", data=fields, content_type="multipart/form-data", headers=HOST)
         self.assertEqual(answer.status_code, 303)
-        return client.get(answer.headers["Location"], headers={"Host": "127.0.0.1"}).text
+        return client.get(answer.headers["Location"], headers=HOST).text
 
     def form(self, client):
-        return client.get(TOP, headers={"Host": "127.0.0.1"}).text
+        return client.get(TOP, headers=HOST).text
 
     def test_two_files_with_one_centre(self):
         client = self.client(Named("a.cal", FRANKFURT), Named("b.cal", OTHER), Named("x.cal", of_centre("XXXX")))
