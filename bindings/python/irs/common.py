@@ -2,7 +2,8 @@
 
 Each trade gets all of them. A calendar file at fault would be a fault of every trade, so the engine first reads the
 calendar files without a trade. Those at fault go only to a trade that it refuses without them, as a centre is in
-no calendar file (rule K12). Then it reports the fault in place of the broken rule.
+no calendar file (rule K12). Then it reports the fault in place of the broken rule. The calendars of people's commands
+are tried in the same way (`irs.inputs`).
 """
 from __future__ import annotations
 

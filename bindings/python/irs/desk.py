@@ -107,7 +107,7 @@ def _one(files: Any, field: str) -> Optional[Named]:
 
 
 def _calendars(form: Any, files: Any, offered: Sequence[Named], unread: Sequence[str]) -> Calendars:
-    numbers = {int(text) for text in form.getlist("offered") if text.isdigit() and len(text) < 6}
+    numbers = {int(text) for text in form.getlist("offered") if text.isdecimal() and len(text) < 6}
     ticked = [file for place, file in enumerate(offered) if place in numbers]
     others = [file for place, file in enumerate(offered) if place not in numbers]
     named = [*ticked, *_sent(files, "calendars")]
