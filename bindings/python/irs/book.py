@@ -22,6 +22,7 @@ from .library import Answer, Text, as_bytes, engine
 from .many import Calendar, Item
 from .plain import shown
 from .pool import TRIES, Processes
+from .rows import Yes, resets_of, verdict_of
 
 #: The commands that a book can run.
 COMMANDS = ("check", "schedule", "audit", "emit", "net")
@@ -170,21 +171,28 @@ def _first_line(text: bytes) -> str:
 
 def _missing(schedule: Answer) -> str:
     """Which fixings an audit lacked, by the schedule: how many, and the first."""
-    resets = [line.split(" ") for line in schedule.text.decode(errors="replace").splitlines() if line.startswith("r ")]
-    lacking = [fields for fields in resets if fields[5] == "-"]
+    resets = resets_of(schedule.text)
+    lacking = [reset for reset in resets if reset.observed is None]
     if not lacking:
         return "no fixing is missing"
     first = lacking[0]
     return (
-        f"{len(lacking)} of {len(resets)} resets have no fixing, the first in stream {first[1]}, "
-        f"period {first[2]}, fixed on {first[4]}"
+        f"{len(lacking)} of {len(resets)} resets have no fixing, the first in stream {first.stream}, "
+        f"period {first.number}, fixed on {first.fixing}"
     )
+
+
+def _unfixed(audit: Answer) -> int:
+    """How many amounts an audit that agrees didn't compare."""
+    verdict = verdict_of(audit.text)
+    assert isinstance(verdict, Yes)  # the status is 0
+    return verdict.unfixed
 
 
 def _verdict(command: str, answer: Answer) -> str:
     """The verdict of an answer."""
     if answer.status == 0 and command == "audit":
-        return "agrees" if answer.text.split()[2] == b"0" else "unverified"
+        return "unverified" if _unfixed(answer) else "agrees"
     if answer.status in (3, 5, 8):
         return "bad file"
     return {0: "done", 1: "departs", 2: "refused"}.get(answer.status, "failed")
@@ -196,8 +204,7 @@ def _outcome(command: str, given: _Given, answer: Answer, schedule: Optional[Ans
     if verdict == "done" and command in ("schedule", "emit", "net"):
         line = f"{len(answer.text.splitlines())} lines"
     elif schedule is not None:
-        amounts = answer.text.split()[2].decode()
-        sentence = f"the cash flows agree, but {amounts} amounts aren't compared: {_missing(schedule)}"
+        sentence = f"the cash flows agree, but {_unfixed(answer)} amounts aren't compared: {_missing(schedule)}"
     elif answer.status == 5 and given.trade.flows is None:
         sentence = "the trade has no cash flows"
     return Outcome(given.trade.name, verdict, answer.status, line, sentence, given.stamp)

@@ -43,6 +43,7 @@ from .rows import (
     inner_lines,
     observed_of,
     row_of,
+    text_lines,
     verdict_of,
 )
 
@@ -293,7 +294,7 @@ def net(document: Document, fixings: Optional[File] = None, calendars: Iterable[
 
 
 def _derived(text: bytes) -> List[Union[Derived, Missing]]:
-    return [derived_of(line) for line in text.decode().splitlines()[1:]]
+    return [derived_of(line) for line in text_lines(text)[1:]]
 
 
 def overnight(

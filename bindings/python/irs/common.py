@@ -2,7 +2,8 @@
 
 Each trade gets all of them. A calendar file at fault would be a fault of every trade, so the engine first reads the
 calendar files without a trade. Those at fault go only to a trade that it refuses without them, as a centre is in
-no calendar file (rule K12). Then it reports the fault in place of the broken rule.
+no calendar file (rule K12). Then it reports the fault in place of the broken rule. The calendars of people's commands
+are tried in the same way (`irs.inputs`).
 """
 from __future__ import annotations
 
@@ -121,6 +122,42 @@ def tried(calendars: Sequence[Calendar]) -> Tried:
     return Tried(sound, faults)
 
 
+def left_out(fault: Sequence[Calendar]) -> str:
+    """A sentence on the files of one fault: their names, and what the engine says of them."""
+    refusal = _refusal(fault)
+    return f"left out: {_names(fault)}: {refusal.sentence if refusal else ''}"
+
+
+def _checked(document: bytes, calendars: Sequence[Calendar]) -> bytes:
+    return answers("check", [Item(document)], packed(calendars))[0].text
+
+
+def lacks_a_centre(document: bytes, calendars: Sequence[Calendar]) -> bool:
+    """Whether the engine says that a centre of the document is in none of these calendar files."""
+    return _checked(document, calendars).startswith(NO_CALENDAR)
+
+
+def needed(document: bytes, calendars: Sequence[Calendar], others: Sequence[Calendar] = ()) -> List[Calendar]:
+    """The calendars without which the engine's `check` of the document has another answer than with all of them and
+    the others."""
+    return _needed(document, calendars, others, _checked(document, [*others, *calendars])) if calendars else []
+
+
+def _needed(
+    document: bytes, calendars: Sequence[Calendar], others: Sequence[Calendar], answer: bytes
+) -> List[Calendar]:
+    # Halves are left out together, so there are few calls where a folder has many files.
+    if not calendars or _checked(document, others) == answer:
+        return []
+    if len(calendars) == 1:
+        return list(calendars)
+    first, second = calendars[: len(calendars) // 2], calendars[len(calendars) // 2 :]
+    return [
+        *_needed(document, first, [*others, *second], answer),
+        *_needed(document, second, [*others, *first], answer),
+    ]
+
+
 class Loaded:
     """The common files, read. `calendars` are those that every trade gets."""
 
@@ -133,8 +170,7 @@ class Loaded:
                 LOG.warning("the calendar %s can't be read: %s", name, shown(str(why)))
         sound, self.faults = tried(read)
         for fault in self.faults:
-            refusal = _refusal(fault)
-            LOG.warning("left out: %s: %s", _names(fault), refusal.sentence if refusal else "")
+            LOG.warning("%s", left_out(fault))
         self.calendars = packed(sound)
         self.fixings = None if common.fixings is None else _held(common.fixings)
 

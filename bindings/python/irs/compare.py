@@ -11,6 +11,7 @@ from typing import Any, Dict, FrozenSet, List, NamedTuple, Optional, Sequence, T
 
 from .documents import child_of, items_of, streams_of, text_at
 from .plain import brief
+from .rows import inner_lines, text_lines
 from .tables import separated
 
 #: The kinds of rows and their fields, in the order of docs/FORMATS.md, 'Cash flows'.
@@ -256,10 +257,10 @@ def side_by_side(ours: Any, theirs: Any, lines: Sequence[Line]) -> List[Comparis
 
 def lines_of(text: bytes) -> List[Line]:
     """The breaks of the text of `breaks`, as they are printed."""
-    rows = [line.split(" ")[1:] for line in text.decode().splitlines()[1:-1]]
+    rows = [line.split(" ")[1:] for line in inner_lines(text)]
     return [Line(int(stream), *rest) for stream, *rest in rows]
 
 
 def counts_of(text: bytes) -> Counts:
     """The counts of the text of `breaks`."""
-    return Counts(*map(int, text.decode().splitlines()[-1].split(" ")[1:]))
+    return Counts(*map(int, text_lines(text)[-1].split(" ")[1:]))

@@ -23,16 +23,18 @@ from typing import Any, List, NamedTuple, NoReturn, Optional, Sequence, Tuple
 from .arguments import port
 from .calendar_files import centres_in
 from .documents import XML, is_xml
-from .inputs import Inputs, Named, at_most_sixteen, chosen, read_named
+from .inputs import Calendars, Inputs, Named, folder_at
 from .insert import with_cashflows
 from .library import MOST_BYTES, MOST_CALENDARS
 from .look import Look, look_at
 from .packages import package
 from .pages import TEMPLATES, environment, report, style
-from .plain import brief, shown
+from .plain import brief, shown, visible
 from .replies import ask
 from .sheets import csv_text
 from .tools import BadInput, Parser, ended
+
+LOG = logging.getLogger("irs.desk")
 
 #: The only address that the page is served at.
 ADDRESS = "127.0.0.1"
@@ -104,25 +106,28 @@ def _one(files: Any, field: str) -> Optional[Named]:
     return next(iter(_sent(files, field)), None)
 
 
-def _calendars(form: Any, files: Any, document: Named, offered: Sequence[Named]) -> List[Named]:
-    ticked = {int(text) for text in form.getlist("offered") if text.isdigit() and len(text) < 6}
-    taken = [file for place, file in enumerate(offered) if place in ticked]
-    if form.get("needed"):
-        taken += [file for file in chosen(document.content, offered) if file not in taken]
-    return at_most_sixteen(taken + _sent(files, "calendars"))
+def _calendars(form: Any, files: Any, offered: Sequence[Named], unread: Sequence[str]) -> Calendars:
+    numbers = {int(text) for text in form.getlist("offered") if text.isdecimal() and len(text) < 6}
+    ticked = [file for place, file in enumerate(offered) if place in numbers]
+    others = [file for place, file in enumerate(offered) if place not in numbers]
+    named = [*ticked, *_sent(files, "calendars")]
+    return Calendars(named, others, unread) if form.get("needed") else Calendars(named)
 
 
-def asked_for(form: Any, files: Any, offered: Sequence[Named]) -> Kept:
-    """The look that a form asks for. Raises `BadInput` without a document, and `UnknownParty` for
-    an unknown party."""
+def asked_for(form: Any, files: Any, offered: Sequence[Named], unread: Sequence[str] = ()) -> Kept:
+    """The look that a form asks for. `offered` are the files of the calendars' folder, and `unread`
+    are sentences on those that can't be read. Raises `BadInput` without a document, and
+    `UnknownParty` for an unknown party."""
     document = _one(files, "document")
     if document is None:
         raise BadInput("Choose a document of terms.")
+    calendars = _calendars(form, files, offered, unread)
     inputs = Inputs(
         document,
         _one(files, "fixings"),
         _one(files, "flows"),
-        _calendars(form, files, document, offered),
+        calendars.needed_by(document),
+        calendars.notes,
     )
     party = form.get("party", "").strip() or None
     return Kept(inputs, look_at(inputs, date.today(), party), party)
@@ -155,20 +160,28 @@ def document_name(kept: Kept) -> str:
     return "document" + (XML if is_xml(kept.inputs.document.content) else ".json")
 
 
+def _centres(calendar: Named) -> str:
+    """The centres of a calendar file, as the form shows them."""
+    return brief(", ".join(centres_in(calendar.content)), 200)
+
+
 class Desk:
-    """The page below `/TOKEN/`; `offered` are the calendar files to choose from.
+    """The page below `/TOKEN/`; `offered` are the calendar files to choose from, and `unread` are
+    sentences on those that can't be read.
 
     Raises `MissingPackage` where Flask or Jinja2 isn't installed.
     """
 
-    def __init__(self, token: str, offered: Sequence[Named] = ()) -> None:
+    def __init__(self, token: str, offered: Sequence[Named] = (), unread: Sequence[str] = ()) -> None:
         self.flask = package("flask", "the page", "Flask", "python3-flask")
         self.templates = environment()
         self.token = token
-        self.offered = offered
+        self.offered, self.unread = offered, unread
         self.store = Store()
+        tried = Calendars((), offered, unread)
+        self.notes = tried.notes
         self.calendars = [
-            (place, brief(file.name), brief(", ".join(centres_in(file.content)), 200))
+            (place, brief(file.name), "left out" if file in tried.left_out else _centres(file))
             for place, file in enumerate(offered)
         ]
 
@@ -179,7 +192,7 @@ class Desk:
 
     def form(self, sentence: str = "", status: int = 200) -> Any:
         """The page that asks for files, with a sentence on what was wrong."""
-        return self.page("desk_form.html", status, calendars=self.calendars, sentence=sentence)
+        return self.page("desk_form.html", status, calendars=self.calendars, notes=self.notes, sentence=sentence)
 
     def style(self) -> Any:
         """The style sheet."""
@@ -192,7 +205,7 @@ class Desk:
     def look(self) -> Any:
         """Makes the look that the form asks for, and leads to it."""
         try:
-            kept = asked_for(self.flask.request.form, self.flask.request.files, self.offered)
+            kept = asked_for(self.flask.request.form, self.flask.request.files, self.offered, self.unread)
         except BadInput as why:
             return self.form(str(why), 400)
         return self.flask.redirect(f"/{self.token}/look/{self.store.keep(kept)}", 303)
@@ -248,10 +261,12 @@ class Desk:
         return self.form("This look failed. The program's own output says more.", 500)
 
 
-def make_app(token: str, offered: Sequence[Named] = ()) -> Any:
-    """The page as a Flask application. Raises `MissingPackage` where Flask or Jinja2 isn't
-    installed."""
-    desk = Desk(token, offered)
+def make_app(token: str, offered: Sequence[Named] = (), unread: Sequence[str] = ()) -> Any:
+    """The page as a Flask application; see `Desk`. Raises `MissingPackage` where Flask or Jinja2
+    isn't installed."""
+    desk = Desk(token, offered, unread)
+    for note in desk.notes:
+        LOG.warning("%s", visible(note))
 
     class InMemory(desk.flask.Request):  # type: ignore[misc, name-defined]
         """A request whose files stay in memory; Werkzeug would write the larger ones to disk."""
@@ -323,9 +338,9 @@ def _served(arguments: Optional[List[str]]) -> int:
     folder = asked.calendars
     if folder is not None and not folder.is_dir():
         raise BadInput(f"{shown(str(folder))} is no folder")
-    paths = [] if folder is None else sorted(folder.glob("*.cal"))
+    offered, unread = folder_at(folder) if folder is not None else ([], [])
     token = secrets.token_urlsafe(24)
-    server = make_server(make_app(token, [read_named(path) for path in paths]), asked.port)
+    server = make_server(make_app(token, offered, unread), asked.port)
     address = f"http://{ADDRESS}:{server.server_port}/{token}/"
     print(f"{address}\nThis page is for this machine alone. Ctrl-C ends it.", flush=True)
     if asked.open:

@@ -1,7 +1,7 @@
 """The elements of a document of terms, read leniently: what isn't there or isn't as expected is absent.
 
 Only the engine says what terms mean, and what XML means as JSON. Names and texts are read here, to show them beside
-its answer, and to know which files a document needs (docs/FORMATS.md, 'The carrier'). Nothing of it is proved.
+its answer, and to make calendars and fixings for a document (docs/FORMATS.md, 'The carrier'). Nothing of it is proved.
 """
 from __future__ import annotations
 

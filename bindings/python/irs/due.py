@@ -5,6 +5,7 @@ from decimal import Decimal
 from typing import List, NamedTuple
 
 from .parties import Parties
+from .rows import inner_lines
 from .tables import AMOUNT, DATE, WORD, Column, Table
 
 
@@ -43,7 +44,7 @@ def _row(line: str, parties: Parties) -> NetRow:
 
 def net_rows(text: bytes, parties: Parties) -> List[NetRow]:
     """The rows of the text that `net` prints."""
-    return [_row(line, parties) for line in text.decode().splitlines()[1:-1]]
+    return [_row(line, parties) for line in inner_lines(text)]
 
 
 def net_table(rows: List[NetRow]) -> Table:

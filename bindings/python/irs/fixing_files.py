@@ -116,6 +116,7 @@ def keys_of(path: Path) -> List[Key]:
     """The lines of a file of fixings that the engine takes, without their rates."""
     text = read_text(path)
     check_fixings(text)
-    lines = (line.strip() for line in text.split("\n") if not line.startswith("#"))
+    # An index may begin and end with what Unicode takes for a blank.
+    lines = (line.strip(" \t\r") for line in text.split("\n") if not line.startswith("#"))
     fields = (re.split(r"[ \t]+", line, maxsplit=3) for line in lines if line)
     return [Key(datetime.date.fromisoformat(day), tenor, index) for day, _, tenor, index in fields]

@@ -22,6 +22,7 @@ from .plain import brief
 from .printed import UNKNOWN, StreamText, printed
 from .refusals import Refusal, refusal_of
 from .replies import Reply, ask
+from .rows import Yes, verdict_of
 from .stubs import index_of_period, stubs_of
 from .tables import Cell, Column, Table, exchange_table, folded, ledger_table, period_table
 from .timeline import Timeline, timeline
@@ -76,13 +77,15 @@ class Wait(NamedTuple):
 
 
 class Look(NamedTuple):
-    """All of one trade. `refusal` says why there is no schedule; then the parts after it are
-    empty. `flows_refusal` says why the other party's cash flows can't be compared."""
+    """All of one trade. `notes` are sentences on calendar files that were left out. `refusal` says
+    why there is no schedule; then the parts after it are empty. `flows_refusal` says why the other
+    party's cash flows can't be compared."""
 
     name: str
     files: List[FileLine]
     today: str
     headline: Said
+    notes: Sequence[str] = ()
     refusal: Optional[Refusal] = None
     schedule: Optional[Schedule] = None
     view: str = ""
@@ -150,12 +153,13 @@ def _headline(streams: Sequence[StreamText]) -> Said:
 def _verdict(reply: Reply) -> Said:
     if reply.status == 1:
         return Said(f"Departs: {reply.sentence}.", BAD)
-    _, rows, unfixed = reply.line.split()
-    if unfixed == "0":
-        return Said(f"Agrees in all {rows} rows.", GOOD)
+    verdict = verdict_of(reply.text)
+    assert isinstance(verdict, Yes)  # the status is 0
+    if verdict.unfixed == 0:
+        return Said(f"Agrees in all {verdict.rows} rows.", GOOD)
     return Said(
-        f"Agrees in what is known: {rows} rows. Not compared, as a fixing is missing: "
-        f"{counted(int(unfixed), 'amount')}.",
+        f"Agrees in what is known: {verdict.rows} rows. Not compared, as a fixing is missing: "
+        f"{counted(verdict.unfixed, 'amount')}.",
         WAITS,
     )
 
@@ -209,7 +213,7 @@ def look_at(inputs: Inputs, today: date, party: Optional[str] = None) -> Look:
     `today` is the day that the timeline marks, and `party` the party that the flows are seen
     from. Raises `UnknownParty` for an unknown party.
     """
-    look = Look(brief(inputs.document.name), _files(inputs), today.isoformat(), Said("", BAD))
+    look = Look(brief(inputs.document.name), _files(inputs), today.isoformat(), Said("", BAD), inputs.notes)
     reply = ask("schedule", inputs)
     if reply.status:
         return _refused(look, refusal_of(reply))

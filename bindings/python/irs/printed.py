@@ -8,6 +8,8 @@ from __future__ import annotations
 from datetime import date
 from typing import Dict, List, NamedTuple, Optional, Tuple, Union
 
+from .rows import inner_lines
+
 #: What the engine prints for a number that waits for a fixing.
 UNKNOWN = "-"
 
@@ -75,7 +77,7 @@ class StreamText(NamedTuple):
 def printed(text: bytes) -> List[StreamText]:
     """The streams of a schedule's text, with their rows."""
     streams: List[StreamText] = []
-    for line in text.decode().splitlines()[1:-1]:
+    for line in inner_lines(text):
         mark, stream, *fields = line.split(" ")
         if mark == "stream":
             streams.append(StreamText(int(stream), fields[0], fields[1], fields[2] == "float", [], [], [], {}))

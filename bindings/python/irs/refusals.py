@@ -5,6 +5,7 @@ import json
 from typing import Callable, List, NamedTuple, Optional
 
 from .documents import is_xml
+from .errors import BadFile, Refused
 from .places import Spot, element_spot, flow_spot
 from .plain import visible
 from .replies import Reply
@@ -118,17 +119,17 @@ def _lines_of(content: bytes, unread: bool, find: Callable[[str], Optional[Spot]
 
 
 def _of_rule(reply: Reply) -> Refusal:
-    _, rule, stream, path, index = reply.line.split()
+    why = Refused(reply.line, reply.sentence)
     content = reply.files[reply.words[1]].content
-    lines = _lines_of(content, rule == "K1", lambda text: element_spot(text, int(stream), path, int(index)))
+    lines = _lines_of(content, why.rule == "K1", lambda text: element_spot(text, why.stream, why.path, why.index))
     return Refusal(
         _WHAT[2],
         reply.line,
         reply.sentence,
-        rule,
-        int(stream),
-        path.split("/"),
-        int(index),
+        why.rule,
+        why.stream,
+        why.path.split("/"),
+        why.index,
         reply.words[1],
         lines,
     )
@@ -142,12 +143,12 @@ def _of_flows(reply: Reply, kind: str, stream: int, path: str, index: int) -> Re
 
 
 def _of_file(reply: Reply) -> Refusal:
-    words = reply.line.split()
-    if words[1] == "flows":
-        return _of_flows(reply, words[2], int(words[3]), words[4], int(words[5]))
+    why = BadFile(reply.line, reply.sentence)
+    if why.stream is not None and why.path is not None and why.index is not None:
+        return _of_flows(reply, why.fault, why.stream, why.path, why.index)
     calendars = reply.words[len(reply.words) - _calendars(reply) :]
-    word = calendars[int(words[2]) - 1] if words[1] == "calendar" else reply.words[2]
-    number = int(words[-2])
+    word = reply.words[2] if why.file is None else calendars[why.file - 1]
+    assert why.row is not None  # flows alone have no line
     return Refusal(
         _WHAT[3],
         reply.line,
@@ -157,7 +158,7 @@ def _of_file(reply: Reply) -> Refusal:
         [],
         0,
         word,
-        lines_around(reply.files[word].content, number),
+        lines_around(reply.files[word].content, why.row),
     )
 
 

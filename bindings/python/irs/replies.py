@@ -4,8 +4,9 @@ from __future__ import annotations
 
 from typing import Dict, List, NamedTuple, Optional
 
+from .common import packed
 from .documents import XML, is_xml
-from .inputs import Inputs, Named
+from .inputs import Inputs, Named, untaken
 from .library import Text, run
 from .plain import brief
 
@@ -43,11 +44,7 @@ def _word(file: Named, taken: Dict[str, Named]) -> str:
     name = brief(file.name)
     ending = XML if is_xml(file.content) else ""
     stem = name[: len(name) - len(ending)] if name.endswith(ending) else name
-    word, number = stem + ending, 1
-    while word in taken or word == "-":
-        number += 1
-        word = f"{stem} ({number}){ending}"
-    return word
+    return untaken(stem, ending, {*taken, "-"})
 
 
 def _by_names(sentence: str, files: Dict[str, Named]) -> str:
@@ -72,8 +69,8 @@ def ask(command: str, inputs: Inputs) -> Reply:
     add(inputs.document)
     for what in _TAKES[command]:
         add(inputs.fixings if what == "fixings" else inputs.flows)
-    for calendar in inputs.calendars:
-        add(calendar)
+    for calendar in packed(inputs.calendars):
+        add(Named(*calendar))
     contents: Dict[str, Text] = {word: file.content for word, file in files.items()}
     answer = run(words, contents)
     sentence = "memory ran out" if answer.status == 7 else answer.sentence if answer.status else ""

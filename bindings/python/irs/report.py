@@ -10,16 +10,18 @@ and this layout of them isn't.
 from __future__ import annotations
 
 import argparse
+import functools
 import sys
 from datetime import date
 from pathlib import Path
-from typing import List, Optional
+from typing import Callable, List, Optional, Tuple
 
 from .arguments import day, parser_of
 from .files import write_whole
-from .inputs import Inputs, Named, calendars_at, read_named
+from .inputs import Calendars, Inputs, Named, calendars_at, read_named
 from .look import look_at
 from .pages import environment, report
+from .plain import visible
 from .tools import BadInput, Parser, ended
 
 
@@ -59,15 +61,16 @@ def _beside(trade: Path, *names: str) -> Optional[Named]:
     return None
 
 
-def inputs_of(asked: Asked, trade: Path) -> Inputs:
-    """The files of a trade: those that options name, else those that are beside it. Raises
-    `BadInput`."""
+def inputs_of(asked: Asked, trade: Path, calendars_of: Callable[[Tuple[Path, ...]], Calendars]) -> Inputs:
+    """The files of a trade: those that options name, else those that are beside it.
+    `calendars_of` gives the calendars of paths. Raises `BadInput`."""
     document = read_named(trade)
     fixings = _beside(trade, f"{trade.stem}.fixings", "fixings") if asked.fixings is None else read_named(asked.fixings)
     flows = _beside(trade, f"{trade.stem}.flows.json") if asked.flows is None else read_named(asked.flows)
     folder = trade.with_name("calendars") if str(trade) != "-" else None
     paths = asked.calendar or ([folder] if folder is not None and folder.is_dir() else [])
-    return Inputs(document, fixings, flows, calendars_at(paths, document.content))
+    calendars = calendars_of(tuple(paths))
+    return Inputs(document, fixings, flows, calendars.needed_by(document), calendars.notes)
 
 
 def _written(arguments: Optional[List[str]]) -> int:
@@ -75,7 +78,11 @@ def _written(arguments: Optional[List[str]]) -> int:
     if asked.flows is not None and len(asked.trades) > 1:
         raise BadInput("--flows goes with a single trade")
     environment()
-    looks = [look_at(inputs_of(asked, trade), asked.today, asked.party) for trade in asked.trades]
+    # The trades of a folder have their calendars in common: they are tried once.
+    calendars_of = functools.lru_cache(maxsize=2)(calendars_at)
+    looks = [look_at(inputs_of(asked, trade, calendars_of), asked.today, asked.party) for trade in asked.trades]
+    for note in dict.fromkeys(note for look in looks for note in look.notes):
+        print(f"irs-report: {visible(note)}", file=sys.stderr)
     write_whole(report(looks), asked.output)
     return 0
 

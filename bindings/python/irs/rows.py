@@ -213,9 +213,19 @@ def row_of(line: str) -> Union[Row, Net]:
     return row
 
 
+def text_lines(text: bytes) -> List[str]:
+    """The lines of a text. Each ends in LF alone: an index may have what Unicode takes for the end of a line."""
+    return text.decode().split("\n")[:-1]
+
+
 def inner_lines(text: bytes) -> List[str]:
     """The lines between the header and `end`."""
-    return text.decode().splitlines()[1:-1]
+    return text_lines(text)[1:-1]
+
+
+def resets_of(schedule: bytes) -> List[Reset]:
+    """The resets of a schedule's text, in order."""
+    return [row_of(line) for line in inner_lines(schedule) if line.startswith("r ")]  # type: ignore[misc]
 
 
 def accrued_of(line: str) -> Accrued:
@@ -284,7 +294,7 @@ def break_of(line: str) -> Break:
 
 def breaks_of(text: bytes) -> Breaks:
     """The breaks and the counts of the text of `breaks`."""
-    *lines, end = text.decode().splitlines()[1:]
+    *lines, end = text_lines(text)[1:]
     _, _, *counts = end.split(" ")
     pairs, compared, unstated, unknown = map(int, counts)
     return Breaks([break_of(line) for line in lines], pairs, compared, unstated, unknown)

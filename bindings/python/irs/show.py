@@ -22,6 +22,7 @@ from .inputs import Inputs, calendars_at, read_named
 from .ladder import CashFlow, cash_flows, view_sentence, viewer
 from .looks import tables_of
 from .parties import Parties, parties_of
+from .plain import visible
 from .printed import StreamText, printed, within
 from .replies import ask
 from .sheets import csv_text, workbook
@@ -225,7 +226,8 @@ def _shown(asked: Asked, streams: List[StreamText], parties: Parties) -> None:
 def _inputs(asked: Asked) -> Inputs:
     document = read_named(asked.terms)
     fixings = None if asked.fixings is None else read_named(asked.fixings)
-    return Inputs(document, fixings, None, calendars_at(asked.calendar, document.content))
+    calendars = calendars_at(asked.calendar)
+    return Inputs(document, fixings, None, calendars.needed_by(document), calendars.notes)
 
 
 def _answer(command: str, inputs: Inputs) -> bytes:
@@ -252,6 +254,8 @@ def _shown_net(asked: Asked, since: Optional[date], text: bytes, parties: Partie
 
 def _look(asked: Asked) -> None:
     inputs = _inputs(asked)
+    for note in inputs.notes:
+        print(f"irs-show: {visible(note)}", file=sys.stderr)
     parties = parties_of(inputs.document.content)
     since = asked.since or (date.today() if asked.next is not None else None)
     if asked.net:

@@ -236,6 +236,25 @@ class AgainstDocuments(InAFolder):
         )
         self.assertEqual(ended, (0, "", ""))
 
+    def test_an_index_with_blanks_of_unicode(self):
+        """The engine compares an index by its bytes: what Unicode takes for a blank is a part of it."""
+        for index in ("\xa0USD-TEST\xa0", "USD\u2028TEST", "USD-TEST\x85", "USD\u3000TEST\u3000"):
+            for name in ("compounded", "overnight"):
+                text = (EXAMPLES / name / "terms.json").read_text()
+                self.write(f"{name}.json", text.replace("USD-TEST-INDEX", index))
+            text = (EXAMPLES / "compounded" / "fixings").read_text().replace("USD-TEST-INDEX", index)
+            self.write("fixings", text)
+            words = ("--missing", "compounded.json", "--fixings", "fixings")
+            self.assertEqual(ran(fixings.main, *words), (0, "", ""), index)
+            daily = (EXAMPLES / "overnight" / "daily").read_text().replace("USD-TEST-INDEX", index)
+            rates = irs.overnight(
+                1,
+                (self.folder / "overnight.json").read_bytes(),
+                daily,
+                [(EXAMPLES / "overnight" / "test.cal").read_bytes()],
+            )
+            self.assertEqual([rate.index for rate in rates], [index])
+
     def test_a_stub_takes_its_own_index(self):
         # the stub of this document has no tenor, its regular period 3M
         ended = ran(fixings.main, "--missing", self.terms("interpolate"))

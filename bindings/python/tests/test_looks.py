@@ -1298,7 +1298,7 @@ class Desk(unittest.TestCase):
 
     def test_only_offered_calendars_are_taken(self):
         terms = trades.stub().document.content
-        for choice in ("9", "-1", "../test.cal", "0" * 30):
+        for choice in ("9", "-1", "../test.cal", "0" * 30, "\u00b2"):
             answer = self.look(document=(io.BytesIO(terms), "t.json"), offered=choice)
             self.assertIn("K12", self.get(answer.headers["Location"]).text)
         answer = self.look(document=(io.BytesIO(terms), "t.json"), offered="0")
