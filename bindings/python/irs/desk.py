@@ -12,6 +12,7 @@ import argparse
 import io
 import logging
 import secrets
+import socket
 import sys
 import threading
 import webbrowser
@@ -305,6 +306,10 @@ def make_server(app: Any, number: int = 0) -> Any:
             return
 
     try:
+        # Where a port is taken, Werkzeug prints lines of its own and ends the process: so it is tried before.
+        with socket.socket() as tried:
+            tried.setsockopt(socket.SOL_SOCKET, socket.SO_REUSEADDR, 1)
+            tried.bind((ADDRESS, number))
         return made(ADDRESS, number, app, threaded=True, request_handler=Quiet)
     except OSError as why:
         raise BadInput(f"port {number} can't be had: {why.strerror or why}") from why
