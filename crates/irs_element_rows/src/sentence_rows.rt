@@ -3,6 +3,7 @@
 use crate::causes::cause_of;
 use crate::told::Told;
 use crate::words::words_of;
+use irs_cli::RunCause;
 use irs_outside::MemSink;
 use irs_plain::put_sentence;
 use std::alloc::Global;
@@ -16,8 +17,27 @@ pub fn tell_sentence(told: &mut Told, alloc: Global, kind: &str, given: &str) ->
     let status = kind.strip_prefix("status ")?.parse::<u8>().ok()?;
     let (words, line) = given.split_once(" | ")?;
     let words = words_of(alloc, words)?;
+    tell_line(told, alloc, &words, status, line)
+}
+
+// Reports the sentence for the words of a command, its status and its line.
+fn tell_line(
+    told: &mut Told,
+    alloc: Global,
+    words: &[String],
+    status: u8,
+    line: &str,
+) -> Option<()> {
+    match cause_of(status, line) {
+        Some(cause) => tell_of(told, alloc, words, &cause),
+        None => None,
+    }
+}
+
+// Reports the sentence for the words of a command and what its run came to.
+fn tell_of(told: &mut Told, alloc: Global, words: &[String], cause: &RunCause) -> Option<()> {
     let mut said = MemSink::with_room(alloc, ROOM).ok()?;
-    put_sentence(&mut said, &words, &cause_of(status, line)?).ok()?;
+    put_sentence(&mut said, words, cause).ok()?;
     if said.bytes().is_empty() {
         told.text("none");
     } else {
