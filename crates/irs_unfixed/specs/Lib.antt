@@ -1,0 +1,5 @@
+pub mod Unfixed
+pub mod AbsentDays
+pub mod Fixings
+pub mod Made
+pub mod Missing
