@@ -1,4 +1,5 @@
 mod AbsentLemmas
+mod CountLemmas
 mod PlaceLemmas
 mod SourceLemmas
 mod RateLemmas

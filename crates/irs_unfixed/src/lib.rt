@@ -11,6 +11,6 @@ mod needed;
 mod periods;
 mod places;
 
-pub use counts::unfixed_count;
+pub use counts::{payment_count, unfixed_count};
 pub use laws::first_missing_is_determined;
 pub use missing::{Missing, first_missing};
