@@ -1,6 +1,6 @@
 -- The fixing that a calculation period lacks whose rate isn't known: by the fixing date of its reset, or by its
 -- daily rates.
-use Rattle.std.proofs.Common.{◌≡◌, inl, inr, ℕ, ◌+◌, ◌-◌, ◌<◌, ◌≤◌, List, [], ◌∷◌, length, Option, Some, None, ℤ, refl}
+use Rattle.std.proofs.Common.{◌≡◌, inl, inr, ℕ, ◌+◌, ◌-◌, ◌≤◌, List, [], length, Option, Some, None, ℤ, refl}
 use Rattle.std.proofs.Common.{sym, ap, subst, ◌∙◌, arith}
 use Rattle.std.specs.Prelude.{option_and_then, slice_get}
 use Rattle.std.proofs.lemmas.Option.{slice_get_cases, slice_get_within}
@@ -21,13 +21,13 @@ use Rattle.irs_periods.specs.Spans.{Regular}
 use Rattle.irs_periods.proofs.OneSpan.{one_span}
 use Rattle.irs_resets.specs.ObservedRates.{ComesFrom, IsKind, IsObserved, Line, RateSource, Stated, rate_from, source_by}
 use Rattle.irs_resets.specs.Rates.{RateTable, rate_at}
-use Rattle.irs_resets.specs.Resets.{HasResets, IsReset, IsResets, IsResetsOf, ResetSource, count_of}
+use Rattle.irs_resets.specs.Resets.{HasResets, IsReset, IsResets, IsResetsOf, ResetSource}
 use Rattle.irs_resets.specs.declared.observed.PeriodKind.{PeriodKind}
 use Rattle.irs_resets.proofs.KindLaws.{one_kind}
 use Rattle.irs_resets.proofs.ObservedLaws.{observed_is}
 use Rattle.irs_observed.specs.DailyRates.{DailyRates, daily_rates, one_day}
 use Rattle.irs_observed.specs.ObservationRules.{Lacks}
-use Rattle.irs_observed.specs.OvernightRates.{IsOvernightRate, IsRateOf, IsRateOver, OvernightSource, observation_fault, period_of}
+use Rattle.irs_observed.specs.OvernightRates.{IsOvernightRate, IsRateOf, IsRateOver, observation_fault, period_of}
 use Rattle.irs_observed.specs.OvernightResets.{AreOvernightResets, BreaksOvernight, DailySource, daily_source}
 use Rattle.irs_observed.specs.RateOrigins.{HasOwnRate}
 use Rattle.irs_observed.specs.declared.daily_resets.OvernightResets.{OvernightResets}
@@ -40,8 +40,8 @@ use Rattle.irs_schedule.specs.Periods.{observed_of}
 use Rattle.irs_schedule.specs.StreamResets.{resets_by, resets_in}
 use Rattle.irs_schedule.proofs.RateLemmas.{with_rates}
 use Rattle.irs_unfixed.specs.AbsentDays.{HasAbsentDay, IsAbsentDay}
-use Rattle.irs_unfixed.specs.Fixings.{Fixing, FloatsOn, IsAbsent, LacksFixing, RestsBy, RestsIn, daily_period}
-use Rattle.irs_unfixed.specs.Made.{IsGap, source_in}
+use Rattle.irs_unfixed.specs.Fixings.{Fixing, FloatsOn, LacksFixing, RestsBy, RestsIn, daily_period}
+use Rattle.irs_unfixed.specs.Made.{IsGap, reset_source}
 use Rattle.irs_unfixed.proofs.MadeLemmas.{Stages, gap_high, gap_unknown, stages_of}
 use Rattle.irs_unfixed.proofs.RateLemmas.{IsUnknown, absent, unobserved}
 use Rattle.irs_unfixed.proofs.AbsentLemmas.{absent_none}
@@ -103,7 +103,7 @@ module _ (cal : List Section) (fix : RateTable) (s : Stream) (p : Part) (n : ℕ
   stages = stages_of cal fix s p h.made
 
   abbrev source : ResetSource
-  source = source_in cal s p stages.span
+  source = reset_source cal s p stages.span
 
   abbrev set : DaySet
   set = applicable_days cal s

@@ -30,7 +30,7 @@ use Rattle.irs_schedule.proofs.LayoutRules.{layout_kept}
 use Rattle.irs_schedule.proofs.PaidEntries.{entries_are}
 use Rattle.irs_schedule.proofs.PeriodLemmas.{entry_at, length_periods}
 use Rattle.irs_schedule.proofs.RateLemmas.{with_rates}
-use Rattle.irs_unfixed.specs.Made.{HasSpan, IsMade, source_in}
+use Rattle.irs_unfixed.specs.Made.{HasSpan, IsMade, reset_source}
 use Rattle.irs_unfixed.specs.Unfixed.{IsUnrated, LacksRate}
 use Rattle.irs_unfixed.proofs.RateLemmas.{IsUnknown, map_none, rates_none, unknown_by}
 
@@ -40,7 +40,7 @@ pub record Stages (cal : List Section) (fix : RateTable) (s : Stream) (p : Part)
   pub span : Span
   pub regular : Regular s span
   pub rates : List OvernightRate
-  pub resets_made : (resets_in s.leg (source_in cal s p span) (applicable_days cal s) fix).Answers (with_rates p.resets rates)
+  pub resets_made : (resets_in s.leg (reset_source cal s p span) (applicable_days cal s) fix).Answers (with_rates p.resets rates)
   pub amounts : Every (IsPaymentEntry (part_dates s p rates)) p.payments
   pub periods : p.periods ≡ periods_by (kept_of s) p.unadjusted p.adjusted p.resets rates
 
@@ -63,7 +63,7 @@ stages_of cal fix s p h =
       regular = (layout_kept sets s l m.1).regular;
       rates = events.rates;
       resets_made =
-          subst (λ (q : Part). (resets_in s.leg (source_in cal s q l.span) sets.applicable fix).Answers (with_rates q.resets events.rates))
+          subst (λ (q : Part). (resets_in s.leg (reset_source cal s q l.span) sets.applicable fix).Answers (with_rates q.resets events.rates))
           is (subst (λ (x : OvernightResets). (resets_in s.leg (resets_over sets s l) sets.applicable fix).Answers x) both
           m.2.1.2.2.1);
       amounts =

@@ -1,5 +1,5 @@
 -- The payment at a place of a schedule that has no amount, and the fixing that it lacks.
-use Rattle.std.proofs.Common.{◌≡◌, ℕ, zero, suc, ◌+◌, ◌-◌, ◌<◌, ◌≤◌, ◌^◌, List, [], ◌∷◌, length, Some, None, refl, sym}
+use Rattle.std.proofs.Common.{◌≡◌, ℕ, zero, suc, ◌+◌, ◌-◌, ◌<◌, ◌^◌, List, [], ◌∷◌, length, Some, None, refl, sym}
 use Rattle.std.proofs.Common.{ap, subst, ◌∙◌, arith}
 use Rattle.std.specs.Prelude.{get_or, nat_lt, slice_get}
 use Rattle.std.proofs.lemmas.Option.{same_Some, slice_get_read, slice_get_within}
@@ -21,9 +21,9 @@ use Rattle.irs_schedule.specs.declared.entries.PaymentEntry.{PaymentEntry}
 use Rattle.irs_schedule.proofs.OnePart.{one_schedule, schedule_determined, schedule_is}
 use Rattle.irs_unfixed.specs.Fixings.{Fixing, LacksFixing}
 use Rattle.irs_unfixed.specs.Made.{IsGap, IsMade}
-use Rattle.irs_unfixed.specs.Missing.{IsScheduled, PaymentLacks, Sources}
-use Rattle.irs_unfixed.specs.Unfixed.{IsUnfixed, IsUnrated, LacksAmount}
-use Rattle.irs_unfixed.specs.declared.places.Place.{Place}
+use Rattle.irs_unfixed.specs.Missing.{IsMadeFrom, PaymentLacks, MadeFrom}
+use Rattle.irs_unfixed.specs.Unfixed.{UnfixedAt, IsUnrated, LacksAmount}
+use Rattle.irs_unfixed.specs.declared.places.PaymentPlace.{PaymentPlace}
 use Rattle.irs_unfixed.proofs.MadeLemmas.{stages_of, unrated_there}
 
 -- a member that is read at its place
@@ -33,7 +33,7 @@ read_at xs ys i x same low is =
     slice_get_read xs (length xs) i x refl low (subst (λ (zs : List _). x ≡ get_or zs i x) same is)
 
 -- a part and a payment of it, at a place of a schedule
-pub record IsRead (parts : List Part) (u : Place) (p : Part) (y : PaymentEntry) : Type 0 where
+pub record IsRead (parts : List Part) (u : PaymentPlace) (p : Part) (y : PaymentEntry) : Type 0 where
   pub part : slice_get parts (u.stream - 1) ≡ Some p
   pub payment : slice_get p.payments (u.payment - 1) ≡ Some y
 
@@ -51,7 +51,7 @@ answer_at {A = A} spec n (y ∷ ys) given h (suc i) z a at there =
     let next : slice_get h.2.0 i ≡ Some a = sym (ap (λ (l : List A). slice_get l (suc i)) h.2.2) ∙ there in
     answer_at spec (n + 1) ys h.2.0 h.2.1 i z a at next
 
-module _ (x : Sources) (parts : List Part) (h : IsScheduled x parts) where
+module _ (x : MadeFrom) (parts : List Part) (h : IsMadeFrom x parts) where
   -- a swap has a stream for each part of its schedule
   as_many : length x.swap.streams ≡ length parts
   as_many =
@@ -75,7 +75,7 @@ module _ (x : Sources) (parts : List Part) (h : IsScheduled x parts) where
         bounds = bounds;
       }
 
-  module _ (u : Place) (lacks : IsUnfixed parts u) where
+  module _ (u : PaymentPlace) (lacks : UnfixedAt parts u) where
     -- the schedule has its part
     pub part_low : u.stream - 1 < length parts
     part_low = slice_get_within parts (u.stream - 1) lacks.member lacks.at
@@ -142,7 +142,7 @@ module _ (x : Sources) (parts : List Part) (h : IsScheduled x parts) where
               }
 
   -- a part and a payment that are read at their places
-  pub is_read : (u : Place) → IsUnfixed parts u → (ps : List Part) → ps ≡ parts → (p : Part)
+  pub is_read : (u : PaymentPlace) → UnfixedAt parts u → (ps : List Part) → ps ≡ parts → (p : Part)
       → p ≡ get_or ps (u.stream - 1) p → (ys : List PaymentEntry) → ys ≡ p.payments → (y : PaymentEntry)
       → y ≡ get_or ys (u.payment - 1) y → IsRead parts u p y
   is_read u lacks ps same p is ys listed y there =

@@ -2,7 +2,6 @@
 use Rattle.std.proofs.Common.{◌≡◌, inl, inr, ℕ, ◌-◌, List, [], ◌∷◌, length, Option, Some, None, ℤ, sym, ap, subst, ◌∙◌}
 use Rattle.std.specs.Prelude.{IsSome, nat_lt, slice_get}
 use Rattle.std.proofs.lemmas.Option.{same_Some}
-use Rattle.irs_base.specs.Members.{HoldsOf}
 use Rattle.irs_base.specs.Order.{First}
 use Rattle.irs_base.proofs.Firsts.{AreTied, one_first, tied, tied_last}
 use Rattle.irs_terms.specs.declared.amounts.FloatTerms.{FloatTerms}
@@ -16,7 +15,7 @@ use Rattle.irs_terms.specs.declared.results.Span.{Span}
 use Rattle.irs_terms.specs.declared.stream.Stream.{Stream}
 use Rattle.irs_calendar.specs.declared.sections.Section.{Section}
 use Rattle.irs_periods.proofs.OneSpan.{one_span}
-use Rattle.irs_resets.specs.ObservedRates.{IsKind, Line, RateSource, source_by}
+use Rattle.irs_resets.specs.ObservedRates.{IsKind, Line}
 use Rattle.irs_resets.specs.Rates.{RateTable}
 use Rattle.irs_resets.specs.declared.observed.PeriodKind.{PeriodKind}
 use Rattle.irs_resets.proofs.KindLaws.{one_kind}
@@ -28,9 +27,9 @@ use Rattle.irs_schedule.specs.Parts.{Part}
 use Rattle.irs_schedule.specs.declared.entries.PaymentEntry.{PaymentEntry}
 use Rattle.irs_unfixed.specs.AbsentDays.{FirstAbsent, IsAbsentDay}
 use Rattle.irs_unfixed.specs.Fixings.{Fixing, FloatsOn, LacksFixing, RestsBy, RestsIn, RestsOnDays, RestsOnReset}
-use Rattle.irs_unfixed.specs.Missing.{IsFirstLacking, PaymentLacks, Sources}
-use Rattle.irs_unfixed.specs.Unfixed.{IsUnfixed, IsUnrated, place_before}
-use Rattle.irs_unfixed.specs.declared.places.Place.{Place}
+use Rattle.irs_unfixed.specs.Missing.{IsFirstLacking, PaymentLacks, MadeFrom}
+use Rattle.irs_unfixed.specs.Unfixed.{UnfixedAt, IsUnrated, place_before}
+use Rattle.irs_unfixed.specs.declared.places.PaymentPlace.{PaymentPlace}
 use Rattle.irs_unfixed.proofs.SourceLemmas.{source_is}
 
 -- ---- one fixing of a period
@@ -114,9 +113,9 @@ place_ties u v h k =
     let payments = tied_last u.payment v.payment levels.1 levels.2 in
     λ i. record { stream = levels.0 i; payment = payments i }
 
-module _ (x : Sources) (parts : List Part) where
+module _ (x : MadeFrom) (parts : List Part) where
   -- the payment at a place lacks one fixing
-  one_lacks : (u : Place) (f g : Fixing) → PaymentLacks x parts u f → PaymentLacks x parts u g → f ≡ g
+  one_lacks : (u : PaymentPlace) (f g : Fixing) → PaymentLacks x parts u f → PaymentLacks x parts u g → f ≡ g
   one_lacks u f g h k =
       let stream : k.stream ≡ h.stream = same_Some k.stream h.stream (sym k.is_stream ∙ h.is_stream) in
       let part : k.part ≡ h.part = same_Some k.part h.part (sym k.is_part ∙ h.is_part) in
@@ -134,8 +133,8 @@ module _ (x : Sources) (parts : List Part) where
       (subst (λ (s : Stream). LacksFixing x.cal x.rates s k.part k.period g) stream k.lacks)))
 
   -- there is one first payment, and it lacks one fixing
-  pub one_lacking : (u v : Place) (f g : Fixing) → IsFirstLacking x parts u f → IsFirstLacking x parts v g
+  pub one_lacking : (u v : PaymentPlace) (f g : Fixing) → IsFirstLacking x parts u f → IsFirstLacking x parts v g
       → (u ≡ v) × (f ≡ g)
   one_lacking u v f g h k =
-      let place : u ≡ v = one_first place_before place_ties (IsUnfixed parts) u v h.first k.first in
-      (place, one_lacks u f g h.lacks (subst (λ (w : Place). PaymentLacks x parts w g) (sym place) k.lacks))
+      let place : u ≡ v = one_first place_before place_ties (UnfixedAt parts) u v h.first k.first in
+      (place, one_lacks u f g h.lacks (subst (λ (w : PaymentPlace). PaymentLacks x parts w g) (sym place) k.lacks))

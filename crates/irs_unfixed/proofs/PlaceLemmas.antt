@@ -1,5 +1,5 @@
 -- The first payment without an amount, by stream and by payment.
-use Rattle.std.proofs.Common.{◌≡◌, inl, inr, ℕ, ◌+◌, ◌-◌, ◌<◌, ◌≤◌, List, [], ◌∷◌, length, Option, Some, None, refl, sym}
+use Rattle.std.proofs.Common.{◌≡◌, inl, inr, ℕ, ◌+◌, ◌-◌, ◌≤◌, List, [], ◌∷◌, length, Option, Some, None, refl, sym}
 use Rattle.std.proofs.Common.{ap, subst, ◌∙◌, arith, suc, false}
 use Rattle.std.specs.Prelude.{IsSome, nat_lt, slice_get}
 use Rattle.std.proofs.lemmas.Bool.{cases_order}
@@ -11,8 +11,8 @@ use Rattle.irs_base.proofs.MemberLemmas.{NoneOf, some_is}
 use Rattle.irs_base.specs.declared.line.Dec.{Dec}
 use Rattle.irs_schedule.specs.Parts.{Part}
 use Rattle.irs_schedule.specs.declared.entries.PaymentEntry.{PaymentEntry}
-use Rattle.irs_unfixed.specs.Unfixed.{EachHasAmount, IsUnfixed, LacksAmount, place_before}
-use Rattle.irs_unfixed.specs.declared.places.Place.{Place}
+use Rattle.irs_unfixed.specs.Unfixed.{EachHasAmount, UnfixedAt, LacksAmount, place_before}
+use Rattle.irs_unfixed.specs.declared.places.PaymentPlace.{PaymentPlace}
 
 -- ---- numbers of a list
 
@@ -51,7 +51,7 @@ abbrev pub NoneIn : List Part → ℕ → Type 0
 NoneIn parts i = (payment : ℕ) → NoneOf (LacksOf payment) parts i
 
 module _ (parts : List Part) (i : ℕ) (p : Part) (at : slice_get parts i ≡ Some p) (none : NoneIn parts i) where
-  later_place : (k : ℕ) → First nat_lt (HoldsOf LacksAmount p.payments) k → (v : Place) → IsUnfixed parts v
+  later_place : (k : ℕ) → First nat_lt (HoldsOf LacksAmount p.payments) k → (v : PaymentPlace) → UnfixedAt parts v
       → place_before v (record { stream = i + 1; payment = k }) ≡ false
   later_place k first v h = elim (cases_order v.stream (i + 1)) [
     | inl same ↦
@@ -66,11 +66,11 @@ module _ (parts : List Part) (i : ℕ) (p : Part) (at : slice_get parts i ≡ So
 
   -- the first of the next stream that has one is the first of all
   pub first_place : (k : ℕ) → First nat_lt (HoldsOf LacksAmount p.payments) k
-      → First place_before (IsUnfixed parts) (record { stream = i + 1; payment = k })
+      → First place_before (UnfixedAt parts) (record { stream = i + 1; payment = k })
   first_place k first = (holds_at (LacksOf k) parts i p at first.0, later_place k first)
 
 -- where no stream has one no payment lacks its amount
-pub none_place : (parts : List Part) (i : ℕ) → length parts ≤ i → NoneIn parts i → (u : Place) → IsUnfixed parts u → ⊥
+pub none_place : (parts : List Part) (i : ℕ) → length parts ≤ i → NoneIn parts i → (u : PaymentPlace) → UnfixedAt parts u → ⊥
 none_place parts i all none u h = none_number (LacksOf u.payment) parts i all (none u.payment) u.stream h
 
 -- ---- every amount is there
@@ -97,7 +97,7 @@ each_there P Q (x ∷ xs) has none = (
 )
 
 -- where no payment of the schedule is unfixed every one has its amount
-pub all_fixed : (parts : List Part) → ((u : Place) → IsUnfixed parts u → ⊥) → EachHasAmount parts
+pub all_fixed : (parts : List Part) → ((u : PaymentPlace) → UnfixedAt parts u → ⊥) → EachHasAmount parts
 all_fixed parts none =
     each_there (λ (p : Part). (k : ℕ) × LacksOf k p) (λ (p : Part). Every (λ (y : PaymentEntry). IsSome y.amount) p.payments)
     parts (λ p lacks.

@@ -29,8 +29,8 @@ pub record Fixing : Type 0 where
   pub day : ℤ
 
 -- no line of the fixings has it
-abbrev pub IsAbsent : RateTable → Fixing → Type 0
-IsAbsent rates f = rate_at rates f.index (record { date = f.day; tenor = f.tenor }) ≡ None
+abbrev pub HasNoLine : RateTable → Fixing → Type 0
+HasNoLine rates f = rate_at rates f.index (record { date = f.day; tenor = f.tenor }) ≡ None
 
 -- ---- by the fixing date of a reset
 
@@ -84,4 +84,4 @@ RestsIn (Floating float) cal rates s p i f = FloatsOn float cal rates s p i f
 -- line of the fixings has it
 pub record LacksFixing (cal : List Section) (rates : RateTable) (s : Stream) (p : Part) (i : ℕ) (f : Fixing) : Type 0 where
   pub rests : RestsIn s.leg cal rates s p i f
-  pub absent : IsAbsent rates f
+  pub absent : HasNoLine rates f

@@ -19,8 +19,8 @@ abbrev pub HasSpan : Stream → Type 0
 HasSpan s = (span : Span) × (regular_span_of s).Answers span
 
 -- what the resets of a stream are worked out from, over the boundaries of its part of the schedule
-abbrev pub source_in : List Section → Stream → Part → Span → ResetSource
-source_in cal s p span = source_of s span p.adjusted (reset_days cal s) (fixing_days cal s)
+abbrev pub reset_source : List Section → Stream → Part → Span → ResetSource
+reset_source cal s p span = source_of s span p.adjusted (reset_days cal s) (fixing_days cal s)
 
 -- p is what a lawful stream comes to, whose terms keep the rules
 pub record IsMade (cal : List Section) (rates : RateTable) (s : Stream) (p : Part) : Type 0 where

@@ -5,18 +5,18 @@ use Rattle.irs_base.specs.Order.{level}
 use Rattle.irs_schedule.specs.Parts.{Part}
 use Rattle.irs_schedule.specs.declared.entries.PaymentEntry.{PaymentEntry}
 use Rattle.irs_schedule.specs.declared.entries.PeriodEntry.{PeriodEntry}
-use Rattle.irs_unfixed.specs.declared.places.Place.{Place}
+use Rattle.irs_unfixed.specs.declared.places.PaymentPlace.{PaymentPlace}
 
 -- the payment has no amount
 abbrev pub LacksAmount : PaymentEntry → Type 0
 LacksAmount y = y.amount ≡ None
 
 -- the payment at this place of a schedule is unfixed: it has no amount
-abbrev pub IsUnfixed : List Part → Place → Type 0
-IsUnfixed parts u = HoldsOf (λ (p : Part). HoldsOf LacksAmount p.payments u.payment) parts u.stream
+abbrev pub UnfixedAt : List Part → PaymentPlace → Type 0
+UnfixedAt parts u = HoldsOf (λ (p : Part). HoldsOf LacksAmount p.payments u.payment) parts u.stream
 
 -- the order of a schedule: the lower stream comes first, then the lower payment
-abbrev pub place_before : Place → Place → Bool
+abbrev pub place_before : PaymentPlace → PaymentPlace → Bool
 place_before a b = level a.stream b.stream (nat_lt a.payment b.payment)
 
 -- every payment of the schedule has its amount

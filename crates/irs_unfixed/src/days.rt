@@ -1,5 +1,5 @@
 //! The first observation day of a calculation period that has no daily rate (FpML `calculationParameters`).
-ghost use Rattle.std.specs.Prelude.{◌<ℤ◌, ℤ, IfNone, IfOk, IfSome, ◌≡◌};
+ghost use Rattle.std.specs.Prelude.{◌<ℤ◌, ℤ, IfNone, IfOk, IfSome};
 ghost use Rattle.irs_observed.specs.DailyRates.{AreKnown, daily_rates, rates_by};
 ghost use Rattle.irs_observed.specs.ObservationPeriods.{observed_period};
 ghost use Rattle.irs_observed.specs.ObservationRules.{Lacks};

@@ -1,8 +1,8 @@
 //! What holds of the first payment without an amount.
 ghost use Rattle.std.specs.Prelude.{◌≡◌};
 ghost use Rattle.irs_unfixed.specs.Fixings.{Fixing};
-ghost use Rattle.irs_unfixed.specs.Missing.{IsFirstLacking, sources};
-ghost use Rattle.irs_unfixed.specs.declared.places.Place.{Place};
+ghost use Rattle.irs_unfixed.specs.Missing.{IsFirstLacking, made_from};
+ghost use Rattle.irs_unfixed.specs.declared.places.PaymentPlace.{PaymentPlace};
 
 use irs_calendar::Calendars;
 use irs_resets::Fixings;
@@ -16,7 +16,7 @@ pub fn first_missing_is_determined(
     fixings: &Fixings,
     schedule: &Schedule,
 )
-    ensures { let x = sources swap.now calendars.now fixings.now in
-        (u v : Place) (f g : Fixing) → IsFirstLacking x schedule.now u f → IsFirstLacking x schedule.now v g
+    ensures { let x = made_from swap.now calendars.now fixings.now in
+        (u v : PaymentPlace) (f g : Fixing) → IsFirstLacking x schedule.now u f → IsFirstLacking x schedule.now v g
         → (u ≡ v) × (f ≡ g) }
 {}

@@ -11,7 +11,7 @@ use irs_terms::{FloatTerms, Frequency, StubRate, StubTerms};
 
 /// The lines of the fixings with an index and a tenor.
 #[derive(Clone, Copy)]
-pub(crate) struct Line<'a> {
+pub(crate) struct RateLine<'a> {
     /// The index (FpML `floatingRateIndex`).
     pub index: &'a Text,
     /// The tenor, where it has one (FpML `indexTenor`).
@@ -19,22 +19,22 @@ pub(crate) struct Line<'a> {
 }
 
 // The line of the stream's index.
-fn of_index(float: &FloatTerms) -> Line<'_>
+fn of_index(float: &FloatTerms) -> RateLine<'_>
     ensures { index_source float.now ≡ LineOf result.index.now result.tenor }
 {
-    Line {
+    RateLine {
         index: &float.index,
         tenor: float.tenor,
     }
 }
 
 // The line of a stub's index; none where the stub has a rate.
-fn of_stub(stub: &StubRate) -> Option<Line<'_>>
+fn of_stub(stub: &StubRate) -> Option<RateLine<'_>>
     ensures some { IfSome result (λ l. own_source stub.now ≡ LineOf l.index.now l.tenor) }
     ensures none { IfNone result ((rate : ℤ) × (own_source stub.now ≡ Stated rate)) }
 {
     match stub {
-        StubRate::Index(index, tenor) => Some(Line {
+        StubRate::Index(index, tenor) => Some(RateLine {
             index,
             tenor: *tenor,
         }),
@@ -42,7 +42,7 @@ fn of_stub(stub: &StubRate) -> Option<Line<'_>>
     }
 }
 
-fn of_stub_or_index<'a>(stub: &'a Option<StubRate>, float: &'a FloatTerms) -> Option<Line<'a>>
+fn of_stub_or_index<'a>(stub: &'a Option<StubRate>, float: &'a FloatTerms) -> Option<RateLine<'a>>
     ensures some { IfSome result (λ l. own_or_index stub.now float.now ≡ LineOf l.index.now l.tenor) }
     ensures none { IfNone result ((rate : ℤ) × (own_or_index stub.now float.now ≡ Stated rate)) }
 {
@@ -52,7 +52,7 @@ fn of_stub_or_index<'a>(stub: &'a Option<StubRate>, float: &'a FloatTerms) -> Op
     }
 }
 
-fn of_initial_stub<'a>(stubs: &'a Option<StubTerms>, float: &'a FloatTerms) -> Option<Line<'a>>
+fn of_initial_stub<'a>(stubs: &'a Option<StubTerms>, float: &'a FloatTerms) -> Option<RateLine<'a>>
     ensures some { IfSome result (λ l. initial_stub_source stubs.now float.now ≡ LineOf l.index.now l.tenor) }
     ensures none { IfNone result ((rate : ℤ) × (initial_stub_source stubs.now float.now ≡ Stated rate)) }
 {
@@ -62,7 +62,7 @@ fn of_initial_stub<'a>(stubs: &'a Option<StubTerms>, float: &'a FloatTerms) -> O
     }
 }
 
-fn of_final_stub<'a>(stubs: &'a Option<StubTerms>, float: &'a FloatTerms) -> Option<Line<'a>>
+fn of_final_stub<'a>(stubs: &'a Option<StubTerms>, float: &'a FloatTerms) -> Option<RateLine<'a>>
     ensures some { IfSome result (λ l. final_stub_source stubs.now float.now ≡ LineOf l.index.now l.tenor) }
     ensures none { IfNone result ((rate : ℤ) × (final_stub_source stubs.now float.now ≡ Stated rate)) }
 {
@@ -72,7 +72,7 @@ fn of_final_stub<'a>(stubs: &'a Option<StubTerms>, float: &'a FloatTerms) -> Opt
     }
 }
 
-fn of_first_regular(float: &FloatTerms) -> Option<Line<'_>>
+fn of_first_regular(float: &FloatTerms) -> Option<RateLine<'_>>
     ensures some { IfSome result
         (λ l. initial_or_index float.now.initial_rate float.now ≡ LineOf l.index.now l.tenor) }
     ensures none { IfNone result
@@ -90,7 +90,7 @@ pub(crate) fn line_of<'a>(
     kind: PeriodKind,
     float: &'a FloatTerms,
     stubs: &'a Option<StubTerms>,
-) -> Option<Line<'a>>
+) -> Option<RateLine<'a>>
     ensures some { IfSome result (λ l. source_by kind float.now stubs.now ≡ LineOf l.index.now l.tenor) }
     ensures none { IfNone result ((rate : ℤ) × (source_by kind float.now stubs.now ≡ Stated rate)) }
 {

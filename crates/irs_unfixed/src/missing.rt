@@ -4,12 +4,12 @@
 //! rates of its observation days. Where a line is absent, the rate isn't known, and neither is the amount of
 //! the payment. The first such payment names the fixing to look for first: that is our rule.
 ghost use Rattle.std.specs.Prelude.{◌≡◌, IfNone, IfOk, IfSome};
-ghost use Rattle.irs_unfixed.specs.Missing.{IsFirstMissing, IsScheduled, PaymentLacks, fixing_of, place_of, sources};
-ghost use Rattle.irs_unfixed.specs.Unfixed.{EachHasAmount, IsUnfixed};
+ghost use Rattle.irs_unfixed.specs.Missing.{IsFirstMissing, IsMadeFrom, PaymentLacks, fixing_of, place_of, made_from};
+ghost use Rattle.irs_unfixed.specs.Unfixed.{EachHasAmount, UnfixedAt};
 
 use crate::needed::needed_fixing;
 use crate::periods::first_unrated;
-use crate::places::{Place, first_unfixed};
+use crate::places::{PaymentPlace, first_unfixed};
 use irs_base::{Day, Memory, Text};
 use irs_calendar::Calendars;
 use irs_resets::Fixings;
@@ -49,8 +49,8 @@ pub fn first_missing<'a>(
     fixings: &Fixings,
     schedule: &Schedule,
 ) -> Result<Option<Missing<'a>>, Memory>
-    requires { IsScheduled (sources swap.now calendars.now fixings.now) schedule.now }
-    ensures some { let x = sources swap.now calendars.now fixings.now in
+    requires { IsMadeFrom (made_from swap.now calendars.now fixings.now) schedule.now }
+    ensures some { let x = made_from swap.now calendars.now fixings.now in
         IfOk result (λ o. IfSome o (IsFirstMissing x schedule.now)) }
     ensures none { IfOk result (λ o. IfNone o (EachHasAmount schedule.now)) }
 {
@@ -70,12 +70,12 @@ fn missing_at<'a>(
     calendars: &Calendars,
     fixings: &Fixings,
     schedule: &Schedule,
-    place: Place,
+    place: PaymentPlace,
 ) -> Result<Missing<'a>, Memory>
-    requires scheduled { IsScheduled (sources swap.now calendars.now fixings.now) schedule.now }
-    requires unfixed { IsUnfixed schedule.now place }
+    requires made { IsMadeFrom (made_from swap.now calendars.now fixings.now) schedule.now }
+    requires unfixed { UnfixedAt schedule.now place }
     ensures at { IfOk result (λ m. place_of m ≡ place) }
-    ensures lacks { let x = sources swap.now calendars.now fixings.now in
+    ensures lacks { let x = made_from swap.now calendars.now fixings.now in
         IfOk result (λ m. PaymentLacks x schedule.now place (fixing_of m)) }
 {
     let index = place.stream as usize - 1;

@@ -1,5 +1,5 @@
 //! The fixing that the rate of a calculation period rests on, where no line of the fixings has it.
-ghost use Rattle.std.specs.Prelude.{◌≡◌, ◌<◌, ◌-◌, ◌≤◌, ℤ, Some, IfOk, length, slice_get};
+ghost use Rattle.std.specs.Prelude.{◌≡◌, ◌<◌, ◌≤◌, ℤ, Some, IfOk, length};
 ghost use Rattle.irs_terms.specs.Lawful.{IsLawfulStream};
 ghost use Rattle.irs_terms.specs.Suiting.{FrequencySuits};
 ghost use Rattle.irs_terms.specs.TermDates.{DatesInOrder};
@@ -7,7 +7,7 @@ ghost use Rattle.irs_terms.specs.declared.amounts.Leg.TheVariants.{Floating as O
 ghost use Rattle.irs_terms.specs.declared.results.Reset.{Reset as ResetRow};
 ghost use Rattle.irs_base.specs.Members.{HoldsOf, day_at};
 ghost use Rattle.irs_periods.specs.Spans.{Regular};
-ghost use Rattle.irs_resets.specs.ObservedRates.{IsKind, Line as LineOf, Stated, source_by};
+ghost use Rattle.irs_resets.specs.ObservedRates.{Line as LineOf, Stated, source_by};
 ghost use Rattle.irs_unfixed.specs.AbsentDays.{IsAbsentDay};
 ghost use Rattle.irs_unfixed.specs.Fixings.{LacksFixing, daily_period};
 ghost use Rattle.irs_unfixed.specs.Made.{HasSpan, IsGap};
@@ -15,7 +15,7 @@ ghost use Rattle.irs_unfixed.specs.Missing.{fixing_in};
 ghost use Rattle.irs_observed.specs.DailyRates.{daily_rates};
 
 use crate::days::absent_day;
-use crate::lines::{Line, line_of};
+use crate::lines::{RateLine, line_of};
 use irs_base::{Day, Memory, Text};
 use irs_calendar::Calendars;
 use irs_periods::regular_span;
@@ -56,7 +56,11 @@ fn span_of(s: &Stream) -> Span
 }
 
 // The line that the rate of a period of this kind is, where the terms don't state it.
-fn line_for<'a>(kind: PeriodKind, float: &'a FloatTerms, stubs: &'a Option<StubTerms>) -> Line<'a>
+fn line_for<'a>(
+    kind: PeriodKind,
+    float: &'a FloatTerms,
+    stubs: &'a Option<StubTerms>,
+) -> RateLine<'a>
     requires { (rate : ℤ) → source_by kind float.now stubs.now ≡ Stated rate → ⊥ }
     ensures { source_by kind float.now stubs.now ≡ LineOf result.index.now result.tenor }
 {

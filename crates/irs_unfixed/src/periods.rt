@@ -1,5 +1,5 @@
 //! The first calculation period of a payment whose rate isn't known.
-ghost use Rattle.std.specs.Prelude.{◌↔◌, ◌<◌, ◌≤◌, ◌^◌, IsTrue, nat_lt};
+ghost use Rattle.std.specs.Prelude.{◌↔◌, ◌<◌, ◌^◌, IsTrue, nat_lt};
 ghost use Rattle.irs_base.specs.Members.{HoldsOf};
 ghost use Rattle.irs_base.specs.Order.{IsFirst};
 ghost use Rattle.irs_unfixed.specs.Unfixed.{IsUnrated, LacksRate};

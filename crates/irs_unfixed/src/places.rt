@@ -2,13 +2,13 @@
 ghost use Rattle.std.specs.Prelude.{◌<◌, ◌^◌, length, nat_lt};
 ghost use Rattle.irs_base.specs.Members.{HoldsOf};
 ghost use Rattle.irs_base.specs.Order.{IsFirst};
-ghost use Rattle.irs_unfixed.specs.Unfixed.{IsUnfixed, LacksAmount, place_before};
+ghost use Rattle.irs_unfixed.specs.Unfixed.{UnfixedAt, LacksAmount, place_before};
 
 use irs_schedule::{PaymentEntry, Schedule};
 
 /// A payment by its place in a schedule.
 #[derive(Clone, Copy)]
-pub(crate) struct Place {
+pub(crate) struct PaymentPlace {
     /// The number of the stream, from 1.
     pub stream: u8,
     /// The number of the payment in its stream, from 1.
@@ -29,12 +29,12 @@ fn first_of(payments: &[PaymentEntry]) -> Option<u32>
 }
 
 /// The first payment of a schedule that has no amount: the lowest stream, and in it the lowest payment.
-pub(crate) fn first_unfixed(schedule: &Schedule) -> Option<Place>
-    ensures { IsFirst place_before (IsUnfixed schedule.now) result }
+pub(crate) fn first_unfixed(schedule: &Schedule) -> Option<PaymentPlace>
+    ensures { IsFirst place_before (UnfixedAt schedule.now) result }
 {
     for (place, part) in schedule.streams().iter().enumerate() {
         if let Some(payment) = first_of(part.payments()) {
-            return Some(Place {
+            return Some(PaymentPlace {
                 stream: place as u8 + 1,
                 payment,
             });

@@ -1,24 +1,23 @@
 use Rattle.std.proofs.Common.{arith, ◌-◌}
-use Rattle.irs_schedule.specs.Parts.{Part}
-use Rattle.irs_unfixed.specs.Missing.{Sources, sources}
+use Rattle.irs_unfixed.specs.Missing.{MadeFrom, made_from}
 use Rattle.irs_unfixed.proofs.MissingLemmas.{is_gap, is_read, last_few, lies, not_rated, part_low, payment_lacks}
 use Rattle.irs_unfixed.proofs.MissingLemmas.{payment_low, read_at, stream_low}
 use Rattle.irs_unfixed.proofs.missing.missing_at.Goals as goal
 
 pub bounds-as_slice-index : goal.bounds-as_slice-index
 bounds-as_slice-index c =
-    let x : Sources = sources c.args.swap.now c.args.calendars.now c.args.fixings.now in
-    rw c.as_slice.ensures (stream_low x c.args.schedule.now c.requires.scheduled c.args.place c.requires.unfixed)
+    let x : MadeFrom = made_from c.args.swap.now c.args.calendars.now c.args.fixings.now in
+    rw c.as_slice.ensures (stream_low x c.args.schedule.now c.requires.made c.args.place c.requires.unfixed)
 
 pub bounds-streams-index : goal.bounds-streams-index
 bounds-streams-index c =
-    let x : Sources = sources c.args.swap.now c.args.calendars.now c.args.fixings.now in
-    rw c.streams.ensures.value (part_low x c.args.schedule.now c.requires.scheduled c.args.place c.requires.unfixed)
+    let x : MadeFrom = made_from c.args.swap.now c.args.calendars.now c.args.fixings.now in
+    rw c.streams.ensures.value (part_low x c.args.schedule.now c.requires.made c.args.place c.requires.unfixed)
 
 pub bounds-payments-place : goal.bounds-payments-place
 bounds-payments-place c =
-    let x : Sources = sources c.args.swap.now c.args.calendars.now c.args.fixings.now in
-    let h = c.requires.scheduled in
+    let x : MadeFrom = made_from c.args.swap.now c.args.calendars.now c.args.fixings.now in
+    let h = c.requires.made in
     let u = c.args.place in
     let parts = c.args.schedule.now in
     let p = c.index-streams-index.result in
@@ -28,8 +27,8 @@ bounds-payments-place c =
 
 pub first_unrated-requires-clause-low : goal.first_unrated-requires-clause-low
 first_unrated-requires-clause-low c =
-    let x : Sources = sources c.args.swap.now c.args.calendars.now c.args.fixings.now in
-    let h = c.requires.scheduled in
+    let x : MadeFrom = made_from c.args.swap.now c.args.calendars.now c.args.fixings.now in
+    let h = c.requires.made in
     let u = c.args.place in
     let parts = c.args.schedule.now in
     let p = c.index-streams-index.result in
@@ -41,8 +40,8 @@ first_unrated-requires-clause-low c =
 
 pub first_unrated-requires-clause-high : goal.first_unrated-requires-clause-high
 first_unrated-requires-clause-high c =
-    let x : Sources = sources c.args.swap.now c.args.calendars.now c.args.fixings.now in
-    let h = c.requires.scheduled in
+    let x : MadeFrom = made_from c.args.swap.now c.args.calendars.now c.args.fixings.now in
+    let h = c.requires.made in
     let u = c.args.place in
     let parts = c.args.schedule.now in
     let p = c.index-streams-index.result in
@@ -54,8 +53,8 @@ first_unrated-requires-clause-high c =
 
 pub unreachable-requires : goal.unreachable-requires
 unreachable-requires c =
-    let x : Sources = sources c.args.swap.now c.args.calendars.now c.args.fixings.now in
-    let h = c.requires.scheduled in
+    let x : MadeFrom = made_from c.args.swap.now c.args.calendars.now c.args.fixings.now in
+    let h = c.requires.made in
     let u = c.args.place in
     let parts = c.args.schedule.now in
     let p = c.index-streams-index.result in
@@ -69,8 +68,8 @@ unreachable-requires c =
 
 pub needed_fixing-requires : goal.needed_fixing-requires
 needed_fixing-requires c =
-    let x : Sources = sources c.args.swap.now c.args.calendars.now c.args.fixings.now in
-    let h = c.requires.scheduled in
+    let x : MadeFrom = made_from c.args.swap.now c.args.calendars.now c.args.fixings.now in
+    let h = c.requires.made in
     let u = c.args.place in
     let parts = c.args.schedule.now in
     let p = c.index-streams-index.result in
@@ -85,8 +84,8 @@ needed_fixing-requires c =
 
 pub returns-in-Ok-clause-lacks : goal.returns-in-Ok-clause-lacks
 returns-in-Ok-clause-lacks c =
-    let x : Sources = sources c.args.swap.now c.args.calendars.now c.args.fixings.now in
-    let h = c.requires.scheduled in
+    let x : MadeFrom = made_from c.args.swap.now c.args.calendars.now c.args.fixings.now in
+    let h = c.requires.made in
     let u = c.args.place in
     let parts = c.args.schedule.now in
     let p = c.index-streams-index.result in
