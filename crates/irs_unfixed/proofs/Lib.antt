@@ -1,9 +1,9 @@
-mod AbsentLemmas
-mod CountLemmas
-mod PlaceLemmas
-mod SourceLemmas
-mod RateLemmas
-mod MadeLemmas
-mod GapLemmas
-mod MissingLemmas
-mod OneFixing
+pub mod AbsentLemmas
+pub mod CountLemmas
+pub mod PlaceLemmas
+pub mod SourceLemmas
+pub mod RateLemmas
+pub mod MadeLemmas
+pub mod GapLemmas
+pub mod MissingLemmas
+pub mod OneFixing

@@ -14,3 +14,4 @@ mod places;
 pub use counts::{payment_count, unfixed_count};
 pub use laws::first_missing_is_determined;
 pub use missing::{Missing, first_missing};
+pub use places::PaymentPlace;

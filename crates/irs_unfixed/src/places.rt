@@ -8,7 +8,7 @@ use irs_schedule::{PaymentEntry, Schedule};
 
 /// A payment by its place in a schedule.
 #[derive(Clone, Copy)]
-pub(crate) struct PaymentPlace {
+pub struct PaymentPlace {
     /// The number of the stream, from 1.
     pub stream: u8,
     /// The number of the payment in its stream, from 1.
