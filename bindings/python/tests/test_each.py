@@ -174,13 +174,15 @@ class Items(unittest.TestCase):
 
 #: Runs out of memory on one document of two: a child does it, whose memory is limited.
 WITH_LITTLE_MEMORY = """
-import resource, sys
+import os, resource, sys
+from pathlib import Path
 sys.path.insert(0, sys.argv[1])
 from irs import OutOfMemory, library
 from irs.many import Item, answers
 huge = b'{"swap":[' + b",".join([b'{"a":[]}'] * 450000) + b"]}"
 library.run(["check", "D"], {"D": b"["})
-used = int(open("/proc/self/statm").read().split()[0]) * resource.getpagesize()
+pages = Path(os.sep, "proc", "self", "statm").read_text().split()[0]
+used = int(pages) * resource.getpagesize()
 resource.setrlimit(resource.RLIMIT_AS, (used + (48 << 20),) * 2)
 print([it.status for it in library.run_each(["check", "D"], {}, [{"D": b"["}, {"D": huge}, {"D": b"["}])])
 try:
