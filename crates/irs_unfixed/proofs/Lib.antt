@@ -1,0 +1,9 @@
+pub mod AbsentLemmas
+pub mod CountLemmas
+pub mod PlaceLemmas
+pub mod SourceLemmas
+pub mod RateLemmas
+pub mod MadeLemmas
+pub mod GapLemmas
+pub mod MissingLemmas
+pub mod OneFixing

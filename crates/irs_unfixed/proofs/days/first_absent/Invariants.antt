@@ -1,0 +1,7 @@
+use Rattle.std.proofs.Common.{take}
+use Rattle.irs_observed.specs.DailyRates.{AreKnown, rates_by}
+use Rattle.irs_unfixed.proofs.days.first_absent.Given as goal
+
+-- each observation so far has its daily rate
+abbrev pub invariant-loop-o : goal.invariant-loop-o
+invariant-loop-o l = AreKnown (rates_by l.daily) (take l.o-index l.observations)
