@@ -1,0 +1,4 @@
+pub mod Searches
+pub mod Opens
+pub mod Rows
+pub mod Lies

@@ -1,0 +1,35 @@
+-- What lies at the end of a way, a step further.
+use Rattle.std.proofs.Common.{◌≡◌, ℕ, zero, suc, ◌+◌, ◌-◌, List, [], ◌∷◌, drop, Some, None, refl, sym, ap, subst, arith}
+use Rattle.std.specs.Prelude.{slice_get}
+use Rattle.std.proofs.lemmas.Option.{same_Some}
+use Rattle.irs_elements.specs.Find.{values_in}
+use Rattle.irs_locate.specs.Members.{LiesAt, below, here}
+use Rattle.irs_locate.specs.Ways.{Step}
+use Rattle.serde_json.specs.Data.{Data}
+
+-- what is left of a list begins with its next item
+drop_next : (xs : List Step) (n : ℕ) (x : Step) → slice_get xs n ≡ Some x → drop n xs ≡ x ∷ drop (n + 1) xs
+drop_next [] n x e = absurd cc
+drop_next (y ∷ xs) zero x e = ap (λ (z : Step). z ∷ xs) (same_Some y x e)
+drop_next (y ∷ xs) (suc n) x e =
+    let next : suc n + 1 ≡ suc (n + 1) = omega arith in
+    rw next (drop_next xs n x e)
+
+-- nothing is left past the last one
+drop_none : (xs : List Step) (n : ℕ) → slice_get xs n ≡ None → drop n xs ≡ []
+drop_none [] zero e = refl
+drop_none [] (suc n) e = refl
+drop_none (y ∷ xs) zero e = absurd cc
+drop_none (y ∷ xs) (suc n) e = drop_none xs n e
+
+-- where the way ends, the value itself lies at its end
+pub at_end : (steps : List Step) (k : ℕ) (d : Data) → slice_get steps k ≡ None → LiesAt (drop k steps) d d
+at_end steps k d e = subst (λ (left : List Step). LiesAt left d d) (sym (drop_none steps k e)) (here d)
+
+-- what lies below the value that the next step leads to
+pub a_step_on : (steps : List Step) (k : ℕ) (step : Step) (d x e : Data) → slice_get steps k ≡ Some step
+    → slice_get (values_in step.name (Some d)) (step.number - 1) ≡ Some x → LiesAt (drop (k + 1) steps) x e
+    → LiesAt (drop k steps) d e
+a_step_on steps k step d x e is leads lies =
+    subst (λ (left : List Step). LiesAt left d e) (sym (drop_next steps k step is))
+    (below step (drop (k + 1) steps) d x e leads lies)

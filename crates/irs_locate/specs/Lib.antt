@@ -1,0 +1,5 @@
+pub mod Ways
+pub mod Markup
+pub mod Lines
+pub mod Members
+pub mod Seen

@@ -1,0 +1,143 @@
+-- The line of an element in a text in XML, from 1.
+use Rattle.irs_base.specs.declared.places.Place.{Place}
+use Rattle.irs_locate.specs.Markup.{Mark, Piece, plain, passed, opening, empty, closing, piece_of}
+use Rattle.irs_locate.specs.Ways.{Step, way}
+use Rattle.irs_locate.specs.declared.lines.Tag.{Tag}
+use Rattle.std.specs.Prelude.{◌≡◌, ℕ, ◌+◌, ◌-◌, ◌^◌, ◌<◌, ◌≤◌, ◌==◌, min, Bool, true, false, List, [], ◌∷◌, ◌++◌}
+use Rattle.std.specs.Prelude.{take, drop}
+use Rattle.std.specs.Prelude.{Option, Some, None, slice_get, length, if◌then◌else◌}
+use Rattle.std.specs.Str.{bytes_eq}
+
+-- ---- lines
+
+-- the line after the bytes that begin in this line: LF ends a line. The last number stands for all lines beyond it too
+abbrev pub lines_from : ℕ → List ℕ → ℕ
+lines_from line [] = line
+lines_from line (b ∷ bs) = if b == 10 then lines_from (min (line + 1) (2 ^ 32 - 1)) bs else lines_from line bs
+
+-- the line of what comes after the bytes, from 1
+abbrev pub line_after : List ℕ → ℕ
+line_after bytes = lines_from 1 bytes
+
+-- ---- open elements
+
+-- The elements that are open at a place of the text, as lists of names. The first list has the names of the elements
+-- so far in the innermost open element, the last one first; the second those in the element around it, and so on. The
+-- last list has those of the document itself. So the first name of each list but the first is that of an open element.
+abbrev pub Open : Type 0
+Open = List (List (List ℕ))
+
+-- one more element of that name in the innermost open element
+abbrev pub with_child : List ℕ → Open → Open
+with_child name [] = (name ∷ []) ∷ []
+with_child name (names ∷ around) = (name ∷ names) ∷ around
+
+-- what is open after an element ends
+abbrev pub around : Open → Open
+around [] = []
+around (names ∷ rest) = rest
+
+-- what is open after a piece
+abbrev pub after : Mark → Open → Open
+after plain lists = lists
+after passed lists = lists
+after (opening name) lists = [] ∷ with_child name lists
+after (empty name) lists = with_child name lists
+after closing lists = around lists
+
+-- after the first n bytes of the text, which are whole pieces, these elements are open
+pub data Within (text : List ℕ) : ℕ → Open → Type 0 where
+  -- at the front
+  front : Within text 0 ([] ∷ [])
+  -- one piece further
+  further : (n : ℕ) (lists : Open) (p : Piece) → Within text n lists → piece_of (drop n text) ≡ Some p
+      → Within text (n + p.size) (after p.mark lists)
+
+-- ---- the way to an element
+
+-- how many of the names are this one
+abbrev pub count_of : List ℕ → List (List ℕ) → ℕ
+count_of name [] = 0
+count_of name (n ∷ ns) = if bytes_eq n name then count_of name ns + 1 else count_of name ns
+
+-- the last element of these names, with its number
+abbrev pub last_step : List (List ℕ) → List Step
+last_step [] = []
+last_step (name ∷ names) = record { name = name; number = count_of name names + 1 } ∷ []
+
+-- the way from the root to the last element of the first list, which lies in the elements of the other lists
+abbrev pub way_to : Open → List Step
+way_to [] = []
+way_to (names ∷ around) = way_to around ++ last_step names
+
+-- a tag of an element of that name: one that opens it, or that of an element that ends at once
+pub data IsTagOf (name : List ℕ) : Option Piece → Type 0 where
+  opens : (size : ℕ) → IsTagOf name (Some (record { mark = opening name; size = size }))
+  ends_at_once : (size : ℕ) → IsTagOf name (Some (record { mark = empty name; size = size }))
+
+-- a tag that ends an element
+abbrev pub is_closing : Mark → Bool
+is_closing plain = false
+is_closing passed = false
+is_closing (opening name) = false
+is_closing (empty name) = false
+is_closing closing = true
+
+-- an end tag, or no piece any more: what ends the innermost open element
+abbrev pub is_end : Option Piece → Bool
+is_end None = true
+is_end (Some p) = is_closing p.mark
+
+-- ---- the line of an element
+
+-- an element with this tag has no element for the next step of the way in it: it ends at once; or it ends where it
+-- holds elements of these names, and fewer than the step's number have its name; or the text can't be read to its end
+pub data Lacks (text : List ℕ) (lists : Open) (next : Step) : Option Piece → Type 0 where
+  ended_at_once : (name : List ℕ) (size : ℕ) → Lacks text lists next (Some (record { mark = empty name; size = size }))
+  too_few : (tag : Option Piece) (n : ℕ) (names : List (List ℕ)) → Within text n (names ∷ lists)
+      → is_end (piece_of (drop n text)) ≡ true → count_of next.name names < next.number → Lacks text lists next tag
+  cut_off : (tag : Option Piece) (n : ℕ) (inner : Open) (names : List (List ℕ)) → Within text n (inner ++ names ∷ lists)
+      → piece_of (drop n text) ≡ None → Lacks text lists next tag
+
+-- an element of the text on the way to the place, the last one there is
+pub record IsLast (text : List ℕ) (place : Place) (at : ℕ) : Type 0 where
+  -- the name of the root, and that of the element, and those open around it
+  pub root : List ℕ
+  pub name : List ℕ
+  pub lists : Open
+  -- its tag is there
+  pub within : Within text at lists
+  pub tag : IsTagOf name (piece_of (drop at text))
+  -- the way to it is the first part of the way to the place
+  pub count : ℕ
+  pub leads : way_to (with_child name lists) ≡ take count (way root place)
+  -- and the way ends there, or its next element isn't there
+  pub last : (next : Step) → slice_get (way root place) count ≡ Some next
+      → Lacks text (with_child name lists) next (piece_of (drop at text))
+
+-- what the tag of the root is
+abbrev pub root_piece : Tag → Piece
+root_piece tag =
+    if tag.is_empty then record { mark = empty tag.name.now; size = tag.size } else
+    record { mark = opening tag.name.now; size = tag.size }
+
+-- no element is open before the tag
+pub record IsRootTag (text : List ℕ) (tag : Tag) : Type 0 where
+  pub within : Within text tag.at ([] ∷ [])
+  pub is : piece_of (drop tag.at text) ≡ Some (root_piece tag)
+  pub ends : tag.at + tag.size ≤ length text
+
+-- from the end of an opening tag on: the place where its element ends, or where the text can't be read to its end
+abbrev pub PassesOver : List ℕ → ℕ → Open → Option ℕ → Type 0
+PassesOver text start lists (Some end) = Within text start ([] ∷ lists) → Within text end lists
+PassesOver text start lists None = Within text start ([] ∷ lists)
+    → (n : ℕ) × ((inner : Open) × (Within text n (inner ++ lists) × (piece_of (drop n text) ≡ None)))
+
+-- up to here the text has no element, and nothing more can be read
+abbrev pub HasNone : List ℕ → Type 0
+HasNone text = (n : ℕ) × (Within text n ([] ∷ []) × (is_end (piece_of (drop n text)) ≡ true))
+
+-- the line is that of the element at the place, or of the last one on the way that is there; 1 where there is none
+pub data IsLineOf (text : List ℕ) (place : Place) : ℕ → Type 0 where
+  element : (at : ℕ) → IsLast text place at → IsLineOf text place (line_after (take at text))
+  nothing : HasNone text → IsLineOf text place 1

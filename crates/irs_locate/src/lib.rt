@@ -1,0 +1,11 @@
+//! Where in a document a rule is broken: the line of an element in FpML XML, and the name of the member
+//! that K4 or K5 means. That a sentence says so is our rule.
+#![tactic(auto)]
+
+mod lines;
+mod markup;
+mod members;
+mod ways;
+
+pub use lines::line_of;
+pub use members::member_of;

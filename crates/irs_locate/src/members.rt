@@ -1,0 +1,231 @@
+//! The name of the member by which an object breaks K4 or K5.
+ghost use Rattle.irs_base.specs.Rules.{rule_number};
+ghost use Rattle.irs_elements.specs.Elements.{is_element as is_element_of, is_known as is_known_in};
+ghost use Rattle.irs_elements.specs.Elements.{is_refused as is_refused_of};
+ghost use Rattle.irs_elements.specs.Elements.{is_unknown, name_at, texts};
+ghost use Rattle.irs_elements.specs.Find.{values_in};
+ghost use Rattle.irs_locate.specs.Members.{IsMemberOf, IsRowOf, LiesAt, first_odd as first_odd_of, is_out as is_out_of};
+ghost use Rattle.irs_locate.specs.Members.{is_row_of as is_row_of_elem, table_of as table_of_elem};
+ghost use Rattle.irs_locate.specs.Seen.{known_seen};
+ghost use Rattle.irs_locate.specs.Ways.{way};
+ghost use Rattle.serde_json.specs.View.{view};
+ghost use Rattle.std.specs.List.{find};
+ghost use Rattle.std.specs.Prelude.{◌≡◌, ◌-◌, ◌<◌, ◌==◌, ◌&&◌, IfSome, Some, nat_lt, option_map, slice_get};
+ghost use Rattle.std.specs.Str.{bytes_eq};
+
+use crate::ways::step_at;
+use irs_base::{Broken, Elem, Place, Rule};
+use irs_elements::{Kind, Row, values_at};
+use irs_json::{MemberIter, Value, child, is_attribute_name, members};
+use irs_read::{NAMES, ROWS, SWAP_NAMES, SWAP_ROWS};
+use std::str;
+
+/// The most steps that are followed; no way has more.
+const MOST_STEPS: usize = 16;
+
+/// A table of elements: a row for each, and its name.
+#[derive(Clone, Copy)]
+struct Known {
+    /// The rows.
+    rows: &'static [Row],
+    /// The name at each row.
+    names: &'static [&'static str],
+}
+
+// The table that has the members of the element: that of the swap, or of a stream.
+#[tactic(auto, unfolding(crate::specs::Members::table_of))]
+fn table_of(elem: Elem) -> Known
+    ensures { known_seen result ≡ table_of_elem elem }
+{
+    irs_read::tables_listed();
+    if elem == Elem::SWAP {
+        Known {
+            rows: &SWAP_ROWS,
+            names: &SWAP_NAMES,
+        }
+    } else {
+        Known {
+            rows: &ROWS,
+            names: &NAMES,
+        }
+    }
+}
+
+// ---- rows
+
+fn is_element(kind: Kind) -> bool
+    ensures { result ≡ is_element_of kind }
+{
+    match kind {
+        Kind::Object(_) => true,
+        Kind::Leaf(_) => true,
+        Kind::Passed => false,
+        Kind::Refused => false,
+    }
+}
+
+fn is_refused(kind: Kind) -> bool
+    ensures { result ≡ is_refused_of kind }
+{
+    match kind {
+        Kind::Object(_) => false,
+        Kind::Leaf(_) => false,
+        Kind::Passed => false,
+        Kind::Refused => true,
+    }
+}
+
+// Whether the row is that of the element.
+fn is_row_of(elem: Elem, row: &Row) -> bool
+    ensures { result ≡ is_row_of_elem elem row.now }
+{
+    row.place == elem.place() && is_element(row.kind)
+}
+
+// The row of the element, if it has one.
+fn row_of(rows: &[Row], elem: Elem) -> Option<usize>
+    ensures { IfSome result (IsRowOf rows.now elem) }
+{
+    for r in 0..rows.len() {
+        if is_row_of(elem, &rows[r]) {
+            return Some(r);
+        }
+    }
+    None
+}
+
+// The name at row c, and the empty name past the table.
+fn name_of(names: &[&'static str], c: usize) -> &'static str
+    ensures { result.now ≡ name_at (texts names.now) c }
+{
+    match names.get(c) {
+        None => "",
+        Some(name) => name,
+    }
+}
+
+// Whether the row at c is below the object at row r and has the name.
+fn is_named(table: Known, r: usize, c: usize, row: &Row, name: &str) -> bool
+    ensures { result ≡ (nat_lt r c && row.now.parent == r && bytes_eq (name_at (texts table.names.now) c) name.now) }
+{
+    r < c && row.parent == r && name_of(table.names, c) == name
+}
+
+// Whether a row below the object at row r has the name.
+fn is_known(table: Known, r: usize, name: &str) -> bool
+    ensures { result ≡ is_known_in table.rows.now (texts table.names.now) r name.now }
+{
+    for c in 0..table.rows.len() {
+        if is_named(table, r, c, &table.rows[c], name) {
+            return true;
+        }
+    }
+    false
+}
+
+// Whether the row at c is below the object at row r, has the name, and is out of the profile.
+fn is_out_at(table: Known, r: usize, c: usize, row: &Row, name: &str) -> bool
+    ensures { result
+        ≡ (is_refused_of row.now.kind
+        && (row.now.parent == r && bytes_eq (name_at (texts table.names.now) c) name.now)) }
+{
+    is_refused(row.kind) && (row.parent == r && name_of(table.names, c) == name)
+}
+
+// Whether a row below the object at row r has the name, and is out of the profile.
+fn is_out(table: Known, r: usize, name: &str) -> bool
+    ensures { result ≡ is_out_of (known_seen table) r name.now }
+{
+    for c in 0..table.rows.len() {
+        if is_out_at(table, r, c, &table.rows[c], name) {
+            return true;
+        }
+    }
+    false
+}
+
+// ---- names
+
+// The first name that is no attribute's and that the table doesn't know below the object at row r.
+fn first_unknown<'a>(table: Known, r: usize, mut listed: MemberIter<'a>) -> Option<&'a str>
+    ensures { option_map (λ n. n.now) result ≡ find (is_unknown table.rows.now (texts table.names.now) r) listed.entry }
+{
+    listed.find(|name| !(is_attribute_name(name) || is_known(table, r, name)))
+}
+
+// The first name that is out of the profile below the object at row r.
+fn first_out<'a>(table: Known, r: usize, mut listed: MemberIter<'a>) -> Option<&'a str>
+    ensures { option_map (λ n. n.now) result ≡ find (is_out_of (known_seen table) r) listed.entry }
+{
+    listed.find(|name| is_out(table, r, name))
+}
+
+// The first name that breaks the rule in an object at row r.
+#[tactic(auto, unfolding(crate::specs::Members::first_odd))]
+fn first_odd<'a>(rule: Rule, table: Known, r: usize, listed: MemberIter<'a>) -> Option<&'a str>
+    ensures { option_map (λ n. n.now) result ≡ first_odd_of (rule_number rule) (known_seen table) r listed.entry }
+{
+    if rule.number() == 4 {
+        first_unknown(table, r, listed)
+    } else if rule.number() == 5 {
+        first_out(table, r, listed)
+    } else {
+        None
+    }
+}
+
+// ---- the object at a place
+
+// The name of the document's root.
+fn root_of(document: &Value) -> &'static str {
+    if child(document, "swap").is_some() {
+        "swap"
+    } else if child(document, "trade").is_some() {
+        "trade"
+    } else {
+        "dataDocument"
+    }
+}
+
+// The value with that number, from 1, among those of a name in v.
+fn value_below<'a>(v: &'a Value, name: &[u8], number: u32) -> Option<&'a Value>
+    requires { 0 < number }
+    ensures { IfSome result (λ x. slice_get (values_in name.now (Some (view v.now))) (number - 1) ≡ Some (view x.now)) }
+{
+    match str::from_utf8(name) {
+        Err(_) => None,
+        Ok(name) => values_at(v, name).get(number as usize - 1),
+    }
+}
+
+// The value at a place, by a root of that name.
+fn value_at<'a>(document: &'a Value, root: &[u8], place: &Place) -> Option<&'a Value>
+    ensures { IfSome result (λ v. LiesAt (way root.now place.now) (view document.now) (view v.now)) }
+{
+    let mut v = document;
+    for k in 0..MOST_STEPS {
+        match step_at(root, place, k) {
+            None => return Some(v),
+            Some(step) => match value_below(v, step.name, step.number) {
+                None => return None,
+                Some(x) => v = x,
+            },
+        }
+    }
+    None
+}
+
+/// For K4 the name of the first member of the object at the place that the table doesn't know, for K5 that
+/// of the first one that is out of the profile, in the order of `irs_json::members`. `None` for every
+/// other rule.
+pub fn member_of<'a>(document: &'a Value, broken: Broken) -> Option<&'a str>
+    ensures { IfSome result (λ m. IsMemberOf (view document.now) broken m.now) }
+{
+    let Broken { rule, place } = broken;
+    let object = value_at(document, root_of(document).as_bytes(), &place)?;
+    let listed = members(object)?;
+    let elem = place.elem;
+    let table = table_of(elem);
+    let r = row_of(table.rows, elem)?;
+    first_odd(rule, table, r, listed)
+}
