@@ -51,7 +51,8 @@ judged_compared (Verdict (Yes rows unfixed)) j done = yes_compared rows unfixed 
 judged_compared (Verdict (No d)) j done = absurd (cc)
 judged_compared (Refused e) j done = absurd (cc)
 
-judged_holds : (t : Task) (r : Reply) → IsJudged r → IsCauseOf t (cause_of r) (reply_status r) (reply_text r)
+-- the cause of a verdict or of a refusal
+pub judged_holds : (t : Task) (r : Reply) → IsJudged r → IsCauseOf t (cause_of r) (reply_status r) (reply_text r)
 judged_holds t r j = record { is = cause_holds r; compared = λ _ done. judged_compared r j done }
 
 other_holds : (t : Task) (r : Reply) → (t ≡ task.Audit → ⊥) → IsCauseOf t (cause_of r) (reply_status r) (reply_text r)

@@ -20,3 +20,4 @@ pub mod DerivedLemmas
 pub mod StubLemmas
 pub mod MessageLemmas
 pub mod OneAnswer
+pub mod NoteLemmas

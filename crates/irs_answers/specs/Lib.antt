@@ -17,3 +17,4 @@ pub mod Outcomes
 pub mod Unread
 pub mod Common
 pub mod Found
+pub mod Notes

@@ -37,6 +37,21 @@ nets (Overnight stream) = false
 nets (Average stream mean step) = false
 nets (Interpolate stream side low high) = false
 
+-- whether a task states the amounts of payments
+abbrev pub states_amounts : Task → Bool
+states_amounts Check = false
+states_amounts Schedule = true
+states_amounts Audit = true
+states_amounts (Breaks from) = true
+states_amounts Emit = true
+states_amounts EmitXml = true
+states_amounts (Accrue date) = true
+states_amounts Net = true
+states_amounts (Observations stream) = false
+states_amounts (Overnight stream) = false
+states_amounts (Average stream mean step) = false
+states_amounts (Interpolate stream side low high) = false
+
 -- the parameters of a task lie in their ranges: a step of 1 to 6,993 days, two tenors
 abbrev pub IsLawfulTask : Task → Type 0
 IsLawfulTask Check = Unit {0}

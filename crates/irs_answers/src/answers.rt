@@ -11,6 +11,7 @@ ghost use Rattle.irs_answers.specs.Found.{facts_by};
 ghost use Rattle.irs_answers.specs.Given.{given_with};
 ghost use Rattle.irs_answers.specs.Messages.{all_kept};
 ghost use Rattle.irs_answers.specs.Outcomes.{Ends, IfAnswered};
+ghost use Rattle.irs_answers.specs.Replying.{IsCarriedOut};
 ghost use Rattle.irs_answers.specs.Steps.{Is};
 ghost use Rattle.irs_answers.specs.Tasks.{IsLawfulTask};
 ghost use Rattle.irs_answers.specs.Unread.{AllPlaced, FlowsAlone, NoneUnread};
@@ -49,6 +50,7 @@ pub(crate) fn answer_by(
     ensures due { IfAnswered result
         (Ends (Answered task.now (given_with files.now common.now.files) (facts_by found.entry))) }
     ensures judged { JudgedIf task.now result }
+    ensures carried { IfOk result IsCarriedOut }
     ensures placed { AllPlaced (source_by files.now.document) (source_by files.now.flows) result }
 {
     match *task {
@@ -74,6 +76,7 @@ pub(crate) fn answer_by(
 
 fn check_answer(alloc: Global) -> Result<Reply, Refusal>
     ensures due { IfAnswered result (Ends (Is 0 all_kept)) }
+    ensures carried { IfOk result IsCarriedOut }
     ensures placed { NoneUnread result }
 {
     Ok(Reply::done(alloc, b"ok\n")?)
@@ -82,6 +85,7 @@ fn check_answer(alloc: Global) -> Result<Reply, Refusal>
 fn audit_answer(alloc: Global, flows: &Source, schedule: &Schedule) -> Result<Reply, Refusal>
     ensures due { IfAnswered result (Ends (DueFlows (DueVerdict schedule.now) (source_by flows.now))) }
     ensures judged { IfOk result IsJudged }
+    ensures carried { IfOk result IsCarriedOut }
     ensures placed { FlowsAlone (source_by flows.now) result }
 {
     Ok(Reply::Verdict(verdict_on(alloc, schedule, flows)?))
@@ -89,6 +93,7 @@ fn audit_answer(alloc: Global, flows: &Source, schedule: &Schedule) -> Result<Re
 
 fn emit_answer(alloc: Global, schedule: &Schedule) -> Result<Reply, Refusal>
     ensures due { IfAnswered result (Ends (Is 0 (emit_text schedule.now))) }
+    ensures carried { IfOk result IsCarriedOut }
     ensures placed { NoneUnread result }
 {
     Ok(Reply::Text(emit_flows(alloc, schedule)?))
@@ -96,6 +101,7 @@ fn emit_answer(alloc: Global, schedule: &Schedule) -> Result<Reply, Refusal>
 
 fn emit_xml_answer(alloc: Global, schedule: &Schedule) -> Result<Reply, Refusal>
     ensures due { IfAnswered result (Ends (Is 0 (flows_text schedule.now))) }
+    ensures carried { IfOk result IsCarriedOut }
     ensures placed { NoneUnread result }
 {
     Ok(Reply::Text(emit_xml(alloc, schedule)?))
@@ -105,6 +111,7 @@ fn accrue_answer(alloc: Global, found: &Found<'_>, date: Day) -> Result<Reply, R
     requires { IsAccruing (accruing found.now.swap found.now.calendars.now found.now.fixings.now) found.now.schedule }
     ensures due { let x = accruing found.now.swap found.now.calendars.now found.now.fixings.now in
         IfAnswered result (Ends (λ status text. (status ≡ 0) × TellsAccrued date x found.now.schedule text)) }
+    ensures carried { IfOk result IsCarriedOut }
     ensures placed { NoneUnread result }
 {
     Ok(Reply::Text(accrued_page(alloc, found, date)?))

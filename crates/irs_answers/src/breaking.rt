@@ -1,9 +1,9 @@
 //! The text of `breaks`: each break between cash flows and a schedule. Its format is our rule.
-ghost use Rattle.std.specs.Prelude.{◌≡◌};
+ghost use Rattle.std.specs.Prelude.{◌≡◌, IfOk};
 ghost use Rattle.irs_answers.specs.CashFlows.{DueBreaks, DueFlows, IsStatusOf};
 ghost use Rattle.irs_answers.specs.Forms.{source_by};
 ghost use Rattle.irs_answers.specs.Outcomes.{Ends, IfAnswered};
-ghost use Rattle.irs_answers.specs.Replying.{reply_status, reply_text};
+ghost use Rattle.irs_answers.specs.Replying.{IsCarriedOut, reply_status, reply_text};
 ghost use Rattle.irs_answers.specs.Unread.{FlowsAlone, IsPlain};
 
 use crate::flows::stated_flows;
@@ -23,6 +23,7 @@ pub(crate) fn breaks_answer(
     schedule: &Schedule,
 ) -> Result<Reply, Refusal>
     ensures due { IfAnswered result (Ends (DueFlows (DueBreaks from.now schedule.now) (source_by flows.now))) }
+    ensures carried { IfOk result IsCarriedOut }
     ensures placed { FlowsAlone (source_by flows.now) result }
 {
     let stated = stated_flows(alloc, flows)?;
@@ -35,6 +36,7 @@ pub(crate) fn breaks_answer(
 fn listed(list: &BreakList, text: Vec<u8>) -> Reply
     ensures status { IsStatusOf list.now (reply_status result) }
     ensures text { reply_text result ≡ text.items }
+    ensures carried { IsCarriedOut result }
     ensures plain { IsPlain result }
 {
     if list.any() {

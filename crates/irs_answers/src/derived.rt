@@ -9,6 +9,7 @@ ghost use Rattle.irs_overnight.specs.FileLaw.{file_text};
 ghost use Rattle.irs_answers.specs.Derived.{DueAverage, DueInterpolate, DueOvernight, FloatingStream, IsFloatingAt};
 ghost use Rattle.irs_answers.specs.Derived.{IsUnfixed};
 ghost use Rattle.irs_answers.specs.Outcomes.{Ends, IfAnswered};
+ghost use Rattle.irs_answers.specs.Replying.{IsCarriedOut};
 ghost use Rattle.irs_answers.specs.Unread.{NoneUnread};
 
 use crate::due::Found;
@@ -30,6 +31,7 @@ pub(crate) fn overnight_answer(
     requires { IsUnfixed found.now.swap found.now.calendars.now found.now.schedule }
     ensures due { IfAnswered result
         (Ends (DueOvernight number found.now.swap found.now.calendars.now found.now.fixings.now found.now.schedule)) }
+    ensures carried { IfOk result IsCarriedOut }
     ensures placed { NoneUnread result }
 {
     let swap = &found.swap;
@@ -53,6 +55,7 @@ pub(crate) fn average_answer(
     requires unfixed { IsUnfixed found.now.swap found.now.calendars.now found.now.schedule }
     ensures due { IfAnswered result
         (Ends (DueAverage number mean step found.now.swap found.now.calendars.now found.now.fixings.now found.now.schedule)) }
+    ensures carried { IfOk result IsCarriedOut }
     ensures placed { NoneUnread result }
 {
     let (swap, schedule) = (&found.swap, &found.schedule);
@@ -86,6 +89,7 @@ pub(crate) fn interpolate_answer(
     requires unfixed { IsUnfixed found.now.swap found.now.calendars.now found.now.schedule }
     ensures due { IfAnswered result
         (Ends (DueInterpolate number side low high found.now.swap found.now.fixings.now found.now.schedule)) }
+    ensures carried { IfOk result IsCarriedOut }
     ensures placed { NoneUnread result }
 {
     let swap = &found.swap;

@@ -1,26 +1,28 @@
 //! What a task over its files comes to: the steps that the tasks share.
-ghost use Rattle.std.specs.Prelude.{IfOk, IfErr};
+ghost use Rattle.std.specs.Prelude.{◌≡◌, Some, IfOk, IfErr};
 ghost use Rattle.serde_json.specs.View.{view};
 ghost use Rattle.irs_base.specs.declared.places.Broken.{Broken as BrokenRule};
 ghost use Rattle.irs_read.specs.Documents.{DocumentFault};
 ghost use Rattle.irs_terms.specs.Lawful.{IsLawful};
-ghost use Rattle.irs_answers.specs.Causes.{IsCauseOf, cause_of};
+ghost use Rattle.irs_answers.specs.Causes.{IsCauseOf, IsJudged, cause_of};
 ghost use Rattle.irs_answers.specs.Common.{AreRead};
 ghost use Rattle.irs_answers.specs.Given.{IsWithin, given_by, given_with};
 ghost use Rattle.irs_answers.specs.Due.{BreaksSides, DueFor, HasSides, Passes, rates_for};
 ghost use Rattle.irs_answers.specs.Forms.{source_by};
 ghost use Rattle.irs_answers.specs.Found.{facts_by};
-ghost use Rattle.irs_answers.specs.Outcomes.{Ends, IfAnswered, IfRefused, IsScheduled, IsUnscheduled};
+ghost use Rattle.irs_answers.specs.Notes.{IsNoteOf, IsRefusalNote};
+ghost use Rattle.irs_answers.specs.Outcomes.{Ends, IfRefused, IsScheduled, IsUnscheduled, answer_of};
 ghost use Rattle.irs_answers.specs.Replying.{reply_status, reply_text};
 ghost use Rattle.irs_answers.specs.Tasks.{IsLawfulTask};
-ghost use Rattle.irs_answers.specs.Unread.{AllPlaced, IsOtherwise, IsPlaced, IsPlacedReply};
+ghost use Rattle.irs_answers.specs.Unread.{IsOtherwise, IsPlaced, IsPlacedReply};
+ghost use Rattle.irs_answers.specs.declared.replies.Reply.TheVariants.{Refused};
 
 use crate::answers::answer_by;
 use crate::common::Common;
 use crate::files::TaskFiles;
-use crate::forms::read_document;
+use crate::forms::{Source, read_document};
+use crate::notes::{NotedReply, fixed_note, refusal_note};
 use crate::refusals::Refusal;
-use crate::replies::Reply;
 use crate::tasks::Task;
 use irs_base::{Broken, Memory};
 use irs_calendar::Calendars;
@@ -48,15 +50,16 @@ pub struct Found<'a> {
     pub schedule: Schedule,
 }
 
-/// What a task over its files comes to, its status and its text. The first step that applies decides. The
-/// steps are the document, the parties where the task needs them, the calendars, the fixings and the rules of
-/// the swap. The task's own step comes last. `Memory` comes where memory ran out.
-pub fn reply_of(alloc: Global, task: Task, files: TaskFiles) -> Result<Reply, Memory>
+/// What a task over its files comes to, its status and its text, and what a sentence adds. The first step that
+/// applies decides. The steps are the document, the parties where the task needs them, the calendars, the fixings and
+/// the rules of the swap. The task's own step comes last. `Memory` comes where memory ran out.
+pub fn reply_of(alloc: Global, task: Task, files: TaskFiles) -> Result<NotedReply, Memory>
     requires lawful { IsLawfulTask task }
     requires within { IsWithin (given_by files) }
-    ensures due { IfOk result (λ r. Ends (DueFor task (given_by files)) (reply_status r) (reply_text r)) }
-    ensures cause { IfOk result (λ r. IsCauseOf task (cause_of r) (reply_status r) (reply_text r)) }
-    ensures placed { IfOk result (λ r. IsPlacedReply (given_by files).document (given_by files).flows r) }
+    ensures due { IfOk result (λ r. Ends (DueFor task (given_by files)) (reply_status r.reply) (reply_text r.reply)) }
+    ensures cause { IfOk result (λ r. IsCauseOf task (cause_of r.reply) (reply_status r.reply) (reply_text r.reply)) }
+    ensures placed { IfOk result (λ r. IsPlacedReply (given_by files).document (given_by files).flows r.reply) }
+    ensures noted { IfOk result (λ r. IsNoteOf task (given_by files) (cause_of r.reply) r.note) }
 {
     let (own, common) = files.split(alloc);
     let common = Common::read(alloc, common);
@@ -70,35 +73,59 @@ pub fn reply_by(
     task: Task,
     files: &TaskFiles,
     common: &Common,
-) -> Result<Reply, Memory>
+) -> Result<NotedReply, Memory>
     requires lawful { IsLawfulTask task }
     requires read { AreRead common.now }
     ensures due { let given = given_with files.now common.now.files in
-        IfOk result (λ r. Ends (DueFor task given) (reply_status r) (reply_text r)) }
-    ensures cause { IfOk result (λ r. IsCauseOf task (cause_of r) (reply_status r) (reply_text r)) }
-    ensures placed { IfOk result (λ r. IsPlacedReply (source_by files.now.document) (source_by files.now.flows) r) }
+        IfOk result (λ r. Ends (DueFor task given) (reply_status r.reply) (reply_text r.reply)) }
+    ensures cause { IfOk result (λ r. IsCauseOf task (cause_of r.reply) (reply_status r.reply) (reply_text r.reply)) }
+    ensures placed { IfOk result
+        (λ r. IsPlacedReply (source_by files.now.document) (source_by files.now.flows) r.reply) }
+    ensures noted { let given = given_with files.now common.now.files in
+        IfOk result (λ r. IsNoteOf task given (cause_of r.reply) r.note) }
 {
     match carry_out(alloc, task, files, common) {
-        Ok(reply) => Ok(reply),
-        Err(refusal) => refusal.reply(),
+        Ok(noted) => Ok(noted),
+        Err(refusal) => refused_reply(alloc, &files.document, refusal),
     }
 }
 
-// What a task over its files comes to, or why it isn't carried out.
+// The reply that a refusal is, and where the document breaks a rule.
+fn refused_reply(alloc: Global, document: &Source, refusal: Refusal) -> Result<NotedReply, Memory>
+    ensures answer { IfOk result (λ r. answer_of refusal ≡ Some (reply_status r.reply, reply_text r.reply)) }
+    ensures judged { IfOk result (λ r. IsJudged r.reply) }
+    ensures refused { IfOk result (λ r. r.reply ≡ Refused refusal) }
+    ensures noted { IfOk result (λ r. IsRefusalNote (source_by document.now) refusal r.note) }
+{
+    let reply = refusal.reply()?;
+    let note = refusal_note(alloc, document, &refusal);
+    Ok(NotedReply { reply, note })
+}
+
+// What a task over its files comes to, and what a sentence adds; or why it isn't carried out.
 fn carry_out(
     alloc: Global,
     task: Task,
     files: &TaskFiles,
     common: &Common,
-) -> Result<Reply, Refusal>
+) -> Result<NotedReply, Refusal>
     requires lawful { IsLawfulTask task }
     requires read { AreRead common.now }
-    ensures due { IfAnswered result (Ends (DueFor task (given_with files.now common.now.files))) }
-    ensures cause { IfOk result (λ r. IsCauseOf task (cause_of r) (reply_status r) (reply_text r)) }
-    ensures placed { AllPlaced (source_by files.now.document) (source_by files.now.flows) result }
+    ensures due { let given = given_with files.now common.now.files in
+        IfOk result (λ r. Ends (DueFor task given) (reply_status r.reply) (reply_text r.reply)) }
+    ensures refused { IfErr result
+        (λ r. IfRefused r (Ends (DueFor task (given_with files.now common.now.files)))) }
+    ensures cause { IfOk result (λ r. IsCauseOf task (cause_of r.reply) (reply_status r.reply) (reply_text r.reply)) }
+    ensures placed { IfOk result
+        (λ r. IsPlacedReply (source_by files.now.document) (source_by files.now.flows) r.reply) }
+    ensures unread { IfErr result (λ r. IsPlaced (source_by files.now.document) (source_by files.now.flows) r) }
+    ensures noted { let given = given_with files.now common.now.files in
+        IfOk result (λ r. IsNoteOf task given (cause_of r.reply) r.note) }
 {
     let found = find(alloc, task, files, common)?;
-    answer_by(alloc, &task, files, common, found)
+    let note = fixed_note(alloc, &task, &found)?;
+    let reply = answer_by(alloc, &task, files, common, found)?;
+    Ok(NotedReply { reply, note })
 }
 
 /// What the files of a task say, and the schedule, or the first step that fails. The steps are the

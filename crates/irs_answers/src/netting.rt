@@ -5,6 +5,7 @@ ghost use Rattle.irs_base.specs.Members.{Every};
 ghost use Rattle.irs_net.specs.Nets.{HasPlaces};
 ghost use Rattle.irs_answers.specs.Netted.{IsSided, TellsNet, TellsNetOf, net_page};
 ghost use Rattle.irs_answers.specs.Outcomes.{Ends, IfAnswered};
+ghost use Rattle.irs_answers.specs.Replying.{IsCarriedOut};
 ghost use Rattle.irs_answers.specs.Unread.{NoneUnread};
 
 use crate::due::Found;
@@ -20,6 +21,7 @@ pub(crate) fn net_answer(alloc: Global, found: &Found<'_>) -> Result<Reply, Refu
     requires { IsSided found.now.sides found.now.schedule }
     ensures due { IfAnswered result
         (Ends (λ status text. (status ≡ 0) × TellsNet found.now.sides found.now.schedule text)) }
+    ensures carried { IfOk result IsCarriedOut }
     ensures placed { NoneUnread result }
 {
     let Some(sides) = found.sides else {

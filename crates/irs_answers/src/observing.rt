@@ -10,6 +10,7 @@ ghost use Rattle.irs_answers.specs.Accrued.{IsAccruing, accruing};
 ghost use Rattle.irs_answers.specs.Observed.{AreRowsIn, DailyStream, DueObservations, IsDailyAt, daily_stream};
 ghost use Rattle.irs_answers.specs.Observed.{no_daily_stream as no_daily_stream_of};
 ghost use Rattle.irs_answers.specs.Outcomes.{Ends, IfAnswered};
+ghost use Rattle.irs_answers.specs.Replying.{IsCarriedOut};
 ghost use Rattle.irs_answers.specs.Unread.{NoneUnread};
 
 use crate::due::Found;
@@ -32,6 +33,7 @@ pub(crate) fn observations_answer(
     requires { IsAccruing (accruing found.now.swap found.now.calendars.now found.now.fixings.now) found.now.schedule }
     ensures due { let x = accruing found.now.swap found.now.calendars.now found.now.fixings.now in
         IfAnswered result (Ends (DueObservations number x found.now.schedule)) }
+    ensures carried { IfOk result IsCarriedOut }
     ensures placed { NoneUnread result }
 {
     let (stream, float, parameters) = daily(&found.swap, number)?;

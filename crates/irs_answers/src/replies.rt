@@ -7,7 +7,8 @@ ghost use Rattle.irs_answers.specs.declared.refusals.Refusal.TheVariants.{Calend
 ghost use Rattle.irs_answers.specs.declared.refusals.Refusal.TheVariants.{Flows as OfFlows};
 ghost use Rattle.irs_answers.specs.declared.replies.Reply.TheVariants.{Refused};
 ghost use Rattle.irs_answers.specs.Unread.{IsPlain};
-ghost use Rattle.irs_answers.specs.Replying.{calendars_text, fixings_text, flows_text, refusal_text, reply_status, reply_text};
+ghost use Rattle.irs_answers.specs.Replying.{IsCarriedOut, reply_status, reply_text};
+ghost use Rattle.irs_answers.specs.Replying.{calendars_text, fixings_text, flows_text, refusal_text};
 
 use crate::flow_messages::{bad_flows_line, departure_line, not_read_line, yes_line};
 use crate::messages::{bad_calendar_line, bad_fixings_line, refused_line, unreadable_line};
@@ -38,6 +39,7 @@ impl Reply {
     /// A text of a task that is done. `Memory` comes where memory ran out.
     pub(crate) fn done(alloc: Global, text: &[u8]) -> Result<Reply, Memory>
         ensures done { IfOk result (λ r. (reply_status r ≡ 0) × (reply_text r ≡ text.now)) }
+        ensures carried { IfOk result IsCarriedOut }
         ensures plain { IfOk result (λ r. IsPlain r) }
     {
         Ok(Reply::Text(Vec::from_slice(alloc, text)?))

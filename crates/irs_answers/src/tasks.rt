@@ -1,6 +1,6 @@
 //! The tasks over a document and the files that go with it.
 ghost use Rattle.std.specs.Prelude.{◌≡◌};
-ghost use Rattle.irs_answers.specs.Tasks.{nets, uses_rates};
+ghost use Rattle.irs_answers.specs.Tasks.{nets, states_amounts, uses_rates};
 
 use irs_average::{Mean, Side};
 use irs_base::Day;
@@ -77,6 +77,26 @@ impl Task {
             Task::Emit => false,
             Task::EmitXml => false,
             Task::Accrue(_) => false,
+            Task::Net => true,
+            Task::Observations(_) => false,
+            Task::Overnight(_) => false,
+            Task::Average { .. } => false,
+            Task::Interpolate { .. } => false,
+        }
+    }
+
+    /// Whether the task states the amounts of payments.
+    pub(crate) fn states_amounts(&self) -> bool
+        ensures { result ≡ states_amounts self.now }
+    {
+        match *self {
+            Task::Check => false,
+            Task::Schedule => true,
+            Task::Audit => true,
+            Task::Breaks(_) => true,
+            Task::Emit => true,
+            Task::EmitXml => true,
+            Task::Accrue(_) => true,
             Task::Net => true,
             Task::Observations(_) => false,
             Task::Overnight(_) => false,

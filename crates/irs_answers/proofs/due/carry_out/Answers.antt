@@ -1,22 +1,68 @@
+use Rattle.std.proofs.Common.{Ok, Err}
+use Rattle.irs_answers.specs.declared.refusals.Refusal.TheVariants.{Memory}
+use Rattle.irs_answers.specs.Due.{DueFor}
 use Rattle.irs_answers.specs.Forms.{source_by}
-use Rattle.irs_answers.specs.Given.{given_with}
 use Rattle.irs_answers.specs.Found.{facts_by}
+use Rattle.irs_answers.specs.Given.{given_with}
+use Rattle.irs_answers.specs.Outcomes.{Ends, IfRefused}
+use Rattle.irs_answers.specs.Unread.{IsPlaced}
 use Rattle.irs_answers.proofs.CauseLemmas.{caused_by}
 use Rattle.irs_answers.proofs.DueLemmas.{passed_answer}
-use Rattle.irs_answers.proofs.UnreadLemmas.{placed_by}
+use Rattle.irs_answers.proofs.NoteLemmas.{carried_noted, made_by_passing}
+use Rattle.irs_answers.proofs.StepLemmas.{refused_by}
 use Rattle.irs_answers.proofs.due.carry_out.Goals as goal
 
+pub fixed_note-requires : goal.fixed_note-requires
+fixed_note-requires c =
+    made_by_passing c.args.task (given_with c.args.files.now c.args.common.now.files) (facts_by c.in_ok-found.found)
+    c.in_ok-found.ensures.lawful c.in_ok-found.ensures.passes
+
+pub returns-in_err-found-clause-unread : goal.returns-in_err-found-clause-unread
+returns-in_err-found-clause-unread c =
+    let made = c.from_residual in
+    let files = c.args.files.now in
+    refused_by made.result c.in_err-found.field-0.0 (IsPlaced (source_by files.document) (source_by files.flows))
+    made.ensures.0 made.ensures.1 c.in_err-found.ensures.placed
+
+pub returns-in_err-note-clause-refused : goal.returns-in_err-note-clause-refused
+returns-in_err-note-clause-refused c =
+    let made = c.from_residual-in_err-note in
+    let g = given_with c.args.files.now c.args.common.now.files in
+    refused_by made.result Memory (λ r. IfRefused r (Ends (DueFor c.args.task g))) made.ensures.0 made.ensures.1 tt
+
+pub returns-in_err-note-clause-unread : goal.returns-in_err-note-clause-unread
+returns-in_err-note-clause-unread c =
+    let made = c.from_residual-in_err-note in
+    let files = c.args.files.now in
+    refused_by made.result Memory (IsPlaced (source_by files.document) (source_by files.flows))
+    made.ensures.0 made.ensures.1 tt
+
+pub returns-in_err-reply-clause-refused : goal.returns-in_err-reply-clause-refused
+returns-in_err-reply-clause-refused c =
+    let made = c.from_residual-in_err-reply in
+    let e = c.in_err-reply.field-0.0 in
+    let t = c.args.task in
+    let g = given_with c.args.files.now c.args.common.now.files in
+    refused_by made.result e (λ r. IfRefused r (Ends (DueFor t g))) made.ensures.0 made.ensures.1
+    (passed_answer t g (facts_by c.in_ok-found.found) (Err e) c.in_ok-found.ensures.passes c.in_err-reply.ensures.due)
+
+pub returns-in_err-reply-clause-unread : goal.returns-in_err-reply-clause-unread
+returns-in_err-reply-clause-unread c =
+    let made = c.from_residual-in_err-reply in
+    let files = c.args.files.now in
+    refused_by made.result c.in_err-reply.field-0.0 (IsPlaced (source_by files.document) (source_by files.flows))
+    made.ensures.0 made.ensures.1 c.in_err-reply.ensures.placed
+
 pub returns-clause-due : goal.returns-clause-due
-returns-clause-due c = passed_answer c.args.task (given_with c.args.files.now c.args.common.now.files)
-    (facts_by c.in_ok-found.found) c.answer_by.result c.in_ok-found.ensures.passes c.answer_by.ensures.due
+returns-clause-due c =
+    passed_answer c.args.task (given_with c.args.files.now c.args.common.now.files) (facts_by c.in_ok-found.found)
+    (Ok c.in_ok-reply.reply) c.in_ok-found.ensures.passes c.in_ok-reply.ensures.due
 
 pub returns-clause-cause : goal.returns-clause-cause
-returns-clause-cause c = caused_by c.args.task c.answer_by.result c.answer_by.ensures.judged
+returns-clause-cause c = caused_by c.args.task (Ok c.in_ok-reply.reply) c.in_ok-reply.ensures.judged
 
-pub returns-in_err-found-clause-placed : goal.returns-in_err-found-clause-placed
-returns-in_err-found-clause-placed c =
-    let made = c.from_residual in
-    let document = source_by c.args.files.now.document in
-    let flows = source_by c.args.files.now.flows in
-    placed_by document flows made.result c.in_err-found.field-0.0 made.ensures.0 made.ensures.1
-    c.in_err-found.ensures.placed
+pub returns-clause-noted : goal.returns-clause-noted
+returns-clause-noted c =
+    carried_noted c.args.task (given_with c.args.files.now c.args.common.now.files) (facts_by c.in_ok-found.found)
+    c.in_ok-reply.reply c.in_ok-note.note c.in_ok-found.ensures.passes c.in_ok-reply.ensures.carried
+    c.in_ok-note.ensures

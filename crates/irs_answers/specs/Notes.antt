@@ -1,0 +1,123 @@
+-- What a sentence adds to what a reply says, and when that is so.
+use Rattle.std.specs.Prelude.{◌≡◌, ℕ, ◌==◌, ◌||◌, Bool, true, false, List, Option, None, IfSome, IsSomeAnd}
+use Rattle.serde_json.specs.Data.{Data}
+use Rattle.irs_base.specs.Rules.{rule_number}
+use Rattle.irs_base.specs.declared.places.Broken.{Broken}
+use Rattle.irs_base.specs.declared.places.Place.{Place}
+use Rattle.irs_base.specs.declared.places.Rule.{Rule}
+use Rattle.irs_audit.specs.Verdicts.{unfixed_count}
+use Rattle.irs_schedule.specs.Parts.{Part}
+use Rattle.irs_locate.specs.Lines.{IsLineOf}
+use Rattle.irs_locate.specs.Members.{IsMemberOf}
+use Rattle.irs_unfixed.specs.Counts.{payment_count}
+use Rattle.irs_unfixed.specs.Fixings.{Fixing}
+use Rattle.irs_unfixed.specs.Missing.{IsFirstLacking, MadeFrom, made_from}
+use Rattle.irs_unfixed.specs.Unfixed.{EachHasAmount}
+use Rattle.irs_unfixed.specs.declared.places.PaymentPlace.{PaymentPlace}
+use Rattle.irs_answers.specs.Due.{Facts, Passes, rates_for}
+use Rattle.irs_answers.specs.Forms.{SourceText, TextReads}
+use Rattle.irs_answers.specs.Given.{Given}
+use Rattle.irs_answers.specs.Tasks.{states_amounts}
+use Rattle.irs_answers.specs.declared.causes.Cause.{Cause}
+use Rattle.irs_answers.specs.declared.causes.Cause.TheVariants.{Done, Uncompared, NotAgreed, Breaks, Refused}
+use Rattle.irs_answers.specs.declared.forms.Form.{Form}
+use Rattle.irs_answers.specs.declared.forms.Form.TheVariants.{Json, Xml}
+use Rattle.irs_answers.specs.declared.notes.Note.{Note}
+use Rattle.irs_answers.specs.declared.notes.Note.TheVariants as note
+use Rattle.irs_answers.specs.declared.notes.Spot.{Spot}
+use Rattle.irs_answers.specs.declared.notes.Unfixed.{Unfixed}
+use Rattle.irs_answers.specs.declared.refusals.Refusal.{Refusal}
+use Rattle.irs_answers.specs.declared.refusals.Refusal.TheVariants as refusal
+use Rattle.irs_answers.specs.declared.tasks.Task.{Task}
+
+-- ---- payments without an amount
+
+-- the place of the first payment without an amount
+abbrev pub place_of : Unfixed → PaymentPlace
+place_of u = record { stream = u.stream; payment = u.payment }
+
+-- the fixing that it lacks
+abbrev pub fixing_of : Unfixed → Fixing
+fixing_of u = record { index = u.index; tenor = u.tenor; day = u.day }
+
+-- the counts of payments, and the first one without an amount, are those of the schedule
+pub record IsUnfixed (x : MadeFrom) (parts : List Part) (u : Unfixed) : Type 0 where
+  pub count : u.count ≡ unfixed_count parts
+  pub payments : u.payments ≡ payment_count parts
+  pub first : IsFirstLacking x parts (place_of u) (fixing_of u)
+
+-- what is added where the schedule is the one of x: nothing where each payment has its amount
+abbrev pub IsAmountsNote : MadeFrom → List Part → Note → Type 0
+IsAmountsNote x parts note.Nothing = EachHasAmount parts
+IsAmountsNote x parts (note.Unfixed u) = IsUnfixed x parts u
+IsAmountsNote x parts (note.Spot s) = ⊥
+
+-- what the schedule of these facts is made from
+abbrev pub made_by : Task → Facts → MadeFrom
+made_by t f = made_from f.swap f.cal (rates_for t f.table)
+
+-- the same, for a task that states amounts; nothing for any other
+abbrev pub IsAmountsNoteIf : Bool → MadeFrom → List Part → Note → Type 0
+IsAmountsNoteIf true x parts n = IsAmountsNote x parts n
+IsAmountsNoteIf false x parts n = n ≡ note.Nothing
+
+-- what is added where no rule is broken
+abbrev pub IsFixedNote : Task → Facts → Note → Type 0
+IsFixedNote t f n = IsAmountsNoteIf (states_amounts t) (made_by t f) f.parts n
+
+-- the files of the task pass every step, and this is added to what it comes to
+pub record IsPassedNote (t : Task) (g : Given) (n : Note) : Type 0 where
+  pub facts : Facts
+  pub passes : Passes t g facts
+  pub note : IsFixedNote t facts n
+
+-- ---- a broken rule
+
+-- FpML XML has the line of the element at a place, and JSON has none
+abbrev pub IsLineIn : Form → List ℕ → Place → Option ℕ → Type 0
+IsLineIn Json bytes place line = line ≡ None
+IsLineIn Xml bytes place line = IsSomeAnd line (IsLineOf bytes place)
+
+-- the name is that of the member by which the document breaks the rule
+abbrev pub IsMemberIn : SourceText → Broken → List ℕ → Type 0
+IsMemberIn w b name = (v : Data) × TextReads w v × IsMemberOf v b name
+
+-- whether the rule is about the name of a member: K4 and K5 are
+abbrev pub is_of_member : Rule → Bool
+is_of_member r = (rule_number r == 4) || (rule_number r == 5)
+
+-- the name of the member, for a rule that is about one; none where it has no name, or memory ran out
+abbrev pub IsMemberIf : Bool → SourceText → Broken → Option (List ℕ) → Type 0
+IsMemberIf true w b name = IfSome name (IsMemberIn w b)
+IsMemberIf false w b name = name ≡ None
+
+-- where the document breaks a rule
+pub record IsSpot (w : SourceText) (b : Broken) (s : Spot) : Type 0 where
+  pub member : IsMemberIf (is_of_member b.rule) w b s.member
+  pub line : IsLineIn w.form w.bytes b.place s.line
+
+-- where the document breaks this rule
+abbrev pub IsRuleNote : SourceText → Broken → Note → Type 0
+IsRuleNote w b note.Nothing = ⊥
+IsRuleNote w b (note.Unfixed u) = ⊥
+IsRuleNote w b (note.Spot s) = IsSpot w b s
+
+-- what is added to a refusal: where the document breaks a rule
+abbrev pub IsRefusalNote : SourceText → Refusal → Note → Type 0
+IsRefusalNote w (refusal.Unreadable u) n = n ≡ note.Nothing
+IsRefusalNote w (refusal.Rule b) n = IsRuleNote w b n
+IsRefusalNote w (refusal.Calendars e) n = n ≡ note.Nothing
+IsRefusalNote w (refusal.Fixings e) n = n ≡ note.Nothing
+IsRefusalNote w (refusal.UnreadableFlows u) n = n ≡ note.Nothing
+IsRefusalNote w (refusal.Flows e) n = n ≡ note.Nothing
+IsRefusalNote w refusal.Memory n = n ≡ note.Nothing
+
+-- ---- the note of a reply
+
+-- what is added to what a reply says
+abbrev pub IsNoteOf : Task → Given → Cause → Note → Type 0
+IsNoteOf t g Done n = IsPassedNote t g n
+IsNoteOf t g (Uncompared k) n = IsPassedNote t g n
+IsNoteOf t g (NotAgreed d) n = IsPassedNote t g n
+IsNoteOf t g Breaks n = IsPassedNote t g n
+IsNoteOf t g (Refused r) n = IsRefusalNote g.document r n

@@ -1,0 +1,191 @@
+//! What a sentence adds to what a reply says: which payments have no amount, and where in its text a document
+//! breaks a rule. That it is said is our rule.
+ghost use Rattle.std.specs.Prelude.{◌≡◌, IfOk, IfSome};
+ghost use Rattle.irs_audit.specs.Verdicts.{unfixed_count};
+ghost use Rattle.irs_unfixed.specs.Counts.{payment_count};
+ghost use Rattle.irs_unfixed.specs.Missing.{IsMadeFrom, made_from};
+ghost use Rattle.irs_unfixed.specs.Missing.{fixing_of as missing_fixing, place_of as missing_place};
+ghost use Rattle.irs_answers.specs.Forms.{source_by};
+ghost use Rattle.irs_answers.specs.Found.{facts_by};
+ghost use Rattle.irs_answers.specs.Notes.{IsAmountsNote, IsFixedNote, fixing_of, made_by, place_of};
+ghost use Rattle.irs_answers.specs.Notes.{IsLineIn, IsMemberIf, IsMemberIn, IsRefusalNote, IsSpot, is_of_member};
+
+use crate::due::Found;
+use crate::forms::{Form, Source, read_document};
+use crate::refusals::Refusal;
+use crate::replies::Reply;
+use crate::tasks::Task;
+use irs_base::{Broken, Day, Memory, Place, Rule, Text};
+use irs_locate::{line_of, member_of};
+use irs_schedule::Schedule;
+use irs_terms::Frequency;
+use irs_unfixed::{Missing, first_missing, payment_count, unfixed_count};
+use std::alloc::Global;
+
+/// The payments of a schedule that have no amount, as a fixing is missing, and the first of them.
+#[derive(Drop)]
+pub struct Unfixed {
+    /// How many payments have no amount.
+    pub count: u32,
+    /// How many payments there are.
+    pub payments: u32,
+    /// The number of the first one's stream, from 1.
+    pub stream: u8,
+    /// Its number in that stream, from 1.
+    pub payment: u32,
+    /// The index of the fixing that it lacks (FpML `floatingRateIndex`).
+    pub index: Text,
+    /// The tenor of that fixing, where it has one (FpML `indexTenor`); of a daily rate 1D.
+    pub tenor: Option<Frequency>,
+    /// The day on which the rate is fixed.
+    pub day: Day,
+}
+
+/// Where in the text of a document a rule is broken, beyond the place in the line.
+#[derive(Drop)]
+pub struct Spot {
+    /// The name of the member, for K4 and K5.
+    pub member: Option<Text>,
+    /// The line of the element in FpML XML, from 1.
+    pub line: Option<u32>,
+}
+
+/// What a sentence adds to what a reply says.
+#[derive(Drop)]
+pub enum Note {
+    /// Nothing.
+    Nothing,
+    /// Payments have no amount.
+    Unfixed(Unfixed),
+    /// Where the document breaks a rule.
+    Spot(Spot),
+}
+
+/// What a task comes to, and what a sentence adds to it.
+#[derive(Drop)]
+pub struct NotedReply {
+    /// What a task comes to.
+    pub reply: Reply,
+    /// What a sentence adds.
+    pub note: Note,
+}
+
+// ---- payments without an amount
+
+/// What a sentence adds where no rule is broken: the payments that have no amount, for a task that states amounts.
+/// `Memory` comes where memory ran out.
+pub(crate) fn fixed_note(alloc: Global, task: &Task, found: &Found<'_>) -> Result<Note, Memory>
+    requires { IsMadeFrom (made_by task.now (facts_by found.now)) found.now.schedule }
+    ensures { IfOk result (IsFixedNote task.now (facts_by found.now)) }
+{
+    if task.states_amounts() {
+        amounts_note(alloc, found)
+    } else {
+        Ok(Note::Nothing)
+    }
+}
+
+// The payments of the schedule that have no amount, and the first of them.
+fn amounts_note(alloc: Global, found: &Found<'_>) -> Result<Note, Memory>
+    requires { let x = made_from found.now.swap found.now.calendars.now found.now.fixings.now in
+        IsMadeFrom x found.now.schedule }
+    ensures { let x = made_from found.now.swap found.now.calendars.now found.now.fixings.now in
+        IfOk result (IsAmountsNote x found.now.schedule) }
+{
+    let schedule = &found.schedule;
+    match first_missing(alloc, &found.swap, found.calendars, found.fixings, schedule) {
+        Ok(Some(missing)) => Ok(Note::Unfixed(counted(alloc, schedule, &missing)?)),
+        Ok(None) => Ok(Note::Nothing),
+        Err(Memory) => Err(Memory),
+    }
+}
+
+// The first payment without an amount, with the counts of the schedule's payments.
+fn counted(alloc: Global, schedule: &Schedule, missing: &Missing<'_>) -> Result<Unfixed, Memory>
+    ensures count { IfOk result (λ u. u.count ≡ unfixed_count schedule.now) }
+    ensures payments { IfOk result (λ u. u.payments ≡ payment_count schedule.now) }
+    ensures place { IfOk result (λ u. place_of u ≡ missing_place missing.now) }
+    ensures fixing { IfOk result (λ u. fixing_of u ≡ missing_fixing missing.now) }
+{
+    let index = missing.index.copy(alloc)?;
+    Ok(Unfixed {
+        count: unfixed_count(schedule),
+        payments: payment_count(schedule),
+        stream: missing.stream,
+        payment: missing.payment,
+        index,
+        tenor: missing.tenor,
+        day: missing.day,
+    })
+}
+
+// ---- a broken rule
+
+/// What a sentence adds to a refusal: where the document breaks a rule.
+pub(crate) fn refusal_note(alloc: Global, document: &Source, refusal: &Refusal) -> Note
+    ensures { IsRefusalNote (source_by document.now) refusal.now result }
+{
+    match refusal {
+        Refusal::Unreadable(_) => Note::Nothing,
+        Refusal::Rule(broken) => Note::Spot(spot_of(alloc, document, *broken)),
+        Refusal::Calendars(_) => Note::Nothing,
+        Refusal::Fixings(_) => Note::Nothing,
+        Refusal::UnreadableFlows(_) => Note::Nothing,
+        Refusal::Flows(_) => Note::Nothing,
+        Refusal::Memory => Note::Nothing,
+    }
+}
+
+// Where the document breaks a rule.
+fn spot_of(alloc: Global, document: &Source, broken: Broken) -> Spot
+    ensures { IsSpot (source_by document.now) broken result }
+{
+    let line = line_in(document, broken.place);
+    let member = member_in(alloc, document, broken);
+    Spot { member, line }
+}
+
+// The line of the element in FpML XML.
+fn line_in(document: &Source, place: Place) -> Option<u32>
+    ensures { IsLineIn document.now.form document.now.bytes.items place result }
+{
+    match document.form {
+        Form::Json => None,
+        Form::Xml => Some(line_of(&document.bytes, place)),
+    }
+}
+
+// The name of the member that K4 or K5 means. The document is read again for these two rules alone.
+fn member_in(alloc: Global, document: &Source, broken: Broken) -> Option<Text>
+    ensures { IsMemberIf (is_of_member broken.rule) (source_by document.now) broken result }
+{
+    if is_of_member(broken.rule) {
+        named_member(alloc, document, broken)
+    } else {
+        None
+    }
+}
+
+// Whether the rule is about the name of a member.
+fn is_of_member(rule: Rule) -> bool
+    ensures { result ≡ is_of_member rule }
+{
+    let number = rule.number();
+    number == 4 || number == 5
+}
+
+// The name of the member by which the document breaks the rule. None where it has no name, or memory ran out.
+fn named_member(alloc: Global, document: &Source, broken: Broken) -> Option<Text>
+    ensures { IfSome result (IsMemberIn (source_by document.now) broken) }
+{
+    let Ok(value) = read_document(alloc, document) else {
+        return None;
+    };
+    let Some(name) = member_of(&value, broken) else {
+        return None;
+    };
+    match Text::from_bytes(alloc, name.as_bytes()) {
+        Ok(text) => Some(text),
+        Err(Memory) => None,
+    }
+}
