@@ -3,8 +3,11 @@ use Rattle.std.proofs.Common.{◌≡◌, ℕ, List, Option, true, false, sym, su
 use Rattle.irs_answers.specs.Common.{AreRead}
 use Rattle.irs_answers.specs.Given.{Given, IsWithin, given_by, no_files}
 use Rattle.irs_answers.specs.Outcomes.{Ends}
+use Rattle.irs_answers.specs.declared.causes.Cause.{Cause}
 use Rattle.irs_answers.specs.declared.common.Common.{Common}
 use Rattle.irs_answers.specs.declared.files.TaskFiles.{TaskFiles}
+use Rattle.irs_answers.specs.declared.notes.Note.{Note}
+use Rattle.irs_cli.specs.Causes.{IsCauseFor, IsNotedFor, IsReplyCause}
 use Rattle.irs_cli.specs.Commands.{Asked, Asks, Wanted, Words}
 use Rattle.irs_cli.specs.Due.{DueOf}
 use Rattle.irs_cli.specs.Fetching.{FailedAt, Gives, Holds, IsGiven, NotLong, OverAt, Stops}
@@ -81,3 +84,17 @@ module _ (ws : Words) (told : Told) (gives : Gives) (a : Asked) (c : Common) (as
       (gathers_merged (Holds told) a.files no_files own no_files (given_by c.files) own_held held)
       (gathers_merged (IsGiven gives) a.files no_files own no_files (given_by c.files) own_given given)
       quiet status text h
+
+  -- the cause of a reply, and what is added to it, where a run's own files were fetched
+  pub caused_with : (own : Given) → Gathers (IsGiven gives) (files_with true a.files) no_files own
+      → (cause : Cause) (note : Note) (status : ℕ) (text : List ℕ) → IsCauseFor a.request cause status text
+      → IsNotedFor a.request (mixed own (given_by c.files)) cause note → IsReplyCause ws gives cause note status text
+  caused_with own own_given cause note status text is noted =
+      record {
+        asked = a;
+        asks = asks;
+        given = mixed own (given_by c.files);
+        fetched = gathers_merged (IsGiven gives) a.files no_files own no_files (given_by c.files) own_given given;
+        cause = is;
+        noted = noted;
+      }

@@ -2,12 +2,12 @@
 use Rattle.std.proofs.Common.{◌≡◌, ℕ, List, Option, Some, None, Bool, true, false, Result, Ok, Err, sym, subst}
 use Rattle.std.specs.Prelude.{IfNone, IsErr, IsTrue}
 use Rattle.std.specs.Result.{IsErrAnd}
-use Rattle.irs_answers.specs.declared.replies.Reply.{Reply}
+use Rattle.irs_answers.specs.declared.notes.NotedReply.{NotedReply}
 use Rattle.irs_cli.specs.declared.refusals.Refusal.{Refusal}
 use Rattle.irs_cli.specs.Outcomes.{IfAnswered, IfRefused}
 
 -- an error that becomes an answer
-pub answered_by : (r : Result Reply Refusal) (e : Refusal) (P : ℕ → List ℕ → Type 0) → IsErr r → IsErrAnd r (λ x. x ≡ e)
+pub answered_by : (r : Result NotedReply Refusal) (e : Refusal) (P : ℕ → List ℕ → Type 0) → IsErr r → IsErrAnd r (λ x. x ≡ e)
     → IfRefused e P → IfAnswered r P
 answered_by (Ok x) e P h k p = absurd k
 answered_by (Err x) e P h k p = subst (λ (y : Refusal). IfRefused y P) (sym k) p

@@ -7,7 +7,7 @@ use Rattle.irs_cli.specs.Sharing.{files_with}
 use Rattle.irs_cli.specs.declared.commands.Named.{Named}
 use Rattle.irs_cli.specs.declared.commands.Role.{Role}
 use Rattle.irs_cli.specs.declared.commands.Role.TheVariants.{Document, Fixings, Flows, Calendar}
-use Rattle.irs_cli.proofs.CommandLemmas.{cals, is_cal}
+use Rattle.irs_cli.proofs.CommandLemmas.{cals}
 
 -- ---- what holds of the parts holds of the list
 

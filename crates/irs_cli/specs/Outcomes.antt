@@ -2,7 +2,7 @@
 use Rattle.std.specs.Prelude.{ℕ, List, Option, Some, None, IfSome, Result, Ok, Err}
 use Rattle.irs_answers.specs.Outcomes.{Answer}
 use Rattle.irs_answers.specs.Replying.{reply_status, reply_text}
-use Rattle.irs_answers.specs.declared.replies.Reply.{Reply}
+use Rattle.irs_answers.specs.declared.notes.NotedReply.{NotedReply}
 use Rattle.irs_cli.specs.declared.fetching.Unfetched.{Unfetched}
 use Rattle.irs_cli.specs.declared.fetching.Unfetched.TheVariants as fetching
 use Rattle.irs_cli.specs.declared.refusals.Refusal.{Refusal}
@@ -27,6 +27,6 @@ abbrev pub IfRefused : Refusal → (ℕ → List ℕ → Type 0) → Type 0
 IfRefused r P = IfSome (answer_of r) (λ a. P a.0 a.1)
 
 -- P holds of the answer, if there is one
-abbrev pub IfAnswered : Result Reply Refusal → (ℕ → List ℕ → Type 0) → Type 0
-IfAnswered (Ok o) P = P (reply_status o) (reply_text o)
+abbrev pub IfAnswered : Result NotedReply Refusal → (ℕ → List ℕ → Type 0) → Type 0
+IfAnswered (Ok o) P = P (reply_status o.reply) (reply_text o.reply)
 IfAnswered (Err r) P = IfRefused r P

@@ -2,15 +2,15 @@
 ghost use Rattle.std.specs.Prelude.{◌≡◌};
 ghost use Rattle.irs_cli.specs.Causes.{run_cause_of, run_status};
 
-use irs_answers::{Cause, Reply};
+use irs_answers::{Cause, Note, NotedReply};
 use irs_base::Status;
 
 /// What the words come to, before anything is written. The status, the text and what a sentence says of them are
 /// made from this one value.
 #[derive(Drop)]
 pub enum RunReply {
-    /// What the request comes to over its files.
-    Replied(Reply),
+    /// What the request comes to over its files, with its note.
+    Replied(NotedReply),
     /// The words are no listed command.
     BadWords,
     /// The file of the word at this place after the command can't be read.
@@ -20,24 +20,24 @@ pub enum RunReply {
 }
 
 impl RunReply {
-    /// What the reply says.
-    pub fn cause(&self) -> RunCause
-        ensures { result ≡ run_cause_of self.now }
+    /// What the reply says, with its note. It consumes the reply, so the text is written first.
+    pub fn into_cause(self) -> RunCause
+        ensures { result ≡ run_cause_of self }
     {
         match self {
-            RunReply::Replied(reply) => RunCause::Replied(reply.cause()),
+            RunReply::Replied(NotedReply { reply, note }) => RunCause::Replied(reply.cause(), note),
             RunReply::BadWords => RunCause::BadWords,
-            RunReply::NoFile(place) => RunCause::NoFile(*place),
-            RunReply::TooLong(place) => RunCause::TooLong(*place),
+            RunReply::NoFile(place) => RunCause::NoFile(place),
+            RunReply::TooLong(place) => RunCause::TooLong(place),
         }
     }
 }
 
 /// What a run comes to, for the sentence about it.
-#[derive(Clone, Copy)]
+#[derive(Drop)]
 pub enum RunCause {
-    /// The request has a reply, which says this.
-    Replied(Cause),
+    /// The request has a reply, which says this. A sentence adds the note to it.
+    Replied(Cause, Note),
     /// The words are no listed command.
     BadWords,
     /// The file of the word at this place after the command can't be read.
@@ -59,7 +59,7 @@ impl RunCause {
         ensures { result ≡ run_status self.now }
     {
         match self {
-            RunCause::Replied(cause) => (*cause).status(),
+            RunCause::Replied(cause, _) => (*cause).status(),
             RunCause::BadWords => Status::BadWords.number(),
             RunCause::NoFile(_) => Status::NoFile.number(),
             RunCause::PutFailed => Status::PutFailed.number(),

@@ -9,8 +9,9 @@ ghost use Rattle.irs_answers.specs.Given.{IsWithin, given_by, given_with};
 ghost use Rattle.irs_answers.specs.Outcomes.{Ends};
 ghost use Rattle.irs_answers.specs.Replying.{reply_status, reply_text};
 ghost use Rattle.irs_answers.specs.Causes.{cause_of};
-ghost use Rattle.irs_cli.specs.Causes.{IsCauseFor, IsCauseOfWritten, IsReplyCause, IsRunCause, run_cause_of};
-ghost use Rattle.irs_cli.specs.Causes.{run_reply_status, run_reply_text, run_status};
+ghost use Rattle.irs_answers.specs.declared.notes.Note.TheVariants.{Nothing};
+ghost use Rattle.irs_cli.specs.Causes.{IsCauseFor, IsCauseOfWritten, IsNotedFor, IsReplyCause, IsRunCause};
+ghost use Rattle.irs_cli.specs.Causes.{run_cause_of, run_reply_status, run_reply_text, run_status};
 ghost use Rattle.irs_cli.specs.Due.{DueOf, IsLawfulRequest};
 ghost use Rattle.irs_cli.specs.Outcomes.{IfAnswered};
 ghost use Rattle.irs_cli.specs.Run.{Ran, Replies, source, written};
@@ -23,7 +24,7 @@ use crate::putting::put_run_reply;
 use crate::refusals::Refusal;
 use crate::sharing::names_with;
 use crate::{Files, Sink};
-use irs_answers::{Common, Reply, TaskFiles, carrier, reply_by, reply_of};
+use irs_answers::{Common, Note, NotedReply, Reply, TaskFiles, carrier, reply_by, reply_of};
 use irs_base::Memory;
 use irs_bulk::bulk;
 use std::alloc::Global;
@@ -72,8 +73,8 @@ pub fn run_with<F: Files, S: Sink>(
     cause.status()
 }
 
-/// Does what `run_with` does, and returns what the run comes to: a sentence about it says that. Its status is
-/// that of the run.
+/// Does what `run_with` does, and returns what the run comes to, with the note of its reply. A sentence about the
+/// run says that. Its status is that of the run.
 pub fn cause_of_run<F: Files, S: Sink>(
     alloc: Global,
     words: &[String],
@@ -87,12 +88,13 @@ pub fn cause_of_run<F: Files, S: Sink>(
         (F.faults files.new) in
         let written = written (S.written out.old) (S.written out.new) (S.faults out.old) (S.faults out.new) in
         Ran (texts words.now) source written (run_status result) }
-    // It is that of the text that was written.
-    ensures cause { IsCauseOfWritten (texts words.now) result (S.written out.old) (S.written out.new) }
+    // It is that of the text that was written, and its note is that for the files as the fetches gave them.
+    ensures cause { IsCauseOfWritten (texts words.now) (F.gives files.old) result (S.written out.old)
+        (S.written out.new) }
 {
     match reply_for(alloc, words, common, files) {
         Ok(reply) => match put_run_reply(out, &reply) {
-            Ok(()) => reply.cause(),
+            Ok(()) => reply.into_cause(),
             Err(_) => RunCause::PutFailed,
         },
         Err(Memory) => RunCause::NoMemory,
@@ -100,7 +102,7 @@ pub fn cause_of_run<F: Files, S: Sink>(
 }
 
 /// What the words come to, before anything is written: the reply that is to be written, and what a sentence says
-/// of it. `Memory` comes where memory ran out.
+/// of it, with its note. `Memory` comes where memory ran out.
 pub fn reply_for<F: Files>(
     alloc: Global,
     words: &[String],
@@ -113,10 +115,11 @@ pub fn reply_for<F: Files>(
         (λ r. Replies (texts words.now) (source (F.told files.old) (F.gives files.old) (F.failed files.new)
         (F.faults files.old) (F.faults files.new)) (run_reply_status r) (run_reply_text r)) }
     ensures cause { IfOk result
-        (λ r. IsRunCause (texts words.now) (run_cause_of r) (run_reply_status r) (run_reply_text r)) }
+        (λ r. IsRunCause (texts words.now) (F.gives files.old) (run_cause_of r) (run_reply_status r)
+        (run_reply_text r)) }
 {
     match carry_out(alloc, words, common, files) {
-        Ok(reply) => Ok(RunReply::Replied(reply)),
+        Ok(noted) => Ok(RunReply::Replied(noted)),
         Err(refusal) => refusal.reply(),
     }
 }
@@ -127,13 +130,15 @@ fn carry_out<F: Files>(
     words: &[String],
     common: Option<&Common>,
     files: &mut F,
-) -> Result<Reply, Refusal>
+) -> Result<NotedReply, Refusal>
     requires { IfSome common (λ c. IsCommon (texts words.now) (F.told files.old) (F.gives files.old) c.now) }
     ensures told { (n : List ℕ) → F.told files.new n ≡ F.told files.old n }
     ensures answered { IfAnswered result
         (Replies (texts words.now) (source (F.told files.old) (F.gives files.old) (F.failed files.new)
         (F.faults files.old) (F.faults files.new))) }
-    ensures cause { IfOk result (λ r. IsReplyCause (texts words.now) (cause_of r) (reply_status r) (reply_text r)) }
+    ensures cause { IfOk result
+        (λ r. IsReplyCause (texts words.now) (F.gives files.old) (cause_of r.reply) r.note (reply_status r.reply)
+        (reply_text r.reply)) }
 {
     let Some(command) = command_of(alloc, words)? else {
         return Err(Refusal::BadWords);
@@ -152,16 +157,19 @@ fn carry_out<F: Files>(
 }
 
 // What a request over its files comes to.
-fn reply_to(alloc: Global, request: Request, files: TaskFiles) -> Result<Reply, Memory>
+fn reply_to(alloc: Global, request: Request, files: TaskFiles) -> Result<NotedReply, Memory>
     requires lawful { IsLawfulRequest request }
     requires within { IsWithin (given_by files) }
-    ensures due { IfOk result (λ r. Ends (DueOf request (given_by files)) (reply_status r) (reply_text r)) }
-    ensures cause { IfOk result (λ r. IsCauseFor request (cause_of r) (reply_status r) (reply_text r)) }
+    ensures due { IfOk result
+        (λ r. Ends (DueOf request (given_by files)) (reply_status r.reply) (reply_text r.reply)) }
+    ensures cause { IfOk result
+        (λ r. IsCauseFor request (cause_of r.reply) (reply_status r.reply) (reply_text r.reply)) }
+    ensures noted { IfOk result (λ r. IsNotedFor request (given_by files) (cause_of r.reply) r.note) }
 {
     match request {
         Request::OverFiles(task) => reply_of(alloc, task, files),
-        Request::Bulk(count) => bulk(alloc, count),
-        Request::Carrier => carrier(alloc, &files.document.bytes),
+        Request::Bulk(count) => Ok(without_note(bulk(alloc, count)?)),
+        Request::Carrier => Ok(without_note(carrier(alloc, &files.document.bytes)?)),
     }
 }
 
@@ -171,16 +179,30 @@ fn reply_with(
     request: Request,
     files: &TaskFiles,
     common: &Common,
-) -> Result<Reply, Memory>
+) -> Result<NotedReply, Memory>
     requires lawful { IsLawfulRequest request }
     requires read { AreRead common.now }
     ensures due { let given = given_with files.now common.now.files in
-        IfOk result (λ r. Ends (DueOf request given) (reply_status r) (reply_text r)) }
-    ensures cause { IfOk result (λ r. IsCauseFor request (cause_of r) (reply_status r) (reply_text r)) }
+        IfOk result (λ r. Ends (DueOf request given) (reply_status r.reply) (reply_text r.reply)) }
+    ensures cause { IfOk result
+        (λ r. IsCauseFor request (cause_of r.reply) (reply_status r.reply) (reply_text r.reply)) }
+    ensures noted { let given = given_with files.now common.now.files in
+        IfOk result (λ r. IsNotedFor request given (cause_of r.reply) r.note) }
 {
     match request {
         Request::OverFiles(task) => reply_by(alloc, task, files, common),
-        Request::Bulk(count) => bulk(alloc, count),
-        Request::Carrier => carrier(alloc, &files.document.bytes),
+        Request::Bulk(count) => Ok(without_note(bulk(alloc, count)?)),
+        Request::Carrier => Ok(without_note(carrier(alloc, &files.document.bytes)?)),
+    }
+}
+
+// A reply with an empty note.
+fn without_note(reply: Reply) -> NotedReply
+    ensures reply { result.reply ≡ reply }
+    ensures note { result.note ≡ Nothing }
+{
+    NotedReply {
+        reply,
+        note: Note::Nothing,
     }
 }

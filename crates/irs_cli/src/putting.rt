@@ -20,7 +20,7 @@ pub(crate) fn put_run_reply<S: Sink>(out: &mut S, reply: &RunReply) -> Result<()
     ensures rose { OnErr result (Rose (S.faults out.old) (S.faults out.new)) }
 {
     match reply {
-        RunReply::Replied(reply) => put_reply(out, reply),
+        RunReply::Replied(noted) => put_reply(out, &noted.reply),
         RunReply::BadWords => out.put(b"bad words\n"),
         RunReply::NoFile(place) => put_numbered(out, b"no file ", *place),
         RunReply::TooLong(place) => put_numbered(out, b"too long ", *place),

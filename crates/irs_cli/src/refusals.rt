@@ -1,7 +1,6 @@
 //! Why a request isn't carried out over files, and what is written then.
 ghost use Rattle.std.specs.Prelude.{◌≡◌, Some, IfOk};
-ghost use Rattle.irs_cli.specs.Causes.{IsRunCause, run_cause_of, run_reply_status, run_reply_text};
-ghost use Rattle.irs_cli.specs.Commands.{Words};
+ghost use Rattle.irs_cli.specs.Causes.{IsUnreplied, run_reply_status, run_reply_text};
 ghost use Rattle.irs_cli.specs.Outcomes.{answer_of, of_fetch};
 ghost use Rattle.irs_cli.specs.declared.refusals.Refusal.TheVariants.{Memory as OfMemory};
 
@@ -46,8 +45,7 @@ impl Refusal {
     /// What a refusal comes to; `Memory` has no line.
     pub(crate) fn reply(self) -> Result<RunReply, Memory>
         ensures answer { IfOk result (λ r. answer_of self ≡ Some (run_reply_status r, run_reply_text r)) }
-        ensures cause { IfOk result
-            (λ r. (ws : Words) → IsRunCause ws (run_cause_of r) (run_reply_status r) (run_reply_text r)) }
+        ensures unreplied { IfOk result IsUnreplied }
     {
         match self {
             Refusal::BadWords => Ok(RunReply::BadWords),

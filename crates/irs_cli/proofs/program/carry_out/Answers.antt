@@ -1,7 +1,8 @@
-use Rattle.std.proofs.Common.{◌≡◌, List, map, Option, Some, Bor, true, subst}
+use Rattle.std.proofs.Common.{List, map, Option, Some, Bor, true, subst}
 use Rattle.std.specs.Prelude.{IfSome}
 use Rattle.irs_cli.specs.declared.commands.Named.{Named}
-use Rattle.irs_cli.specs.Commands.{Asked, Wanted, texts, Asks, asked_by, wanted_by}
+use Rattle.irs_cli.specs.Commands.{Wanted, texts, Asks, asked_by, wanted_by}
+use Rattle.irs_answers.specs.Causes.{cause_of}
 use Rattle.irs_answers.specs.Given.{given_by, no_files}
 use Rattle.irs_answers.specs.Replying.{reply_status, reply_text}
 use Rattle.irs_answers.specs.declared.common.Common.{Common}
@@ -11,7 +12,7 @@ use Rattle.irs_cli.specs.Outcomes.{of_fetch}
 use Rattle.irs_cli.specs.Run.{Replies, source}
 use Rattle.irs_cli.specs.Sharing.{IsCommon, files_with}
 use Rattle.irs_cli.proofs.CommandLemmas.{unlisted_by, asks_by, few_cals, lawful_asked}
-use Rattle.irs_cli.proofs.CommonLemmas.{replies_with, stops_with}
+use Rattle.irs_cli.proofs.CommonLemmas.{caused_with, replies_with, stops_with}
 use Rattle.irs_cli.proofs.FileLemmas.{gathers_within}
 use Rattle.irs_cli.proofs.HandedReplies.{answered_by}
 use Rattle.irs_cli.proofs.RunLemmas.{unlisted_replies, stopped_replies, ended_replies}
@@ -76,11 +77,30 @@ returns-in-None-clause-answered g c =
     let fetched : Gathers (IsGiven gives) (asked_by k).files no_files f =
     subst (λ (l : List Named). Gathers (IsGiven gives) (map wanted_by l) no_files f) c.deref.ensures.value
     c.in_ok-fetched-in-None.ensures.given in
-    let reply = c.in_ok-reply_to-in-None.field-0 in
+    let reply = c.in_ok-reply_to-in-None.field-0.reply in
     ended_replies ws told gives (asked_by k) f (g.F.Files.failed c.fetch_all.new.files)
     (g.F.Files.faults c.args.files.now) (g.F.Files.faults c.fetch_all.new.files) asks held fetched
     c.in_ok-fetched-in-None.ensures.all.1 (reply_status reply)
     (reply_text reply) c.in_ok-reply_to-in-None.ensures.due
+
+pub returns-in-None-clause-cause : goal.returns-in-None-clause-cause
+returns-in-None-clause-cause g c =
+    let ws = texts c.args.words.now in
+    let k = c.in-Some.command in
+    let asks : Asks ws (asked_by k) = asks_by ws c.in_ok-command.field-0 k c.in_ok-command.ensures c.in-Some.is in
+    let f = given_by c.in_ok-fetched-in-None.fetched in
+    let gives = g.F.Files.gives c.args.files.now in
+    let fetched : Gathers (IsGiven gives) (asked_by k).files no_files f =
+    subst (λ (l : List Named). Gathers (IsGiven gives) (map wanted_by l) no_files f) c.deref.ensures.value
+    c.in_ok-fetched-in-None.ensures.given in
+    record {
+      asked = asked_by k;
+      asks = asks;
+      given = f;
+      fetched = fetched;
+      cause = c.in_ok-reply_to-in-None.ensures.cause;
+      noted = c.in_ok-reply_to-in-None.ensures.noted;
+    }
 
 pub returns-in_err-fetched-in-Some-common-clause-answered : goal.returns-in_err-fetched-in-Some-common-clause-answered
 returns-in_err-fetched-in-Some-common-clause-answered g c =
@@ -130,8 +150,29 @@ returns-clause-answered g c =
     let given : Gathers (IsGiven gives) (files_with true (asked_by k).files) no_files own =
     subst (λ (l : List Wanted). Gathers (IsGiven gives) l no_files own) part
     c.in_ok-fetched-in-Some-common.ensures.given in
-    let reply = c.in_ok-reply_with-in-Some-common.field-0 in
+    let reply = c.in_ok-reply_with-in-Some-common.field-0.reply in
     replies_with ws told gives (asked_by k) c.in-Some-common.common.now asks common own
     (g.F.Files.failed c.fetch_all-in-Some-common.new.files) (g.F.Files.faults c.args.files.now)
     (g.F.Files.faults c.fetch_all-in-Some-common.new.files) held given c.in_ok-fetched-in-Some-common.ensures.all.1
     (reply_status reply) (reply_text reply) c.in_ok-reply_with-in-Some-common.ensures.due
+
+pub returns-clause-cause : goal.returns-clause-cause
+returns-clause-cause g c =
+    let ws = texts c.args.words.now in
+    let told = g.F.Files.told c.args.files.now in
+    let gives = g.F.Files.gives c.args.files.now in
+    let k = c.in-Some.command in
+    let asks : Asks ws (asked_by k) = asks_by ws c.in_ok-command.field-0 k c.in_ok-command.ensures c.in-Some.is in
+    let common : IsCommon ws told gives c.in-Some-common.common.now =
+    subst (λ (o : Option (Bor Common)). IfSome o (λ x. IsCommon ws told gives x.now)) c.in-Some-common.is c.requires in
+    let part = part_of true c.deref-in-Some-common.result.now c.deref-in-Some-common-2.result.now
+    c.in_ok-own-in-Some-common.own.items k.files.items c.deref-in-Some-common.ensures.value
+    c.deref-in-Some-common-2.ensures.value c.in_ok-own-in-Some-common.ensures in
+    let own = given_by c.in_ok-fetched-in-Some-common.fetched in
+    let given : Gathers (IsGiven gives) (files_with true (asked_by k).files) no_files own =
+    subst (λ (l : List Wanted). Gathers (IsGiven gives) l no_files own) part
+    c.in_ok-fetched-in-Some-common.ensures.given in
+    let noted = c.in_ok-reply_with-in-Some-common.field-0 in
+    caused_with ws told gives (asked_by k) c.in-Some-common.common.now asks common own given (cause_of noted.reply)
+    noted.note (reply_status noted.reply) (reply_text noted.reply) c.in_ok-reply_with-in-Some-common.ensures.cause
+    c.in_ok-reply_with-in-Some-common.ensures.noted

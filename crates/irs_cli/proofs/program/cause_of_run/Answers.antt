@@ -16,18 +16,19 @@ returns-in-Ok-put_run_reply-clause-ran g c =
     let reply = c.in-Ok.reply in
     let from = source (g.F.Files.told files) (g.F.Files.gives files) (g.F.Files.failed after) (g.F.Files.faults files) (g.F.Files.faults after) in
     let to = written (g.S.Sink.written out) (g.S.Sink.written put) (g.S.Sink.faults out) (g.S.Sink.faults put) in
-    subst (λ (status : ℕ). Ran words from to status) (sym (ap run_status c.cause.ensures ∙ same_run_status reply))
+    subst (λ (status : ℕ). Ran words from to status) (sym (ap run_status c.into_cause.ensures ∙ same_run_status reply))
     (put_ran words from (run_reply_status reply) (run_reply_text reply) c.in-Ok.ensures.replies
     (g.S.Sink.written out) (g.S.Sink.written put) (g.S.Sink.faults out) (g.S.Sink.faults put)
     c.in-Ok-put_run_reply.ensures.ok c.in-Ok-put_run_reply.ensures.quiet)
 
 pub returns-in-Ok-put_run_reply-clause-cause : goal.returns-in-Ok-put_run_reply-clause-cause
 returns-in-Ok-put_run_reply-clause-cause g c =
-    cause_written (texts c.args.words.now) c.in-Ok.reply c.cause.result (g.S.Sink.written c.args.out.now)
-    (g.S.Sink.written c.put_run_reply.new.out) c.cause.ensures c.in-Ok.ensures.cause c.in-Ok-put_run_reply.ensures.ok
+    cause_written (texts c.args.words.now) (g.F.Files.gives c.args.files.now) c.in-Ok.reply c.into_cause.result
+    (g.S.Sink.written c.args.out.now) (g.S.Sink.written c.put_run_reply.new.out) c.into_cause.ensures
+    c.in-Ok.ensures.cause c.in-Ok-put_run_reply.ensures.ok
 
-pub returns-in-Ok-clause-ran : goal.returns-in-Ok-clause-ran
-returns-in-Ok-clause-ran g c =
+pub returns-in-Err-put_run_reply-clause-ran : goal.returns-in-Err-put_run_reply-clause-ran
+returns-in-Err-put_run_reply-clause-ran g c =
     let files = c.args.files.now in
     let after = c.reply_for.new.files in
     let out = c.args.out.now in
@@ -39,11 +40,11 @@ returns-in-Ok-clause-ran g c =
     (g.S.Sink.written out) (g.S.Sink.written put) (g.S.Sink.faults out) (g.S.Sink.faults put)
     c.in-Err-put_run_reply.ensures.err c.in-Err-put_run_reply.ensures.rose
 
-pub returns-in-Ok-clause-cause : goal.returns-in-Ok-clause-cause
-returns-in-Ok-clause-cause g c = λ no _. absurd (no refl)
+pub returns-in-Err-put_run_reply-clause-cause : goal.returns-in-Err-put_run_reply-clause-cause
+returns-in-Err-put_run_reply-clause-cause g c = λ no _. absurd (no refl)
 
-pub returns-clause-ran : goal.returns-clause-ran
-returns-clause-ran g c =
+pub returns-in-Err-clause-ran : goal.returns-in-Err-clause-ran
+returns-in-Err-clause-ran g c =
     let files = c.args.files.now in
     let after = c.reply_for.new.files in
     let out = c.args.out.now in
@@ -51,5 +52,5 @@ returns-clause-ran g c =
     let from = source (g.F.Files.told files) (g.F.Files.gives files) (g.F.Files.failed after) (g.F.Files.faults files) (g.F.Files.faults after) in
     memory_ran words from (g.S.Sink.written out) (g.S.Sink.faults out)
 
-pub returns-clause-cause : goal.returns-clause-cause
-returns-clause-cause g c = λ _ no. absurd (no refl)
+pub returns-in-Err-clause-cause : goal.returns-in-Err-clause-cause
+returns-in-Err-clause-cause g c = λ _ no. absurd (no refl)
