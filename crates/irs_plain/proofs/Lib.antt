@@ -2,5 +2,8 @@ pub mod TableLaws
 pub mod NameLaws
 pub mod CutLemmas
 pub mod PieceLemmas
+pub mod PartLemmas
 pub mod ShownLaws
+pub mod VisibleLaws
 pub mod SlipLemmas
+pub mod SilenceLaws

@@ -4,8 +4,10 @@ pub mod Rules
 pub mod Lookup
 pub mod Words
 pub mod Parts
+pub mod Notes
 pub mod Sentences
 pub mod Shown
+pub mod Visible
 pub mod Usage
 pub mod Slips
 pub mod WrongWords

@@ -28,10 +28,11 @@ use Rattle.irs_resets.specs.declared.fixings.FixErr.{FixErr}
 use Rattle.irs_resets.specs.declared.fixings.FixErr.TheVariants as fixing
 use Rattle.irs_plain.specs.Elements.{holder, name_words, possessive}
 use Rattle.irs_plain.specs.Lookup.{after, before, row_of_rule, row_of_shape}
+use Rattle.irs_plain.specs.Notes.{is_silent_reply, note_of}
 use Rattle.irs_plain.specs.Parts.{joined}
 use Rattle.irs_plain.specs.Words.{word_at}
 use Rattle.irs_plain.specs.WrongWords.{is_help, unlisted}
-use Rattle.std.specs.Prelude.{ℕ, ◌-◌, ◌==◌, ◌||◌, ◌&&◌, nat_eq, Bool, true, false, not, List, [], ◌∷◌, Option, Some, None, codes}
+use Rattle.std.specs.Prelude.{ℕ, ◌-◌, ◌==◌, ◌||◌, ◌&&◌, nat_eq, Bool, false, not, List, [], ◌∷◌, ◌++◌, Option, Some, None, codes}
 use Rattle.std.specs.Prelude.{decimal, if◌then◌else◌}
 use Rattle.std.specs.List.{ends_with}
 use Rattle.std.specs.Str.{bytes_eq}
@@ -252,17 +253,9 @@ no_text (Some place) = codes "word " ∷ decimal place ∷ codes " isn't text" �
 
 -- ---- what a run comes to
 
--- a reply leaves nothing to say
-abbrev pub is_done : Cause → Bool
-is_done reply.Done = true
-is_done (reply.Uncompared unfixed) = false
-is_done (reply.NotAgreed d) = false
-is_done reply.Breaks = false
-is_done (reply.Refused r) = false
-
 -- there is nothing to say of what a run comes to
 abbrev pub is_silent : RunCause → Bool
-is_silent (cause.Replied c) = is_done c
+is_silent (cause.Replied c n) = is_silent_reply c n
 is_silent cause.BadWords = false
 is_silent (cause.NoFile place) = false
 is_silent cause.PutFailed = false
@@ -270,9 +263,9 @@ is_silent cause.NoMemory = false
 is_silent (cause.TooLong place) = false
 is_silent (cause.NotText place) = false
 
--- the texts of the sentence; none where there is nothing to say
+-- the texts of the sentence without its note; none where there is nothing to say but a note
 abbrev pub told : List (List ℕ) → RunCause → List (List ℕ)
-told words (cause.Replied c) = replied words c
+told words (cause.Replied c n) = replied words c
 told words cause.BadWords = unlisted words
 told words (cause.NoFile place) = unreadable (word_at words place)
 told words cause.PutFailed = codes "the text couldn't be written to standard output" ∷ []
@@ -280,6 +273,6 @@ told words cause.NoMemory = no_memory
 told words (cause.TooLong place) = word_at words place ∷ codes " has more than 4,194,304 bytes" ∷ []
 told words (cause.NotText place) = no_text place
 
--- the sentence
+-- the sentence with its note; empty where there is nothing to say
 abbrev pub sentence_of : List (List ℕ) → RunCause → List ℕ
-sentence_of words c = joined (told words c)
+sentence_of words c = joined (told words c) ++ joined (note_of c)

@@ -1,9 +1,10 @@
-//! A sentence as parts that are written one after the other: texts, and numbers in decimal digits. No memory is
-//! taken.
+//! A sentence as parts that are written one after the other: texts, numbers in decimal digits, and names from a
+//! document as they are shown. No memory is taken.
 ghost use Rattle.irs_outside.specs.Outside.{Grew, GrewByFront, Rose};
-ghost use Rattle.irs_plain.specs.Parts.{joined, part_text, said, said_by};
-ghost use Rattle.std.specs.Prelude.{◌≡◌, [], ◌∷◌, decimal, OnOk, OnErr};
+ghost use Rattle.irs_plain.specs.Parts.{joined, most_parts, part_text, said, said_by};
+ghost use Rattle.std.specs.Prelude.{◌≡◌, ◌≤◌, [], ◌∷◌, length, decimal, OnOk, OnErr};
 
+use crate::visible::put_shown;
 use irs_outside::{PutFailed, Sink};
 
 /// The most parts of a sentence.
@@ -16,6 +17,8 @@ pub(crate) enum Part<'a> {
     Text(&'a [u8]),
     /// A number, in decimal digits.
     Number(u32),
+    /// The first bytes of a name from a document, as they are shown.
+    Shown(&'a [u8]),
 }
 
 /// A sentence, as parts to be written one after the other. Parts that aren't needed are empty.
@@ -23,6 +26,16 @@ pub(crate) enum Part<'a> {
 pub(crate) struct Sentence<'a> {
     /// The parts.
     pub(crate) parts: [Part<'a>; PARTS],
+}
+
+/// A sentence of these parts; the others are empty.
+pub(crate) fn of_parts<'a>(first: &[Part<'a>]) -> Sentence<'a>
+    requires { length first.now ≤ most_parts }
+    ensures { said result ≡ said_by first.now }
+{
+    let mut parts = [Part::Text(b""); PARTS];
+    parts[..first.len()].copy_from_slice(first);
+    Sentence { parts }
 }
 
 /// A sentence of three texts.
@@ -36,12 +49,7 @@ pub(crate) fn short<'a>(first: &'a [u8], second: &'a [u8], third: &'a [u8]) -> S
 pub(crate) fn of_three<'a>(first: Part<'a>, second: Part<'a>, third: Part<'a>) -> Sentence<'a>
     ensures { said result ≡ joined (part_text first.entry ∷ part_text second.entry ∷ part_text third.entry ∷ []) }
 {
-    let none = Part::Text(b"");
-    Sentence {
-        parts: [
-            first, second, third, none, none, none, none, none, none, none, none, none, none,
-        ],
-    }
+    of_parts(&[first, second, third])
 }
 
 /// A sentence of five texts.
@@ -54,24 +62,13 @@ pub(crate) fn of_five<'a>(
 ) -> Sentence<'a>
     ensures { said result ≡ joined (first.now ∷ second.now ∷ third.now ∷ fourth.now ∷ fifth.now ∷ []) }
 {
-    let none = Part::Text(b"");
-    Sentence {
-        parts: [
-            Part::Text(first),
-            Part::Text(second),
-            Part::Text(third),
-            Part::Text(fourth),
-            Part::Text(fifth),
-            none,
-            none,
-            none,
-            none,
-            none,
-            none,
-            none,
-            none,
-        ],
-    }
+    of_parts(&[
+        Part::Text(first),
+        Part::Text(second),
+        Part::Text(third),
+        Part::Text(fourth),
+        Part::Text(fifth),
+    ])
 }
 
 /// Writes parts, one after the other, and nothing after a write that failed.
@@ -97,6 +94,7 @@ fn put_part<S: Sink>(out: &mut S, part: &Part<'_>) -> Result<(), PutFailed>
     match part {
         Part::Text(text) => out.put(text),
         Part::Number(n) => put_number(out, *n),
+        Part::Shown(name) => put_shown(out, name),
     }
 }
 

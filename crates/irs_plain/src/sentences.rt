@@ -2,8 +2,9 @@
 ghost use Rattle.irs_outside.specs.Outside.{Grew, GrewByFront, Rose};
 ghost use Rattle.irs_audit.specs.RowNames.{field_name, row_name};
 ghost use Rattle.irs_base.specs.Paths.{path_of};
+ghost use Rattle.irs_cli.specs.declared.causes.RunCause.{RunCause as RunCauseSpec};
 ghost use Rattle.irs_plain.specs.Parts.{joined, part_text, said};
-ghost use Rattle.irs_plain.specs.Sentences.{about as about_of, after_in as after_in_of, is_done as is_done_of};
+ghost use Rattle.irs_plain.specs.Sentences.{about as about_of, after_in as after_in_of};
 ghost use Rattle.irs_plain.specs.Sentences.{bad_calendar as bad_calendar_of, bad_calendars as bad_calendars_of};
 ghost use Rattle.irs_plain.specs.Sentences.{bad_fixing as bad_fixing_of, bad_fixings as bad_fixings_of};
 ghost use Rattle.irs_plain.specs.Sentences.{bad_flows as bad_flows_of, bad_shape as bad_shape_of, some_break as some_break_of};
@@ -21,12 +22,13 @@ ghost use Rattle.irs_plain.specs.Sentences.{stream_words as stream_words_of, tol
 ghost use Rattle.irs_plain.specs.Sentences.{unless_stream as unless_stream_of, unless_zero as unless_zero_of};
 ghost use Rattle.irs_plain.specs.Sentences.{unreadable as unreadable_of, verb as verb_of};
 ghost use Rattle.irs_plain.specs.Words.{texts};
-ghost use Rattle.std.specs.Prelude.{◌≡◌, [], ◌∷◌, OnOk, OnErr};
+ghost use Rattle.std.specs.Prelude.{◌≡◌, ℕ, List, [], true, OnOk, OnErr};
 
 use crate::cuts::is;
 use crate::elements::{holder, name_words, possessive};
 use crate::lookup::{after, before, row_of_rule, row_of_shape};
-use crate::parts::{Part, Sentence, of_three, put_parts, short};
+use crate::notes::{is_silent_reply, put_note};
+use crate::parts::{Part, Sentence, of_parts, of_three, put_parts, short};
 use crate::words::word_at;
 use crate::wrong_words::{is_help, unlisted};
 use irs_answers::{Refusal, Unread};
@@ -192,24 +194,19 @@ fn unread_as<'a>(opening: Opening<'a>, row: usize, unread: Unread) -> Sentence<'
         ≡ joined (unread_as_of opening.entry.first.now (part_text opening.entry.second) opening.entry.third.now
         opening.entry.file.now row unread) }
 {
-    let none = Part::Text(b"");
-    Sentence {
-        parts: [
-            Part::Text(opening.first),
-            opening.second,
-            Part::Text(opening.third),
-            Part::Text(before(row)),
-            Part::Text(name_words(path_in(Elem::DOCUMENT))),
-            Part::Text(after_in(opening.file, row)),
-            Part::Text(if_stopped(unread, b" (reading stopped at line ")),
-            line_stopped(unread),
-            Part::Text(if_stopped(unread, b", column ")),
-            column_stopped(unread),
-            Part::Text(if_stopped(unread, b")")),
-            none,
-            none,
-        ],
-    }
+    of_parts(&[
+        Part::Text(opening.first),
+        opening.second,
+        Part::Text(opening.third),
+        Part::Text(before(row)),
+        Part::Text(name_words(path_in(Elem::DOCUMENT))),
+        Part::Text(after_in(opening.file, row)),
+        Part::Text(if_stopped(unread, b" (reading stopped at line ")),
+        line_stopped(unread),
+        Part::Text(if_stopped(unread, b", column ")),
+        column_stopped(unread),
+        Part::Text(if_stopped(unread, b")")),
+    ])
 }
 
 // The document has no reading.
@@ -245,24 +242,16 @@ fn no_flows(words: &[String], unread: Unread) -> Sentence<'_>
 fn bad_calendar<'a>(words: &'a [String], file: u32, line: u32, fault: &'a [u8]) -> Sentence<'a>
     ensures { said result ≡ joined (bad_calendar_of (texts words.now) file line fault.now) }
 {
-    let none = Part::Text(b"");
-    Sentence {
-        parts: [
-            Part::Text(b"calendar file "),
-            Part::Number(file),
-            Part::Text(b" ("),
-            Part::Text(file_name(words, Role::Calendar, file.saturating_sub(1))),
-            Part::Text(b"), line "),
-            Part::Number(line),
-            Part::Text(b": "),
-            Part::Text(fault),
-            none,
-            none,
-            none,
-            none,
-            none,
-        ],
-    }
+    of_parts(&[
+        Part::Text(b"calendar file "),
+        Part::Number(file),
+        Part::Text(b" ("),
+        Part::Text(file_name(words, Role::Calendar, file.saturating_sub(1))),
+        Part::Text(b"), line "),
+        Part::Number(line),
+        Part::Text(b": "),
+        Part::Text(fault),
+    ])
 }
 
 // A calendar file is at fault.
@@ -287,24 +276,14 @@ fn bad_calendars(words: &[String], e: CalErr) -> Sentence<'_>
 fn bad_fixing<'a>(words: &'a [String], line: u32, fault: &'a [u8]) -> Sentence<'a>
     ensures { said result ≡ joined (bad_fixing_of (texts words.now) line fault.now) }
 {
-    let none = Part::Text(b"");
-    Sentence {
-        parts: [
-            Part::Text(b"fixing file ("),
-            Part::Text(file_name(words, Role::Fixings, 0)),
-            Part::Text(b"), line "),
-            Part::Number(line),
-            Part::Text(b": "),
-            Part::Text(fault),
-            none,
-            none,
-            none,
-            none,
-            none,
-            none,
-            none,
-        ],
-    }
+    of_parts(&[
+        Part::Text(b"fixing file ("),
+        Part::Text(file_name(words, Role::Fixings, 0)),
+        Part::Text(b"), line "),
+        Part::Number(line),
+        Part::Text(b": "),
+        Part::Text(fault),
+    ])
 }
 
 // The fixing file is at fault.
@@ -448,24 +427,19 @@ fn departs<'a>(
 ) -> Sentence<'a>
     ensures { said result ≡ joined (departs_of (texts words.now) stream kind.now row field.now) }
 {
-    let none = Part::Text(b"");
-    Sentence {
-        parts: [
-            Part::Text(b"the cash flows ("),
-            Part::Text(file_name(words, Role::Flows, 0)),
-            Part::Text(verb(field)),
-            Part::Text(of_field(field, field)),
-            Part::Text(of_field(field, b" of ")),
-            Part::Text(unless_stream(kind, kind)),
-            Part::Text(unless_stream(kind, b" ")),
-            number_unless_stream(kind, row),
-            Part::Text(stream_words(kind)),
-            Part::Number(stream),
-            Part::Text(ending(field)),
-            none,
-            none,
-        ],
-    }
+    of_parts(&[
+        Part::Text(b"the cash flows ("),
+        Part::Text(file_name(words, Role::Flows, 0)),
+        Part::Text(verb(field)),
+        Part::Text(of_field(field, field)),
+        Part::Text(of_field(field, b" of ")),
+        Part::Text(unless_stream(kind, kind)),
+        Part::Text(unless_stream(kind, b" ")),
+        number_unless_stream(kind, row),
+        Part::Text(stream_words(kind)),
+        Part::Number(stream),
+        Part::Text(ending(field)),
+    ])
 }
 
 // The name of the kind of row that departs.
@@ -508,24 +482,12 @@ fn some_break(words: &[String]) -> Sentence<'_>
 fn uncompared(words: &[String], unfixed: u32) -> Sentence<'_>
     ensures { said result ≡ joined (uncompared_of (texts words.now) unfixed) }
 {
-    let none = Part::Text(b"");
-    Sentence {
-        parts: [
-            Part::Text(b"the cash flows ("),
-            Part::Text(file_name(words, Role::Flows, 0)),
-            Part::Text(b") agree, but amounts that lack a fixing weren't compared: "),
-            Part::Number(unfixed),
-            none,
-            none,
-            none,
-            none,
-            none,
-            none,
-            none,
-            none,
-            none,
-        ],
-    }
+    of_parts(&[
+        Part::Text(b"the cash flows ("),
+        Part::Text(file_name(words, Role::Flows, 0)),
+        Part::Text(b") agree, but amounts that lack a fixing weren't compared: "),
+        Part::Number(unfixed),
+    ])
 }
 
 // What a reply says.
@@ -584,32 +546,32 @@ fn no_text<'a>(place: Option<u32>) -> Sentence<'a>
 
 // ---- what a run comes to
 
-// The parts of the sentence; they are empty where there is nothing to say.
-fn say(words: &[String], cause: RunCause) -> Sentence<'_>
-    ensures { said result ≡ joined (told (texts words.now) cause) }
+// The parts of the sentence without its note; they are empty where there is nothing to say but a note.
+fn say<'a>(words: &'a [String], cause: &RunCause) -> Sentence<'a>
+    ensures { said result ≡ joined (told (texts words.now) cause.now) }
 {
     match cause {
-        RunCause::Replied(cause) => replied(words, cause),
+        RunCause::Replied(cause, _) => replied(words, *cause),
         RunCause::BadWords => unlisted(words),
-        RunCause::NoFile(place) => unreadable(word_at(words, place as usize)),
+        RunCause::NoFile(place) => unreadable(word_at(words, *place as usize)),
         RunCause::PutFailed => short(b"the text couldn't be written to standard output", b"", b""),
         RunCause::NoMemory => no_memory(),
         RunCause::TooLong(place) => short(
-            word_at(words, place as usize),
+            word_at(words, *place as usize),
             b" has more than 4,194,304 bytes",
             b"",
         ),
-        RunCause::NotText(place) => no_text(place),
+        RunCause::NotText(place) => no_text(*place),
     }
 }
 
-/// Whether there is nothing to say of what a run comes to. That is so where the command is done and, for an
-/// audit, no amount lacks a fixing.
+/// Whether there is nothing to say of what a run comes to. That is so where the command is done, each payment has
+/// its amount, as far as the command states amounts, and an audit has compared each amount.
 pub fn is_silent(cause: &RunCause) -> bool
     ensures { result ≡ is_silent_of cause.now }
 {
     match cause {
-        RunCause::Replied(cause) => is_done(*cause),
+        RunCause::Replied(cause, note) => is_silent_reply(*cause, note),
         RunCause::BadWords => false,
         RunCause::NoFile(_) => false,
         RunCause::PutFailed => false,
@@ -619,22 +581,9 @@ pub fn is_silent(cause: &RunCause) -> bool
     }
 }
 
-// Whether a reply leaves nothing to say.
-fn is_done(cause: Cause) -> bool
-    ensures { result ≡ is_done_of cause }
-{
-    match cause {
-        Cause::Done => true,
-        Cause::Uncompared(_) => false,
-        Cause::NotAgreed(_) => false,
-        Cause::Breaks => false,
-        Cause::Refused(_) => false,
-    }
-}
-
-/// Writes what a run comes to, in one sentence, and nothing after a write that failed. `words` are the words of
-/// the command line; the first is the command. The sentence is empty where `is_silent` says so. It takes no
-/// memory.
+/// Writes what a run comes to, in one sentence with its note, and nothing after a write that failed. `words` are
+/// the words of the command line; the first is the command. The sentence is empty exactly where `is_silent` says
+/// so. It takes no memory.
 pub fn put_sentence<S: Sink>(
     out: &mut S,
     words: &[String],
@@ -646,6 +595,25 @@ pub fn put_sentence<S: Sink>(
         (GrewByFront (S.written out.old) (S.written out.new) (sentence_of (texts words.now) cause.now)) }
     ensures rose { OnErr result (Rose (S.faults out.old) (S.faults out.new)) }
 {
-    let sentence = say(words, *cause);
+    put_told(out, words, cause)?;
+    put_note(out, cause)
+}
+
+/// A law: the sentence is empty exactly where there is nothing to say.
+pub fn silence_is_empty()
+    ensures empty { (words : List (List ℕ)) (c : RunCauseSpec) → is_silent_of c ≡ true → sentence_of words c ≡ [] }
+    ensures only { (words : List (List ℕ)) (c : RunCauseSpec) → sentence_of words c ≡ [] → is_silent_of c ≡ true }
+{}
+
+// Writes the sentence without its note.
+fn put_told<S: Sink>(out: &mut S, words: &[String], cause: &RunCause) -> Result<(), PutFailed>
+    ensures ok { OnOk result
+        (Grew (S.written out.old) (S.written out.new) (joined (told (texts words.now) cause.now))) }
+    ensures quiet { OnOk result (S.faults out.new ≡ S.faults out.old) }
+    ensures err { OnErr result
+        (GrewByFront (S.written out.old) (S.written out.new) (joined (told (texts words.now) cause.now))) }
+    ensures rose { OnErr result (Rose (S.faults out.old) (S.faults out.new)) }
+{
+    let sentence = say(words, cause);
     put_parts(out, &sentence.parts)
 }

@@ -75,20 +75,16 @@ fn turns_text(c: u32) -> bool
 fn push_two_digits(number: u32, text: &mut String) -> Result<(), Memory>
     ensures { OnOk result (string_bytes text.new ≡ string_bytes text.old ++ two_digits number) }
 {
-    text.push(hex_digit(number / 16 % 16))?;
-    Ok(text.push(hex_digit(number % 16))?)
+    text.push(char::from(hex_digit(number / 16 % 16)))?;
+    Ok(text.push(char::from(hex_digit(number % 16)))?)
 }
 
-// The digit of a number below 16.
-fn hex_digit(number: u32) -> char
+/// The digit of a number below 16.
+pub(crate) fn hex_digit(number: u32) -> u8
     requires { number < 16 }
     ensures value { result ≡ hex_digit_of number }
     ensures ascii { result < 128 }
 {
     let digit = number as u8;
-    if digit < 10 {
-        char::from(48 + digit)
-    } else {
-        char::from(87 + digit)
-    }
+    if digit < 10 { 48 + digit } else { 87 + digit }
 }

@@ -1,0 +1,24 @@
+-- Parts that are empty say nothing.
+use Rattle.std.proofs.Common.{◌≡◌, ℕ, zero, suc, List, [], ◌∷◌, ◌++◌, drop, refl, ap}
+use Rattle.irs_base.specs.Members.{Every}
+use Rattle.irs_plain.specs.Parts.{part_text, said_by}
+use Rattle.irs_plain.specs.declared.parts.Part.{Part}
+
+-- a part is empty
+abbrev pub IsEmpty : Part → Type 0
+IsEmpty p = part_text p ≡ []
+
+empty_said : (ps : List Part) → Every IsEmpty ps → said_by ps ≡ []
+empty_said [] h = refl
+empty_said (p ∷ ps) h = rw h.0 (empty_said ps h.1)
+
+-- the others are empty too where some are left out
+pub dropped_empty : (n : ℕ) (ps : List Part) → Every IsEmpty ps → Every IsEmpty (drop n ps)
+dropped_empty zero ps h = h
+dropped_empty (suc n) [] h = tt
+dropped_empty (suc n) (p ∷ ps) h = dropped_empty n ps h.1
+
+-- with empty parts after them, parts say the same
+pub said_front : (first rest : List Part) → Every IsEmpty rest → said_by (first ++ rest) ≡ said_by first
+said_front [] rest h = empty_said rest h
+said_front (p ∷ ps) rest h = ap (λ (t : List ℕ). part_text p ++ t) (said_front ps rest h)

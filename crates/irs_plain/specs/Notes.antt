@@ -1,0 +1,129 @@
+-- What a sentence adds to what a reply says, as texts that are joined.
+use Rattle.irs_answers.specs.declared.causes.Cause.{Cause}
+use Rattle.irs_answers.specs.declared.causes.Cause.TheVariants as reply
+use Rattle.irs_answers.specs.declared.notes.Note.{Note}
+use Rattle.irs_answers.specs.declared.notes.Note.TheVariants.{Nothing, Unfixed as OfPayments, Spot as OfRule}
+use Rattle.irs_answers.specs.declared.notes.Spot.{Spot}
+use Rattle.irs_answers.specs.declared.notes.Unfixed.{Unfixed}
+use Rattle.irs_base.specs.Texts.{day_text}
+use Rattle.irs_cli.specs.declared.causes.RunCause.{RunCause}
+use Rattle.irs_cli.specs.declared.causes.RunCause.TheVariants as cause
+use Rattle.irs_terms.specs.declared.frequency.Frequency.{Frequency}
+use Rattle.irs_terms.specs.declared.frequency.Unit.{Unit as FrequencyUnit}
+use Rattle.irs_terms.specs.declared.frequency.Unit.TheVariants.{D, W, M, Y, T}
+use Rattle.irs_plain.specs.Visible.{dots, shown_front}
+use Rattle.std.specs.Prelude.{ℕ, ◌&&◌, Bool, true, false, List, [], ◌∷◌, Option, Some, None, codes, decimal}
+use Rattle.std.specs.Prelude.{if◌then◌else◌}
+
+-- ---- payments without an amount
+
+-- the letter of a unit
+abbrev pub unit_letter : FrequencyUnit → List ℕ
+unit_letter D = codes "D"
+unit_letter W = codes "W"
+unit_letter M = codes "M"
+unit_letter Y = codes "Y"
+unit_letter T = codes "T"
+
+-- a space before a tenor, where there is one
+abbrev pub tenor_gap : Option Frequency → List ℕ
+tenor_gap None = []
+tenor_gap (Some f) = codes " "
+
+-- its number of units
+abbrev pub tenor_count : Option Frequency → List ℕ
+tenor_count None = []
+tenor_count (Some f) = decimal f.count
+
+-- the letter of its unit
+abbrev pub tenor_letter : Option Frequency → List ℕ
+tenor_letter None = []
+tenor_letter (Some f) = unit_letter f.unit
+
+-- how many payments have no amount, and the fixing that the first of them lacks, on the day of this text
+abbrev pub unfixed_on : Unfixed → List ℕ → List (List ℕ)
+unfixed_on u day =
+    codes "payments without an amount: " ∷ decimal u.count ∷ codes " of " ∷ decimal u.payments
+    ∷ codes "; the first, payment " ∷ decimal u.payment ∷ codes " of stream " ∷ decimal u.stream
+    ∷ codes ", lacks a fixing for " ∷ shown_front u.index ∷ dots u.index
+    ∷ tenor_gap u.tenor ∷ tenor_count u.tenor ∷ tenor_letter u.tenor
+    ∷ codes " on " ∷ day ∷ []
+
+-- the same, with its day as YYYY-MM-DD
+abbrev pub unfixed_texts : Unfixed → List (List ℕ)
+unfixed_texts u = unfixed_on u (day_text u.day)
+
+-- ---- where a document breaks a rule
+
+-- what comes before the name of a member, where there is one
+abbrev pub member_words : Option (List ℕ) → List ℕ
+member_words None = []
+member_words (Some []) = codes "; the name of the member is empty"
+member_words (Some (b ∷ bs)) = codes "; the member is "
+
+-- the name, empty where there is none
+abbrev pub name_in : Option (List ℕ) → List ℕ
+name_in None = []
+name_in (Some name) = name
+
+-- what comes before the number of a line, where there is one
+abbrev pub line_words : Option ℕ → List ℕ
+line_words None = []
+line_words (Some line) = codes "; see line "
+
+-- the number of the line
+abbrev pub line_number : Option ℕ → List ℕ
+line_number None = []
+line_number (Some line) = decimal line
+
+-- the member and the line
+abbrev pub spot_texts : Spot → List (List ℕ)
+spot_texts s =
+    member_words s.member ∷ shown_front (name_in s.member) ∷ dots (name_in s.member)
+    ∷ line_words s.line ∷ line_number s.line ∷ []
+
+-- ---- what is added
+
+-- what is added to a sentence
+abbrev pub added : Note → List (List ℕ)
+added Nothing = []
+added (OfPayments u) = codes "; " ∷ unfixed_texts u
+added (OfRule s) = spot_texts s
+
+-- what is said where there is no sentence before it
+abbrev pub alone : Note → List (List ℕ)
+alone Nothing = []
+alone (OfPayments u) = unfixed_texts u
+alone (OfRule s) = []
+
+-- no payment lacks an amount
+abbrev pub is_fixed : Note → Bool
+is_fixed Nothing = true
+is_fixed (OfPayments u) = false
+is_fixed (OfRule s) = true
+
+-- a reply says nothing without its note
+abbrev pub is_done : Cause → Bool
+is_done reply.Done = true
+is_done (reply.Uncompared unfixed) = false
+is_done (reply.NotAgreed d) = false
+is_done reply.Breaks = false
+is_done (reply.Refused r) = false
+
+-- a reply with a note says nothing
+abbrev pub is_silent_reply : Cause → Note → Bool
+is_silent_reply c n = is_done c && is_fixed n
+
+-- what a note says after a reply
+abbrev pub noted : Cause → Note → List (List ℕ)
+noted c n = if is_done c then alone n else added n
+
+-- what is said after the sentence on what a run comes to
+abbrev pub note_of : RunCause → List (List ℕ)
+note_of (cause.Replied c n) = noted c n
+note_of cause.BadWords = []
+note_of (cause.NoFile place) = []
+note_of cause.PutFailed = []
+note_of cause.NoMemory = []
+note_of (cause.TooLong place) = []
+note_of (cause.NotText place) = []

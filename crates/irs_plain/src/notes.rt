@@ -1,0 +1,268 @@
+//! What a sentence adds to what a reply says: how many payments have no amount, with the fixing that the first of
+//! them lacks; and where in its text a document breaks a rule.
+ghost use Rattle.irs_outside.specs.Outside.{Grew, GrewByFront, Rose};
+ghost use Rattle.irs_plain.specs.Notes.{added as added_of, alone as alone_of, is_done as is_done_of};
+ghost use Rattle.irs_plain.specs.Notes.{is_fixed as is_fixed_of, is_silent_reply as is_silent_reply_of};
+ghost use Rattle.irs_plain.specs.Notes.{line_number as line_number_of, line_words as line_words_of};
+ghost use Rattle.irs_plain.specs.Notes.{member_words as member_words_of, name_in as name_in_of, note_of, noted};
+ghost use Rattle.irs_plain.specs.Notes.{spot_texts, tenor_count as tenor_count_of, tenor_gap as tenor_gap_of};
+ghost use Rattle.irs_plain.specs.Notes.{tenor_letter as tenor_letter_of, unfixed_on, unfixed_texts};
+ghost use Rattle.irs_plain.specs.Notes.{unit_letter as unit_letter_of};
+ghost use Rattle.irs_plain.specs.Parts.{joined, part_text, said_by};
+ghost use Rattle.std.specs.Prelude.{◌≡◌, ◌∷◌, OnOk, OnErr};
+
+use crate::parts::{Part, put_parts};
+use crate::visible::dots;
+use irs_answers::{Cause, Note, Spot, Unfixed};
+use irs_base::{Text, day_digits};
+use irs_cli::RunCause;
+use irs_outside::{PutFailed, Sink};
+use irs_terms::{Frequency, Unit};
+
+// ---- payments without an amount
+
+// The letter of a unit.
+fn unit_letter<'a>(unit: Unit) -> &'a [u8]
+    ensures { result.now ≡ unit_letter_of unit }
+{
+    match unit {
+        Unit::D => b"D",
+        Unit::W => b"W",
+        Unit::M => b"M",
+        Unit::Y => b"Y",
+        Unit::T => b"T",
+    }
+}
+
+// A space before a tenor, where there is one.
+fn tenor_gap<'a>(tenor: Option<Frequency>) -> &'a [u8]
+    ensures { result.now ≡ tenor_gap_of tenor }
+{
+    match tenor {
+        None => b"",
+        Some(_) => b" ",
+    }
+}
+
+// Its number of units.
+fn tenor_count<'a>(tenor: Option<Frequency>) -> Part<'a>
+    ensures { part_text result ≡ tenor_count_of tenor }
+{
+    match tenor {
+        None => Part::Text(b""),
+        Some(f) => Part::Number(u32::from(f.count)),
+    }
+}
+
+// The letter of its unit.
+fn tenor_letter<'a>(tenor: Option<Frequency>) -> &'a [u8]
+    ensures { result.now ≡ tenor_letter_of tenor }
+{
+    match tenor {
+        None => b"",
+        Some(f) => unit_letter(f.unit),
+    }
+}
+
+// How many payments have no amount, and the fixing that the first of them lacks, on the day of this text; `joint`
+// comes before that.
+fn unfixed_parts<'a>(joint: &'a [u8], unfixed: &'a Unfixed, day: &'a [u8]) -> [Part<'a>; 17]
+    ensures { said_by result ≡ joined (joint.now ∷ unfixed_on unfixed.now day.now) }
+{
+    let index = unfixed.index.as_slice();
+    let tenor = unfixed.tenor;
+    [
+        Part::Text(joint),
+        Part::Text(b"payments without an amount: "),
+        Part::Number(unfixed.count),
+        Part::Text(b" of "),
+        Part::Number(unfixed.payments),
+        Part::Text(b"; the first, payment "),
+        Part::Number(unfixed.payment),
+        Part::Text(b" of stream "),
+        Part::Number(u32::from(unfixed.stream)),
+        Part::Text(b", lacks a fixing for "),
+        Part::Shown(index),
+        Part::Text(dots(index)),
+        Part::Text(tenor_gap(tenor)),
+        tenor_count(tenor),
+        Part::Text(tenor_letter(tenor)),
+        Part::Text(b" on "),
+        Part::Text(day),
+    ]
+}
+
+// Writes that, after `joint`.
+fn put_unfixed<S: Sink>(out: &mut S, joint: &[u8], unfixed: &Unfixed) -> Result<(), PutFailed>
+    ensures ok { OnOk result
+        (Grew (S.written out.old) (S.written out.new) (joined (joint.now ∷ unfixed_texts unfixed.now))) }
+    ensures quiet { OnOk result (S.faults out.new ≡ S.faults out.old) }
+    ensures err { OnErr result
+        (GrewByFront (S.written out.old) (S.written out.new) (joined (joint.now ∷ unfixed_texts unfixed.now))) }
+    ensures rose { OnErr result (Rose (S.faults out.old) (S.faults out.new)) }
+{
+    let day = day_digits(unfixed.day);
+    put_parts(out, &unfixed_parts(joint, unfixed, &day))
+}
+
+// ---- where a document breaks a rule
+
+// What comes before the name of a member, where there is one.
+fn member_words<'a>(member: &Option<Text>) -> &'a [u8]
+    ensures { result.now ≡ member_words_of member.now }
+{
+    match member {
+        None => b"",
+        Some(name) => match name.as_slice() {
+            [] => b"; the name of the member is empty",
+            [_, ..] => b"; the member is ",
+        },
+    }
+}
+
+// The name, empty where there is none.
+fn name_in(member: &Option<Text>) -> &[u8]
+    ensures { result.now ≡ name_in_of member.now }
+{
+    match member {
+        None => b"",
+        Some(name) => name.as_slice(),
+    }
+}
+
+// What comes before the number of a line, where there is one.
+fn line_words<'a>(line: Option<u32>) -> &'a [u8]
+    ensures { result.now ≡ line_words_of line }
+{
+    match line {
+        None => b"",
+        Some(_) => b"; see line ",
+    }
+}
+
+// The number of the line.
+fn line_number<'a>(line: Option<u32>) -> Part<'a>
+    ensures { part_text result ≡ line_number_of line }
+{
+    match line {
+        None => Part::Text(b""),
+        Some(line) => Part::Number(line),
+    }
+}
+
+// The member and the line.
+fn spot_parts(spot: &Spot) -> [Part<'_>; 5]
+    ensures { said_by result ≡ joined (spot_texts spot.now) }
+{
+    let name = name_in(&spot.member);
+    [
+        Part::Text(member_words(&spot.member)),
+        Part::Shown(name),
+        Part::Text(dots(name)),
+        Part::Text(line_words(spot.line)),
+        line_number(spot.line),
+    ]
+}
+
+// Writes that.
+fn put_spot<S: Sink>(out: &mut S, spot: &Spot) -> Result<(), PutFailed>
+    ensures ok { OnOk result (Grew (S.written out.old) (S.written out.new) (joined (spot_texts spot.now))) }
+    ensures quiet { OnOk result (S.faults out.new ≡ S.faults out.old) }
+    ensures err { OnErr result (GrewByFront (S.written out.old) (S.written out.new) (joined (spot_texts spot.now))) }
+    ensures rose { OnErr result (Rose (S.faults out.old) (S.faults out.new)) }
+{
+    put_parts(out, &spot_parts(spot))
+}
+
+// ---- what is added
+
+/// Whether a reply with this note leaves nothing to say.
+pub(crate) fn is_silent_reply(cause: Cause, note: &Note) -> bool
+    ensures { result ≡ is_silent_reply_of cause note.now }
+{
+    is_done(cause) && is_fixed(note)
+}
+
+// Whether a reply says nothing without its note.
+fn is_done(cause: Cause) -> bool
+    ensures { result ≡ is_done_of cause }
+{
+    match cause {
+        Cause::Done => true,
+        Cause::Uncompared(_) => false,
+        Cause::NotAgreed(_) => false,
+        Cause::Breaks => false,
+        Cause::Refused(_) => false,
+    }
+}
+
+// Whether no payment lacks an amount.
+fn is_fixed(note: &Note) -> bool
+    ensures { result ≡ is_fixed_of note.now }
+{
+    match note {
+        Note::Nothing => true,
+        Note::Unfixed(_) => false,
+        Note::Spot(_) => true,
+    }
+}
+
+/// Writes what is said after the sentence on what a run comes to.
+pub(crate) fn put_note<S: Sink>(out: &mut S, cause: &RunCause) -> Result<(), PutFailed>
+    ensures ok { OnOk result (Grew (S.written out.old) (S.written out.new) (joined (note_of cause.now))) }
+    ensures quiet { OnOk result (S.faults out.new ≡ S.faults out.old) }
+    ensures err { OnErr result (GrewByFront (S.written out.old) (S.written out.new) (joined (note_of cause.now))) }
+    ensures rose { OnErr result (Rose (S.faults out.old) (S.faults out.new)) }
+{
+    match cause {
+        RunCause::Replied(cause, note) => put_noted(out, *cause, note),
+        RunCause::BadWords => put_parts(out, &[]),
+        RunCause::NoFile(_) => put_parts(out, &[]),
+        RunCause::PutFailed => put_parts(out, &[]),
+        RunCause::NoMemory => put_parts(out, &[]),
+        RunCause::TooLong(_) => put_parts(out, &[]),
+        RunCause::NotText(_) => put_parts(out, &[]),
+    }
+}
+
+// Writes what a note says after a reply.
+fn put_noted<S: Sink>(out: &mut S, cause: Cause, note: &Note) -> Result<(), PutFailed>
+    ensures ok { OnOk result (Grew (S.written out.old) (S.written out.new) (joined (noted cause note.now))) }
+    ensures quiet { OnOk result (S.faults out.new ≡ S.faults out.old) }
+    ensures err { OnErr result (GrewByFront (S.written out.old) (S.written out.new) (joined (noted cause note.now))) }
+    ensures rose { OnErr result (Rose (S.faults out.old) (S.faults out.new)) }
+{
+    if is_done(cause) {
+        put_alone(out, note)
+    } else {
+        put_added(out, note)
+    }
+}
+
+// Writes what a note adds to a sentence.
+fn put_added<S: Sink>(out: &mut S, note: &Note) -> Result<(), PutFailed>
+    ensures ok { OnOk result (Grew (S.written out.old) (S.written out.new) (joined (added_of note.now))) }
+    ensures quiet { OnOk result (S.faults out.new ≡ S.faults out.old) }
+    ensures err { OnErr result (GrewByFront (S.written out.old) (S.written out.new) (joined (added_of note.now))) }
+    ensures rose { OnErr result (Rose (S.faults out.old) (S.faults out.new)) }
+{
+    match note {
+        Note::Nothing => put_parts(out, &[]),
+        Note::Unfixed(unfixed) => put_unfixed(out, b"; ", unfixed),
+        Note::Spot(spot) => put_spot(out, spot),
+    }
+}
+
+// Writes what a note says where there is no sentence before it.
+fn put_alone<S: Sink>(out: &mut S, note: &Note) -> Result<(), PutFailed>
+    ensures ok { OnOk result (Grew (S.written out.old) (S.written out.new) (joined (alone_of note.now))) }
+    ensures quiet { OnOk result (S.faults out.new ≡ S.faults out.old) }
+    ensures err { OnErr result (GrewByFront (S.written out.old) (S.written out.new) (joined (alone_of note.now))) }
+    ensures rose { OnErr result (Rose (S.faults out.old) (S.faults out.new)) }
+{
+    match note {
+        Note::Nothing => put_parts(out, &[]),
+        Note::Unfixed(unfixed) => put_unfixed(out, b"", unfixed),
+        Note::Spot(_) => put_parts(out, &[]),
+    }
+}
