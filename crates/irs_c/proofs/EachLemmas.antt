@@ -11,7 +11,7 @@ use Rattle.irs_cli.specs.Due.{Due}
 use Rattle.irs_cli.proofs.OneAnswer.{one_answer}
 use Rattle.irs_c.specs.Each.{AreOutcomes, AreRuns, IsExplained, IsOutcome, IsRun, Made, Outcome}
 use Rattle.irs_c.specs.Each.{RunFor, no_text, said_by, slot_of}
-use Rattle.irs_c.specs.Given.{AreText, IsAbsent, file_in, words_in}
+use Rattle.irs_c.specs.Given.{AreText, IsAbsent, file_in, gives_in, words_in}
 use Rattle.irs_c.specs.declared.each.Answer.{Answer}
 use Rattle.irs_c.specs.declared.given.Bytes.{Bytes}
 use Rattle.irs_c.specs.declared.given.File.{File}
@@ -131,7 +131,7 @@ memory_run ws fs = record {
 pub text_run : (ws : Words) (fs : List File) (status : ℕ) (text sentence : List ℕ)
     → (status ≢ 5 → Due ws (file_in fs) status text) → (status ≡ 5 → IsAbsent ws (file_in fs) text)
     → (status ≡ 4 → IsListed ws → ⊥) → ((IsListed ws → ⊥) → status ≡ 4)
-    → (status < 9) × (status ≢ 6) × (status ≢ 7) → IsExplained ws status text sentence
+    → (status < 9) × (status ≢ 6) × (status ≢ 7) → IsExplained ws (gives_in fs) status text sentence
     → IsRun ws fs (record { status = status; text = text; sentence = sentence })
 text_run ws fs status text sentence due absent listed unlisted few is =
     record {

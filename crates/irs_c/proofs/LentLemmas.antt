@@ -13,8 +13,8 @@ use Rattle.irs_cli.specs.Fetching.{Holds, IsGiven}
 use Rattle.irs_cli.specs.Sharing.{files_with}
 use Rattle.irs_cli.proofs.FetchLemmas.{front_whole}
 use Rattle.irs_cli.proofs.SharingLemmas.{gathers_as}
-use Rattle.irs_c.specs.Each.{IsCommonIn, Made, gives_in}
-use Rattle.irs_c.specs.Given.{file_in}
+use Rattle.irs_c.specs.Each.{IsCommonIn, Made}
+use Rattle.irs_c.specs.Given.{file_in, gives_in}
 use Rattle.irs_c.specs.declared.given.File.{File}
 
 first_of : (b : Bool) (x : List ℕ) (o p : Option (List ℕ)) (whole : List ℕ) → (o ≡ Some whole → p ≡ Some whole)

@@ -5,14 +5,14 @@ use Rattle.std.specs.declared.alloc.Global.{Global}
 use Rattle.irs_cli.specs.Causes.{IsRunCause}
 use Rattle.irs_cli.specs.Commands.{IsListed, Words, texts}
 use Rattle.irs_cli.specs.Due.{Due, IsOneAnswer}
+use Rattle.irs_cli.specs.Fetching.{Gives}
 use Rattle.irs_cli.specs.Given.{TellsAll}
 use Rattle.irs_cli.specs.Sharing.{IsCommon}
 use Rattle.irs_cli.specs.declared.causes.RunCause.{RunCause}
 use Rattle.irs_answers.specs.declared.common.Common.{Common}
-use Rattle.irs_outside.specs.Outside.{IsFrontUnder}
 use Rattle.irs_plain.specs.Sentences.{sentence_of}
 use Rattle.irs_plain.specs.Shown.{shown}
-use Rattle.irs_c.specs.Given.{AreText, IsAbsent, file_in, words_in}
+use Rattle.irs_c.specs.Given.{AreText, IsAbsent, file_in, gives_in, words_in}
 use Rattle.irs_c.specs.Shown.{Shown}
 use Rattle.irs_c.specs.declared.each.Answer.{Answer}
 use Rattle.irs_c.specs.declared.given.Bytes.{Bytes}
@@ -39,10 +39,11 @@ abbrev pub said_by : List Outcome → List ℕ
 said_by [] = []
 said_by (o ∷ os) = (o.text ++ o.sentence) ++ said_by os
 
--- the sentence is that of the cause of a status and a text, with the words as they are shown
-pub record IsExplained (ws : Words) (status : ℕ) (text sentence : List ℕ) : Type 0 where
+-- The sentence is that of the cause of a status and a text, with the words as they are shown. The note of the cause is
+-- that for the files of the words, as the fetches gave them.
+pub record IsExplained (ws : Words) (gives : Gives) (status : ℕ) (text sentence : List ℕ) : Type 0 where
   pub cause : RunCause
-  pub is : IsRunCause ws cause status text
+  pub is : IsRunCause ws gives cause status text
   pub sentence_is : sentence ≡ sentence_of (map shown ws) cause
 
 -- what the code keeps of what a run comes to
@@ -64,8 +65,8 @@ pub record IsRun (ws : Words) (fs : List File) (o : Outcome) : Type 0 where
   pub listed : (o.status < 9) × (o.status ≢ 6)
   -- where every file that the words name is lent, one status and one text are due
   pub one : TellsAll ws (file_in fs) → IsOneAnswer ws (file_in fs)
-  -- the sentence is that of the status and the text
-  pub explained : o.status ≢ 7 → IsExplained ws o.status o.text o.sentence
+  -- the sentence is that of the status and the text, and of the files
+  pub explained : o.status ≢ 7 → IsExplained ws (gives_in fs) o.status o.text o.sentence
 
 -- the same for words as they are lent; 9 where one isn't UTF-8
 abbrev pub IsOutcome : List Bytes → List File → Outcome → Type 0
@@ -105,10 +106,6 @@ AreRuns words common (t ∷ ts) [] = ⊥
 AreRuns words common (t ∷ ts) (o ∷ os) = RunFor words (common ++ t.files.now) o × AreRuns words common ts os
 
 -- ---- what was read of the common files
-
--- what fetches of lent files give
-abbrev pub gives_in : List File → List ℕ → ℕ → List ℕ → Type 0
-gives_in fs name most bytes = IsFrontUnder (file_in fs name) most bytes
 
 -- the common files that the words name, as they are lent, are read
 abbrev pub IsCommonIn : Words → List File → Common → Type 0

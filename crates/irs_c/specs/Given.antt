@@ -2,9 +2,10 @@
 use Rattle.std.specs.Prelude.{◌≡◌, ℕ, List, [], ◌∷◌, map, All, Some, None, if◌then◌else◌}
 use Rattle.std.specs.Str.{IsUtf8, bytes_eq}
 use Rattle.irs_cli.specs.Commands.{Words, Wanted, Asked, Asks}
-use Rattle.irs_cli.specs.Fetching.{NotLong}
+use Rattle.irs_cli.specs.Fetching.{Gives, NotLong}
 use Rattle.irs_cli.specs.Given.{Told, Reaches}
 use Rattle.irs_cli.specs.Messages.{no_file}
+use Rattle.irs_outside.specs.Outside.{IsFrontUnder}
 use Rattle.irs_c.specs.declared.given.Bytes.{Bytes}
 use Rattle.irs_c.specs.declared.given.File.{File}
 
@@ -20,6 +21,10 @@ AreText ws = All (λ w. IsUtf8 w.at.now) ws
 abbrev pub file_in : List File → Told
 file_in [] name = None
 file_in (f ∷ fs) name = if bytes_eq f.name.at.now name then Some f.bytes.at.now else file_in fs name
+
+-- what fetches of lent files give
+abbrev pub gives_in : List File → Gives
+gives_in fs name most bytes = IsFrontUnder (file_in fs name) most bytes
 
 -- the file of the word at this place isn't lent
 pub record AbsentAt (told : Told) (place : ℕ) (w : Wanted) : Type 0 where

@@ -4,7 +4,7 @@ ghost use Rattle.irs_cli.specs.Commands.{IsListed, texts};
 ghost use Rattle.irs_cli.specs.Due.{Due, IsOneAnswer};
 ghost use Rattle.irs_cli.specs.Given.{TellsAll};
 ghost use Rattle.irs_c.specs.Each.{IsExplained, IsRun, Said, outcome_by};
-ghost use Rattle.irs_c.specs.Given.{words_in, file_in, AreText, IsAbsent};
+ghost use Rattle.irs_c.specs.Given.{words_in, file_in, gives_in, AreText, IsAbsent};
 ghost use Rattle.irs_c.specs.Shown.{Shown};
 
 use crate::each::{Answer, answer_each};
@@ -25,7 +25,7 @@ use std::alloc::Global;
 /// At 7 and 9 there is no text and no sentence. The call keeps nothing for the next one.
 ///
 /// The sentence is one line without its end. It has each word as `shown_words` of irs_plain shows it, without
-/// controls. It is empty where there is nothing to say: at 0, unless an audit says that amounts lack a fixing.
+/// controls. It is empty where there is nothing to say: at 0, unless payments have no amount as a fixing is missing.
 #[unsafe(no_mangle)]
 pub extern "C" fn irs_run(
     alloc: Global,
@@ -43,9 +43,9 @@ pub extern "C" fn irs_run(
     ensures unsaid { (result ≡ 7) ⊎ (result ≡ 9) → (said.new ≡ said.old) × (said_needed.new ≡ 0) }
     // Any other status comes only where each word is UTF-8.
     ensures text { result ≢ 7 → result ≢ 9 → AreText words.now }
-    // The sentence is that of the status and the text, with the words as they are shown.
+    // The sentence is that of the status, the text and the files, with the words as they are shown.
     ensures said { result ≢ 7 → result ≢ 9 → (text : List ℕ) × ((sentence : List ℕ)
-        × IsExplained (words_in words.now) result text sentence
+        × IsExplained (words_in words.now) (gives_in files.now) result text sentence
         × (Shown out.old out.new needed.new text × Shown said.old said.new said_needed.new sentence)) }
     // A file that the words name isn't lent, and the text says which.
     ensures absent { result ≡ 5 → (text : List ℕ)

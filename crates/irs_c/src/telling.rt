@@ -1,10 +1,10 @@
 //! What a run comes to, as a caller sees it: the status, the text and the sentence.
 ghost use Rattle.std.specs.Prelude.{◌≡◌, ◌≢◌, ◌<◌, ◌++◌, map, IfOk, IfErr, IfSome};
-ghost use Rattle.irs_cli.specs.Causes.{IsRunCause, run_status};
+ghost use Rattle.irs_cli.specs.Causes.{IsRunCause};
 ghost use Rattle.irs_cli.specs.Commands.{IsListed, texts};
 ghost use Rattle.irs_cli.specs.Due.{Due};
 ghost use Rattle.irs_c.specs.Each.{IsCommonIn, IsRun, outcome_by};
-ghost use Rattle.irs_c.specs.Given.{file_in, IsAbsent};
+ghost use Rattle.irs_c.specs.Given.{file_in, gives_in, IsAbsent};
 ghost use Rattle.irs_plain.specs.Sentences.{sentence_of};
 ghost use Rattle.irs_plain.specs.Shown.{shown};
 
@@ -40,7 +40,7 @@ pub(crate) fn tell<'a>(
     ensures err { IfErr result (λ s. s ≡ 7) }
 {
     let (status, text, cause) = run_kept(alloc, words, common, files, own)?;
-    let sentence = sentence_for(alloc, words, cause)?;
+    let sentence = sentence_for(alloc, words, &cause)?;
     Ok(Told {
         status,
         text,
@@ -48,7 +48,7 @@ pub(crate) fn tell<'a>(
     })
 }
 
-// Status and text of a run over the lent files with its cause, or 7 where memory ran out.
+// Status and text of a run over the lent files with its cause and its note, or 7 where memory ran out.
 fn run_kept<'a>(
     alloc: Global,
     words: &[String],
@@ -63,7 +63,8 @@ fn run_kept<'a>(
     ensures only_unlisted { IfOk result (λ r. r.0 ≡ 4 → IsListed (texts words.now) → ⊥) }
     ensures unlisted { IfOk result (λ r. (IsListed (texts words.now) → ⊥) → r.0 ≡ 4) }
     ensures ok { IfOk result (λ r. (r.0 < 9) × (r.0 ≢ 6) × (r.0 ≢ 7)) }
-    ensures cause { IfOk result (λ r. IsRunCause (texts words.now) r.2 r.0 r.1.items) }
+    ensures cause { IfOk result
+        (λ r. IsRunCause (texts words.now) (gives_in (files.now ++ own.now)) r.2 r.0 r.1.items) }
     ensures err { IfErr result (λ s. s ≡ 7) }
 {
     let mut source = GivenFiles::new(files, own);
@@ -77,8 +78,8 @@ fn run_kept<'a>(
 }
 
 // The sentence on what a run came to, with the words as they are shown, or 7 where memory ran out.
-fn sentence_for(alloc: Global, words: &[String], cause: RunCause) -> Result<Vec<u8>, u8>
-    ensures done { IfOk result (λ t. t.items ≡ sentence_of (map shown (texts words.now)) cause) }
+fn sentence_for(alloc: Global, words: &[String], cause: &RunCause) -> Result<Vec<u8>, u8>
+    ensures done { IfOk result (λ t. t.items ≡ sentence_of (map shown (texts words.now)) cause.now) }
     ensures err { IfErr result (λ s. s ≡ 7) }
 {
     let Ok(shown) = shown_words(alloc, words) else {
@@ -88,12 +89,12 @@ fn sentence_for(alloc: Global, words: &[String], cause: RunCause) -> Result<Vec<
 }
 
 // The sentence with these words, or 7 where memory ran out.
-fn sentence_on(alloc: Global, words: &[String], cause: RunCause) -> Result<Vec<u8>, u8>
-    ensures done { IfOk result (λ t. t.items ≡ sentence_of (texts words.now) cause) }
+fn sentence_on(alloc: Global, words: &[String], cause: &RunCause) -> Result<Vec<u8>, u8>
+    ensures done { IfOk result (λ t. t.items ≡ sentence_of (texts words.now) cause.now) }
     ensures err { IfErr result (λ s. s ≡ 7) }
 {
     let mut kept = Kept::new(alloc);
-    match put_sentence(&mut kept, words, &cause) {
+    match put_sentence(&mut kept, words, cause) {
         Ok(()) => Ok(kept.text),
         Err(_) => Err(Status::NoMemory.number()),
     }

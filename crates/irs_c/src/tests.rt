@@ -74,6 +74,21 @@ fn a_document_in_xml(rt: HostRuntime) {
 }
 
 #[test]
+fn the_line_of_a_broken_rule(rt: HostRuntime) {
+    let files = [File {
+        name: lent(b"d.xml"),
+        bytes: lent(b"<trade>\n<swap/>\n</trade>"),
+    }];
+    let words = [lent(b"check"), lent(b"d.xml")];
+    let (mut out, mut said) = ([b'#'; 64], [b'#'; 128]);
+    assert_eq!(rt; run(&rt, &words, &files, &mut out, &mut said), (2, 20, 67));
+    assert!(rt; out.starts_with(b"refused K3 0 swap 0\n#"));
+    assert!(rt;
+        said.starts_with(b"K3: swap isn't the text or the object that it has to be; see line 2#")
+    );
+}
+
+#[test]
 fn a_name_with_controls(rt: HostRuntime) {
     let (mut out, mut said) = ([b'#'; 32], [b'#'; 32]);
     assert_eq!(rt;

@@ -1,5 +1,5 @@
 -- What is said of what the words came to, written piece by piece: the sentence, its end, and the listed commands.
-use Rattle.std.proofs.Common.{◌≡◌, ℕ, List, [], ◌++◌, codes, Option, ◌⊎◌, inl, inr, refl, sym, ◌∙◌, ap, subst, append_assoc}
+use Rattle.std.proofs.Common.{◌≡◌, ℕ, List, [], ◌++◌, codes, Option, inl, inr, refl, sym, ◌∙◌, ap, subst, append_assoc}
 use Rattle.std.proofs.Common.{◌==◌, if◌then◌else◌, arith, Bool, true, false}
 use Rattle.irs_outside.specs.Outside.{Grew, GrewByFront}
 use Rattle.irs_plain.specs.Sentences.{is_silent, sentence_of}

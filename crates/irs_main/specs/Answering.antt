@@ -35,7 +35,7 @@ lines_of (line ∷ lines) = (line ++ codes "\n") ++ lines_of lines
 abbrev pub listing_of : (commands : List (List ℕ)) → RunCause → List ℕ
 listing_of commands c = if run_status c == 4 then lines_of commands else []
 
--- what is said of what the words came to; nothing where all is done and compared
+-- what is said of what the words came to; nothing where all is done and no payment lacks its amount
 unfoldable pub explanation_of : (commands words : List (List ℕ)) → RunCause → List ℕ
 explanation_of commands words c =
     if is_silent c then [] else (sentence_of words c ++ codes "\n") ++ listing_of commands c

@@ -12,7 +12,7 @@ ghost use Rattle.irs_cli.specs.Run.{Ran, source, written};
 ghost use Rattle.irs_main.specs.Answering.{Explained, IsPlain, Printed, explanation_of, itself_of};
 
 use crate::pieces::put_lines;
-use irs_cli::{Cause, Files, PutFailed, RunCause, Sink, Status, cause_of_run};
+use irs_cli::{Cause, Files, Note, PutFailed, RunCause, Sink, Status, cause_of_run};
 use irs_plain::{COMMANDS, HELP, VERSION, is_silent, put_sentence, shown_words};
 use std::alloc::Global;
 
@@ -47,16 +47,17 @@ pub fn answer<F: Files, S: Sink, E: Sink>(
         let written = written (S.written out.old) (S.written out.new) (S.faults out.old) (S.faults out.new) in
         Ran (texts words.now) source written (run_status result) }
 
-    // What is explained is the cause of exactly the text that was printed.
+    // What is explained is the cause of exactly the text that was printed, with the note for the files as the
+    // fetches gave them.
     ensures cause { itself_of HELP.now VERSION.now (texts words.now) ≡ None
-        → IsCauseOfWritten (texts words.now) result (S.written out.old) (S.written out.new) }
+        → IsCauseOfWritten (texts words.now) (F.gives files.old) result (S.written out.old) (S.written out.new) }
 
     // What the words came to is said, with the words as they are shown.
     ensures explained { Explained
         (explanation_of (map (λ c. c.now) COMMANDS) (map shown (texts words.now)) result)
         (E.written errors.old) (E.written errors.new) (E.faults errors.old) (E.faults errors.new) }
 
-    // Where all is done, and compared, nothing is written there.
+    // Where all is done and no payment lacks its amount, nothing is written there.
     ensures silent { is_silent_of result ≡ true → errors.new ≡ errors.old }
 {
     match about_itself(words) {
@@ -102,7 +103,7 @@ fn print<S: Sink>(out: &mut S, text: &str) -> RunCause
     ensures plain { IsPlain result }
 {
     match out.put(text.as_bytes()) {
-        Ok(()) => RunCause::Replied(Cause::Done),
+        Ok(()) => RunCause::Replied(Cause::Done, Note::Nothing),
         Err(_) => RunCause::PutFailed,
     }
 }

@@ -7,7 +7,7 @@ use Rattle.irs_cli.specs.Given.{Reaches}
 use Rattle.irs_cli.specs.Causes.{IsCauseOfWritten, IsRunCause, run_status}
 use Rattle.irs_cli.specs.Run.{NoFile, Ran, Source, Written, source}
 use Rattle.irs_cli.specs.declared.causes.RunCause.{RunCause}
-use Rattle.irs_c.specs.Given.{file_in, AbsentAt, IsAbsent}
+use Rattle.irs_c.specs.Given.{file_in, gives_in, AbsentAt, IsAbsent}
 use Rattle.irs_c.specs.declared.given.File.{File}
 use Rattle.irs_c.proofs.LentLemmas.{common_for}
 use Rattle.irs_c.proofs.telling.run_kept.Goals as goal
@@ -57,12 +57,16 @@ ran_as : (ws : Words) (files : Source) (out : Written) (s t : ℕ) → s ≡ t �
 ran_as ws files out s t e h = subst (λ (n : ℕ). Ran ws files out n) (sym e) h
 
 -- the cause of what was written to an empty sink is that of what it keeps
-cause_kept : (ws : Words) (c : RunCause) (s : ℕ) (before after : List ℕ) → s ≡ run_status c → before ≡ []
-    → (s ≡ 6 → ⊥) → (s ≡ 7 → ⊥) → IsCauseOfWritten ws c (Some before) (Some after) → IsRunCause ws c s after
-cause_kept ws c s before after same empty no6 no7 written =
+cause_kept : (ws : Words) (fs gs : List File) (c : RunCause) (s : ℕ) (before after : List ℕ) → gs ≡ fs
+    → s ≡ run_status c → before ≡ [] → (s ≡ 6 → ⊥) → (s ≡ 7 → ⊥)
+    → IsCauseOfWritten ws (gives_in gs) c (Some before) (Some after) → IsRunCause ws (gives_in fs) c s after
+cause_kept ws fs gs c s before after from same empty no6 no7 written =
     let (text, cause, grew) = written (λ e. no6 (same ∙ e)) (λ e. no7 (same ∙ e)) in
     let is : text ≡ after = grind arith in
-    subst (λ (t : List ℕ). IsRunCause ws c s t) is (subst (λ (n : ℕ). IsRunCause ws c n text) (sym same) cause)
+    let by_files : IsRunCause ws (gives_in fs) c (run_status c) text =
+    subst (λ (xs : List File). IsRunCause ws (gives_in xs) c (run_status c) text) from cause in
+    subst (λ (t : List ℕ). IsRunCause ws (gives_in fs) c s t) is
+    (subst (λ (n : ℕ). IsRunCause ws (gives_in fs) c n text) (sym same) by_files)
 
 pub cause_of_run-cause-requires : goal.cause_of_run-cause-requires
 cause_of_run-cause-requires c =
@@ -96,6 +100,7 @@ returns-clause-unlisted c none =
 
 pub returns-clause-cause : goal.returns-clause-cause
 returns-clause-cause c =
-    cause_kept _ _ _ _ _ c.status-status.ensures c.new-kept.ensures
+    let same = both_parts c.new-source.ensures.files c.new-source.ensures.own in
+    cause_kept _ _ _ _ _ _ _ same c.status-status.ensures c.new-kept.ensures
     (rw c.number.ensures at c.if-status-number.false)
     (rw c.number-else-status-number.ensures at c.if-status-number-2.false) c.cause_of_run-cause.ensures.cause

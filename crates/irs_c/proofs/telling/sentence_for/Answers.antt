@@ -6,5 +6,5 @@ use Rattle.irs_c.proofs.telling.sentence_for.Goals as goal
 
 pub returns-clause-done : goal.returns-clause-done
 returns-clause-done c =
-    subst (λ (ws : Words). IfOk c.sentence_on.result (λ t. t.items ≡ sentence_of ws c.args.cause))
+    subst (λ (ws : Words). IfOk c.sentence_on.result (λ t. t.items ≡ sentence_of ws c.args.cause.now))
     (ap texts c.deref.ensures.value ∙ c.in-Ok.ensures) c.sentence_on.ensures.done
