@@ -4,17 +4,17 @@ use irs_answers::{Refusal, Unread};
 use irs_audit::{Departure, Field, FlowErr, RowKind, ShapeKind};
 use irs_base::Place;
 use irs_calendar::CalErr;
-use irs_cli::{Cause, RunCause};
+use irs_cli::{Cause, Note, RunCause};
 use irs_resets::FixErr;
 
 /// What a run came to that printed this line, without its end. `None` comes for a line that no run prints, and
 /// for one with a rule or a field that the rows don't have.
 pub fn cause_of(status: u8, line: &str) -> Option<RunCause> {
     match status {
-        0 => Some(RunCause::Replied(done(line)?)),
-        1 => Some(RunCause::Replied(not_agreed(line)?)),
-        2 => Some(RunCause::Replied(Cause::Refused(refused(line)?))),
-        3 => Some(RunCause::Replied(Cause::Refused(bad_file(line)?))),
+        0 => Some(RunCause::Replied(done(line)?, Note::Nothing)),
+        1 => Some(RunCause::Replied(not_agreed(line)?, Note::Nothing)),
+        2 => Some(RunCause::Replied(Cause::Refused(refused(line)?), Note::Nothing)),
+        3 => Some(RunCause::Replied(Cause::Refused(bad_file(line)?), Note::Nothing)),
         4 => Some(RunCause::BadWords),
         5 => Some(RunCause::NoFile(number_after(line, "no file ")?)),
         6 => Some(RunCause::PutFailed),

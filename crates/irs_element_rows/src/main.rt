@@ -1,7 +1,8 @@
 //! The element rows. An element of a document is taken away, repeated or given another value. A row
 //! has what the readers of irs_read and irs_audit and the command `audit` report of it. Other rows
 //! have the values of texts of leaves. The rest are worked examples of JSON texts and FpML XML,
-//! broken rules in order, emitted cash flows, files and sinks in memory, and sentences.
+//! broken rules in order, emitted cash flows, files and sinks in memory, and sentences with what is
+//! added to them.
 //!
 //! The rows, their documents and the expected answers are in `data/`; their form is ours.
 #![tactic(auto)]
@@ -21,6 +22,7 @@ mod flow_lines;
 mod json_rows;
 mod leaf_rows;
 mod lines;
+mod note_rows;
 mod order_rows;
 mod questions;
 mod readers;
@@ -52,6 +54,7 @@ fn main(rt: HostRuntime) -> anyhow::Result<()> {
         (Subject::Files, "file_rows"),
         (Subject::Sinks, "sink_rows"),
         (Subject::Sentences, "sentence_rows"),
+        (Subject::Notes, "note_rows"),
     ] {
         run_rows(&rt, subject, file)?;
     }

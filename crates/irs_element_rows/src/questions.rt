@@ -3,6 +3,7 @@ use crate::edits::make_edits;
 use crate::file_rows::tell_files;
 use crate::json_rows::tell_json;
 use crate::leaf_rows::tell_leaf;
+use crate::note_rows::tell_note;
 use crate::order_rows::tell_order;
 use crate::readers::Reader;
 use crate::sentence_rows::tell_sentence;
@@ -31,6 +32,8 @@ pub enum Subject {
     Sinks,
     /// The sentences on what runs came to, by irs_plain.
     Sentences,
+    /// What a sentence adds, by irs_plain and irs_locate.
+    Notes,
 }
 
 /// What a row asks.
@@ -79,6 +82,7 @@ impl<'a> Question<'a> {
             Subject::Files => tell_files(told, rt, kind, given)?,
             Subject::Sinks => tell_sinks(told, alloc, kind, given)?,
             Subject::Sentences => tell_sentence(told, alloc, kind, given)?,
+            Subject::Notes => tell_note(told, alloc, kind, given)?,
         }
         told.end_line();
         Some(())
