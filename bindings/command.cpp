@@ -46,6 +46,6 @@ int main(int argc, char **argv) {
         return 100;
     }
     std::cout << told.text();
-    if (told.status() != 0) std::cerr << told.sentence() << '\n';
+    if (!told.sentence().empty()) std::cerr << told.sentence() << '\n';
     return told.status();
 }

@@ -36,7 +36,8 @@ struct irs_file { struct irs_bytes name, bytes; };
    `*said_needed`. At 7 and 9 there is no text and no sentence, and both lengths are 0.
 
    The sentence is one line without its end: controls in a word are shown by their numbers, as the program does
-   (docs/FORMATS.md). At status 0 it is empty, but for an audit whose amounts lack a fixing. */
+   (docs/FORMATS.md). At status 0 it is empty where each payment has its amount. Where some have none for want of a
+   fixing it says how many, and which fixing the first of them lacks. */
 uint8_t irs_run(const struct irs_bytes *words, size_t n_words,
                 const struct irs_file *files, size_t n_files,
                 uint8_t *out, size_t out_len, size_t *needed,

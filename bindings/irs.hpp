@@ -2,7 +2,7 @@
 //
 //     irs::answer reply = irs::run({"schedule", "terms.json", "-"}, {{"terms.json", document}});
 //     if (reply) std::cout << reply.text();
-//     else std::cerr << reply.sentence() << '\n';
+//     if (!reply.sentence().empty()) std::cerr << reply.sentence() << '\n';
 //
 // or, by exceptions, `std::string text = irs::run(..).value();`, and in C++23 `.expected()`.
 // A result owns its text. Every call may throw std::bad_alloc, and nothing else but what is said at value().
@@ -48,7 +48,7 @@ private:
     std::string line_;
 };
 
-// The status of a command and its text, and for another status than 0 what its line means in one sentence.
+// The status of a command and its text, and what that means in one sentence.
 class answer {
 public:
     answer(int status, std::string text, std::string sentence)
@@ -56,7 +56,7 @@ public:
     int status() const noexcept { return status_; }
     const std::string &text() const & noexcept { return text_; }
     std::string text() && noexcept { return std::move(text_); }
-    // Empty at status 0, but for an audit whose amounts lack fixings.
+    // Empty at status 0, but where payments have no amount for want of a fixing.
     const std::string &sentence() const noexcept { return sentence_; }
     // Whether the command was done: status 0, or 1, which `audit` and `breaks` have where the cash flows depart.
     explicit operator bool() const noexcept { return status_ <= 1; }

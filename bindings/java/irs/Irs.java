@@ -20,7 +20,7 @@ import java.util.Map;
 public final class Irs {
     /**
      * What a command comes to: the status of the program, the text that it prints, in UTF-8, and what that means in
-     * one plain sentence. The sentence is empty at status 0, but for an audit whose amounts lack fixings.
+     * one plain sentence. The sentence is empty at status 0, but where payments have no amount for want of a fixing.
      */
     public record Answer(int status, byte[] text, String sentence) {
         /** The text as a string. */

@@ -22,15 +22,15 @@ from .library import Answer, Text, as_bytes, engine
 from .many import Calendar, Item
 from .plain import shown
 from .pool import TRIES, Processes
-from .rows import Yes, resets_of, verdict_of
+from .rows import Yes, verdict_of
 
 #: The commands that a book can run.
 COMMANDS = ("check", "schedule", "audit", "emit", "net")
 
 #: How a trade may end, the best first. `agrees` is an audit's alone, where every amount was compared; another command
-#: is `done`. `unverified`: it agrees, but amounts wait for a fixing and weren't compared. `departs`: the cash
-#: flows depart from the schedule. `refused`: the terms break a rule. `bad file`: a file isn't as such files are
-#: written, or isn't there. `failed`: it couldn't be worked.
+#: is `done`. `unverified`: it agrees, but amounts wait for a fixing and weren't compared; the sentence says how many,
+#: and which fixing is missing. `departs`: the cash flows depart from the schedule. `refused`: the terms break a rule.
+#: `bad file`: a file isn't as such files are written, or isn't there. `failed`: it couldn't be worked.
 VERDICTS = ("agrees", "done", "unverified", "departs", "refused", "bad file", "failed")
 
 #: The verdicts that a run without fault has.
@@ -169,19 +169,6 @@ def _first_line(text: bytes) -> str:
     return text.partition(b"\n")[0].decode(errors="replace")
 
 
-def _missing(schedule: Answer) -> str:
-    """Which fixings an audit lacked, by the schedule: how many, and the first."""
-    resets = resets_of(schedule.text)
-    lacking = [reset for reset in resets if reset.observed is None]
-    if not lacking:
-        return "no fixing is missing"
-    first = lacking[0]
-    return (
-        f"{len(lacking)} of {len(resets)} resets have no fixing, the first in stream {first.stream}, "
-        f"period {first.number}, fixed on {first.fixing}"
-    )
-
-
 def _unfixed(audit: Answer) -> int:
     """How many amounts an audit that agrees didn't compare."""
     verdict = verdict_of(audit.text)
@@ -198,13 +185,11 @@ def _verdict(command: str, answer: Answer) -> str:
     return {0: "done", 1: "departs", 2: "refused"}.get(answer.status, "failed")
 
 
-def _outcome(command: str, given: _Given, answer: Answer, schedule: Optional[Answer]) -> Outcome:
-    """What a trade comes to; an unverified one has its schedule."""
+def _outcome(command: str, given: _Given, answer: Answer) -> Outcome:
+    """What a trade comes to."""
     verdict, line, sentence = _verdict(command, answer), _first_line(answer.text), answer.sentence
     if verdict == "done" and command in ("schedule", "emit", "net"):
         line = f"{len(answer.text.splitlines())} lines"
-    elif schedule is not None:
-        sentence = f"the cash flows agree, but {_unfixed(answer)} amounts aren't compared: {_missing(schedule)}"
     elif answer.status == 5 and given.trade.flows is None:
         sentence = "the trade has no cash flows"
     return Outcome(given.trade.name, verdict, answer.status, line, sentence, given.stamp)
@@ -212,12 +197,9 @@ def _outcome(command: str, given: _Given, answer: Answer, schedule: Optional[Ans
 
 def _together(command: str, common: Loaded, batch: Sequence[_Given]) -> Iterator[Outcome]:
     """What trades come to whose own calendars are the same, or which have none."""
-    own = batch[0].own
-    found = common.answers(command, [it.item for it in batch], own)
-    lacking = [place for place, answer in enumerate(found) if _verdict(command, answer) == "unverified"]
-    schedules = dict(zip(lacking, common.answers("schedule", [batch[place].item for place in lacking], own)))
-    for place, (given, answer) in enumerate(zip(batch, found)):
-        yield _outcome(command, given, answer, schedules.get(place))
+    found = common.answers(command, [it.item for it in batch], batch[0].own)
+    for given, answer in zip(batch, found):
+        yield _outcome(command, given, answer)
 
 
 def _worked(command: str, common: Loaded, batch: Sequence[_Given]) -> List[Outcome]:

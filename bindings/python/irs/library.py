@@ -48,8 +48,11 @@ class _Answer(ctypes.Structure):
 
 
 class Answer(NamedTuple):
-    """What a command comes to: the status of the program, the text that it prints, and what that means in one sentence
-    (empty at status 0, but for an audit whose amounts lack fixings)."""
+    """What a command comes to: the status of the program, the text that it prints, and what that means in one sentence.
+
+    At status 0 the sentence is empty where each payment has its amount. Where some have none for want of a fixing it
+    says how many, and which fixing the first of them lacks.
+    """
 
     status: int
     text: bytes

@@ -26,7 +26,7 @@ _BEFORE = {"breaks": ("-",)}
 
 class Reply(NamedTuple):
     """What a command comes to: the status and the text that the program would have, the sentence
-    that it would say (empty at status 0), and the file that each word names."""
+    that it would say (empty where there is nothing to say), and the file that each word names."""
 
     status: int
     text: bytes
@@ -73,5 +73,5 @@ def ask(command: str, inputs: Inputs) -> Reply:
         add(Named(*calendar))
     contents: Dict[str, Text] = {word: file.content for word, file in files.items()}
     answer = run(words, contents)
-    sentence = "memory ran out" if answer.status == 7 else answer.sentence if answer.status else ""
+    sentence = "memory ran out" if answer.status == 7 else answer.sentence
     return Reply(answer.status, answer.text, _by_names(sentence, files), files, words)

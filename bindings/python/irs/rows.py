@@ -6,6 +6,7 @@ from 1.
 """
 from __future__ import annotations
 
+import datetime
 from datetime import date
 from decimal import Decimal
 from fractions import Fraction
@@ -121,7 +122,7 @@ class Observation(NamedTuple):
     period: int
     date: date
     days: int
-    observed: date
+    observed: datetime.date
     rate: Optional[Decimal]
 
 
@@ -221,11 +222,6 @@ def text_lines(text: bytes) -> List[str]:
 def inner_lines(text: bytes) -> List[str]:
     """The lines between the header and `end`."""
     return text_lines(text)[1:-1]
-
-
-def resets_of(schedule: bytes) -> List[Reset]:
-    """The resets of a schedule's text, in order."""
-    return [row_of(line) for line in inner_lines(schedule) if line.startswith("r ")]  # type: ignore[misc]
 
 
 def accrued_of(line: str) -> Accrued:

@@ -1,4 +1,4 @@
-"""Runs each folder of examples/ through the installed package, and compares status and text.
+"""Runs each folder of examples/ through the installed package, and compares status, text and sentence.
 
     python3 examples.py FOLDER
 
@@ -13,13 +13,14 @@ import irs
 
 
 def wrong(folder: Path) -> bool:
-    """Whether an example comes to another status or text than what is stored."""
+    """Whether an example comes to another status, text or sentence than what is stored."""
     words = (folder / "command").read_text().split()[1:]
     stored = folder / "status"
     status = int(stored.read_text()) if stored.is_file() else 0
     files = {word: (folder / word).read_bytes() for word in words[1:] if (folder / word).is_file()}
-    answer = irs.run(words, files)
-    return (answer.status, answer.text) != (status, (folder / "output").read_bytes())
+    said = folder / "said"
+    sentence = said.read_text().rstrip("\n") if said.is_file() else ""
+    return irs.run(words, files) != (status, (folder / "output").read_bytes(), sentence)
 
 
 def main(examples: str) -> int:

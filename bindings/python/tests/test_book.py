@@ -212,13 +212,37 @@ class Verdicts(unittest.TestCase):
         flows = irs.emit(document)
         told = self.outcome(document=document, flows=flows)
         self.assertEqual((told.verdict, told.status), ("unverified", 0))
-        self.assertIn("1 amounts aren't compared: 2 of 2 resets have no fixing", told.sentence)
-        self.assertIn("stream 1, period 1, fixed on 2024-01-15", told.sentence)
+        self.assertEqual(
+            told.sentence,
+            "the cash flows (flows) agree, but amounts that lack a fixing weren't compared: 1; payments without an "
+            "amount: 1 of 1; the first, payment 1 of stream 1, lacks a fixing for USD-TEST-INDEX 3M on 2024-01-15",
+        )
         summary = book.Summary([told])
         self.assertEqual((summary.is_clean(), summary.is_clean(["unverified"])), (False, True))
         fixings = example("compounded/fixings")
         told = self.outcome(document=document, flows=irs.emit(document, fixings), fixings=fixings)
         self.assertEqual((told.verdict, told.sentence), ("agrees", ""))
+
+    def test_the_sentence_is_the_engines(self):
+        document = example("compounded/terms.json")
+        trade = {"document": document, "flows": irs.emit(document), "rates": b"2024-01-15 0.05 3M USD-TEST-INDEX\n"}
+        said = irs.run(["audit", "document", "rates", "flows"], trade).sentence
+        self.assertTrue(said.endswith("lacks a fixing for USD-TEST-INDEX 3M on 2024-04-15"), said)
+        told = self.outcome(document=document, flows=trade["flows"], fixings=trade["rates"])
+        self.assertEqual((told.verdict, told.sentence), ("unverified", said))
+
+    def test_a_schedule_with_amounts_that_are_not_known(self):
+        document = example("compounded/terms.json")
+        for command in ("schedule", "emit"):
+            told = self.outcome(command, document=document)
+            self.assertEqual(told.verdict, "done")
+            self.assertEqual(
+                told.sentence,
+                "payments without an amount: 1 of 1; the first, payment 1 of stream 1, lacks a fixing for "
+                "USD-TEST-INDEX 3M on 2024-01-15",
+            )
+            told = self.outcome(command, document=document, fixings=example("compounded/fixings"))
+            self.assertEqual((told.verdict, told.sentence), ("done", ""))
 
     def test_a_verdict_each(self):
         rows = (
@@ -374,7 +398,7 @@ class CommonFixings(unittest.TestCase):
         )
         common = book.common_of((), b"".join(others) + own)
         trades = [book.Trade("T", document, None, irs.emit(document, own))] * 100
-        # One more is unverified, and so its schedule is made too.
+        # One more is unverified.
         unknown = document.replace(b"USD-TEST", b"USD-OTHER")
         trades.append(book.Trade("U", unknown, None, irs.emit(unknown)))
         self.assertEqual(book.work("audit", common, trades)[-1].verdict, "unverified")
@@ -428,6 +452,21 @@ class Batches(unittest.TestCase):
                 told = book.work("audit", book.Common(), trades)
             self.assertEqual([it[:2] for it in told], wanted)
             self.assertEqual(max(calls), {1: 1, 250_000: 3}.get(most, 50))
+
+    def test_one_call_for_trades_that_are_unverified(self):
+        document = example("compounded/terms.json")
+        trades = [book.Trade(f"T{number}", document, None, irs.emit(document)) for number in range(50)]
+        calls = []
+
+        def counted(words, common, given):
+            calls.append(words[0])
+            return library.run_each(words, common, given)
+
+        with mock.patch.object(many, "run_each", counted):
+            told = book.work("audit", book.Common(), trades)
+        self.assertEqual({it.verdict for it in told}, {"unverified"})
+        self.assertEqual(calls.count("audit"), 1)
+        self.assertNotIn("schedule", calls)
 
     def test_memory_that_runs_out_for_one(self):
         def short(words, common, trades):

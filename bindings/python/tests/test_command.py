@@ -125,7 +125,9 @@ class Statuses(Command):
         self.assertEqual(self.run_book()[0], 1)
         (row,) = self.rows()
         self.assertEqual((row["verdict"], row["status"]), ("unverified", "0"))
-        self.assertIn("1 amounts aren't compared: 2 of 2 resets have no fixing", row["sentence"])
+        self.assertTrue(
+            row["sentence"].endswith("lacks a fixing for USD-TEST-INDEX 3M on 2024-01-15"), row["sentence"]
+        )
         self.assertEqual(self.run_book("book", "--accept", "unverified")[0], 0)
 
     def test_another_command(self):

@@ -7,6 +7,7 @@ import unittest
 from decimal import Decimal
 from fractions import Fraction
 from pathlib import Path
+from xml.parsers import expat
 
 HERE = Path(__file__).resolve().parent
 EXAMPLES = HERE.parent.parent.parent / "examples"
@@ -19,6 +20,21 @@ from irs import rows
 
 def example(name):
     return (EXAMPLES / name).read_bytes()
+
+
+def starts(document):
+    """The line of each start tag, by expat, and where the tag ends."""
+    found = []
+    reader = expat.ParserCreate()
+
+    def start(name, attributes):
+        front = document[: reader.CurrentByteIndex]
+        assert reader.CurrentLineNumber == front.count(b"\n") + 1
+        found.append((reader.CurrentLineNumber, document.index(b">", len(front)) + 1))
+
+    reader.StartElementHandler = start
+    reader.Parse(document, True)
+    return [(line, end) for line, end in found if document[end - 2 : end] != b"/>"]
 
 
 class Xml(unittest.TestCase):
@@ -392,6 +408,142 @@ class EveryStatus(unittest.TestCase):
     def test_a_sentence_with_a_long_name(self):
         name = "x" * 100_000
         self.assertEqual(irs.run(["check", name]).sentence, f"couldn't be read: {name}")
+
+
+class Notes(unittest.TestCase):
+    """What the sentence adds: the missing fixing, and where a document breaks a rule."""
+
+    FLOATING = example("compounded/terms.json")
+    MISSING = (
+        "payments without an amount: 1 of 1; the first, payment 1 of stream 1, lacks a fixing for "
+        "USD-TEST-INDEX 3M on 2024-01-15"
+    )
+
+    def said(self, words, document, **files):
+        name = "d.xml" if document.lstrip()[:1] == b"<" else "d"
+        return irs.run([name if word == "d" else word for word in words], {name: document, **files})
+
+    def test_each_command_says_which_fixing_is_missing(self):
+        flows = irs.emit(self.FLOATING)
+        for words, said in (
+            (["schedule", "d", "-"], ""),
+            (["emit", "d", "-"], ""),
+            (["emit-xml", "d", "-"], ""),
+            (["accrue", "2024-02-15", "d", "-"], ""),
+            (["breaks", "-", "d", "-", "w"], ""),
+            (
+                ["audit", "d", "-", "w"],
+                "the cash flows (w) agree, but amounts that lack a fixing weren't compared: 1; ",
+            ),
+        ):
+            told = self.said(words, self.FLOATING, w=flows)
+            self.assertEqual((told.status, told.sentence), (0, said + self.MISSING), words)
+        net = example("net/terms.json")
+        told = irs.run(["net", "d", "-"], {"d": net})
+        self.assertRegex(told.sentence, "^payments without an amount: 1 of 3; the first, payment 1 of stream 2, lacks ")
+
+    def test_a_departure_says_it_too(self):
+        flows = irs.emit(self.FLOATING).replace(b"2024-07-15", b"2024-07-16")
+        for words in (["audit", "d", "-", "w"], ["breaks", "-", "d", "-", "w"]):
+            told = self.said(words, self.FLOATING, w=flows)
+            self.assertEqual(told.status, 1)
+            self.assertTrue(told.sentence.startswith("the cash flows (w) depart from the schedule"), told.sentence)
+            self.assertTrue(told.sentence.endswith("; " + self.MISSING), told.sentence)
+
+    def test_commands_that_say_nothing_of_it(self):
+        for words in (["check", "d"], ["average", "1", "plain", "1W", "d", "-"]):
+            told = self.said(words, self.FLOATING)
+            self.assertEqual((told.status, told.sentence), (0, ""), words)
+
+    def test_nothing_where_each_amount_is_known(self):
+        told = self.said(["schedule", "d", "f"], self.FLOATING, f=example("compounded/fixings"))
+        self.assertEqual((told.status, told.sentence), (0, ""))
+
+    def test_a_misspelt_index_is_the_one_that_was_looked_for(self):
+        fixings = example("compounded/fixings").replace(b"USD-TEST-INDEX", b"USD-TEST INDEX")
+        told = self.said(["schedule", "d", "f"], self.FLOATING, f=fixings)
+        self.assertEqual((told.status, told.sentence), (0, self.MISSING))
+
+    def test_the_first_period_without_a_rate(self):
+        first, second = example("compounded/fixings").splitlines(keepends=True)
+        for fixings, day in ((first, "2024-04-15"), (second, "2024-01-15")):
+            told = self.said(["schedule", "d", "f"], self.FLOATING, f=fixings)
+            self.assertEqual(told.sentence, self.MISSING.replace("2024-01-15", day))
+
+    def test_an_index_without_a_tenor(self):
+        tenor = b'"indexTenor":{"periodMultiplier":"3","period":"M"},\n'
+        self.assertIn(tenor, self.FLOATING)
+        told = self.said(["schedule", "d", "-"], self.FLOATING.replace(tenor, b""))
+        self.assertEqual(told.sentence, self.MISSING.replace(" 3M", ""))
+
+    def test_names_from_a_document_are_visible_ascii(self):
+        index = "USD\\u\u202e\u00e9\\ ~".encode().replace(b"\\", b"\\\\")
+        told = self.said(["schedule", "d", "-"], self.FLOATING.replace(b"USD-TEST-INDEX", index))
+        self.assertIn(r"a fixing for USD\x5cu\xe2\x80\xae\xc3\xa9\x5c ~ 3M on ", told.sentence)
+        for name, shown in (
+            ("a\nb\u202e", r"the member is a\x0ab\xe2\x80\xae"),
+            ("", "the name of the member is empty"),
+            ("x" * 128, "the member is " + "x" * 128),
+            ("x" * 129, "the member is " + "x" * 128 + "..."),
+            ("\x7f" * 200, "the member is " + r"\x7f" * 128 + "..."),
+        ):
+            document = json.loads(example("fixed_leg/terms.json"))
+            document["swap"]["swapStream"]["paymentDates"][name] = "1"
+            told = self.said(["check", "d"], json.dumps(document).encode())
+            self.assertEqual((told.status, told.text), (2, b"refused K4 1 paymentDates 0\n"))
+            self.assertTrue(told.sentence.endswith("; " + shown), told.sentence)
+
+    def test_the_member_and_the_line(self):
+        terms = example("xml_fixed_leg/terms.xml")
+        for old, new, said in (
+            (b"<paymentDates>", b"<paymentDates>\n<x/>", "K4: .. (stream 1); the member is x; see line 13"),
+            (b"<paymentDates>", b"\n\n<paymentDates><x/>", "K4: .. (stream 1); the member is x; see line 15"),
+            (b"<swapStream>", b"<swapStream><formula/>", "K5: .. (stream 1); the member is formula; see line 2"),
+            (b">15<", b">FRN<", "K5: calculationPeriodFrequency's rollConvention .. (stream 1); see line 10"),
+            (b"2025-01-15", b"2023-02-29", "K6: .. (stream 1); see line 6"),
+            # What isn't there: the line of the element that should have it.
+            (b"<currency>USD</currency>", b"", "K2: .. (stream 1); see line 20"),
+            (b"ACT/360", b"x</dayCountFraction><dayCountFraction>y", "K7: .. (stream 1); see line 24"),
+            (b"2025-01-15", b"2025-01-20", "K31: .. (stream 1); see line 6"),
+            # A comment and a section that look like the element come before it.
+            (b"<paymentDates>", b"<!-- <paymentDates>\n --><paymentDates><x/>", "K4: ..; see line 14"),
+        ):
+            self.assertEqual(terms.count(old), 1, old)
+            told = self.said(["schedule", "d", "-"], terms.replace(old, new))
+            front, back = said.split("..")
+            self.assertEqual(told.status, 2)
+            self.assertTrue(told.sentence.startswith(front) and told.sentence.endswith(back), (told.sentence, said))
+        self.assertNotIn("line", self.said(["net", "d", "-"], example("fixed_leg/terms.json")).sentence)
+
+    def test_the_line_of_a_later_stream(self):
+        terms = example("xml_vanilla/terms.xml")
+        place = terms.rindex(b"<paymentDates>")
+        told = self.said(["check", "d"], terms[:place] + b"<paymentDates><x/>" + terms[place + 14 :])
+        line = terms[:place].count(b"\n") + 1
+        self.assertTrue(told.sentence.endswith(f"(stream 2); the member is x; see line {line}"), told.sentence)
+
+    def test_a_prefix_is_no_part_of_the_name(self):
+        message = example("xml_message/message.xml")
+        place = message.index(b"<fpml:paymentDates>")
+        told = self.said(["check", "d"], message[:place] + b"<fpml:paymentDates><fpml:x/>" + message[place + 19 :])
+        line = message[:place].count(b"\n") + 1
+        self.assertTrue(told.sentence.endswith(f"(stream 1); the member is x; see line {line}"), told.sentence)
+
+    def test_each_element_beside_expat(self):
+        """An unknown member in each element of two documents in turn: its name, and the line of expat's reader."""
+        for folder, member in (
+            ("xml_vanilla/terms.xml", b"<zz/>"),
+            ("xml_message/message.xml", b"<fpml:zz/>"),
+            ("xml_audited/trade.xml", b"<zz><paymentDates/></zz>"),
+        ):
+            document = example(folder)
+            found = 0
+            for line, end in starts(document):
+                told = self.said(["check", "d"], document[:end] + member + document[end:])
+                if told.text.startswith(b"refused K4"):
+                    found += 1
+                    self.assertTrue(told.sentence.endswith(f"; the member is zz; see line {line}"), told.sentence)
+            self.assertGreater(found, 30, folder)
 
 
 class Version(unittest.TestCase):
