@@ -215,15 +215,48 @@ static void look_at(const struct answer *is, const struct input *in) {
     }
 }
 
-/* The sentence of an answer is one line without controls. There is none where all is done, but for an audit that
-   lacks fixings, and none where a word isn't text. */
+/* The commands that say how many payments have no amount. */
+static int states_amounts(struct irs_bytes command) {
+    static const char *const all[] = {"schedule", "audit", "breaks", "emit", "emit-xml", "net", "accrue"};
+    for (size_t i = 0; i < sizeof all / sizeof *all; i++)
+        if (is_word(command, all[i])) return 1;
+    return 0;
+}
+
+/* Whether a text has a line that begins with a letter and ends in these two bytes, or in others. */
+static int has_line(const struct answer *is, uint8_t letter, const char *last, int ends_so) {
+    const uint8_t *at = is->text, *end = at + is->length, *line;
+    for (; at < end && (line = memchr(at, '\n', end - at)); at = line + 1)
+        if (*at == letter && line - at > 2 && (memcmp(line - 2, last, 2) == 0) == ends_so) return 1;
+    return 0;
+}
+
+/* Whether the text of a command that is done says that an amount isn't known: 1 or 0, and -1 where it needn't say. */
+static int lacks_amount(const struct answer *is, struct irs_bytes command) {
+    if (is_word(command, "schedule")) return has_line(is, 'p', " -", 1);
+    if (is_word(command, "audit")) return has_line(is, 'y', " 0", 0);
+    if (is_word(command, "net")) return has_line(is, 'n', " 0", 0);
+    return states_amounts(command) ? -1 : 0;
+}
+
+static int says(const struct answer *is, const char *what) {
+    size_t length = strlen(what);
+    for (size_t i = 0; i + length <= is->said_length; i++)
+        if (!memcmp(is->said + i, what, length)) return 1;
+    return 0;
+}
+
+/* The sentence of an answer is one line without controls. There is none where all is done and each amount is known,
+   and none where a word isn't text. */
 static void look_at_sentence(const struct answer *is, const struct input *in) {
     if (is->status == 9) {
         if (is->said_length) broken("a meaning for words that aren't text");
         return;
     }
-    int may_speak = is->status == 0 && is_word(in->words[0], "audit");
-    if ((is->said_length == 0) != (is->status == 0) && !may_speak) broken("a status without a meaning, or 0 with one");
+    int speaks = is->said_length > 0, lacks = is->status == 0 ? lacks_amount(is, in->words[0]) : -1;
+    if (is->status && !speaks) broken("a status without a meaning");
+    if (lacks >= 0 && lacks != speaks) broken("an amount isn't known and nothing is said, or the other way round");
+    if (is->status == 0 && speaks && !says(is, "payments without an amount: ")) broken("0 with another meaning");
     if (memchr(is->said, '\n', is->said_length)) broken("a meaning of several lines");
     for (size_t i = 0; i < is->said_length; i++)
         if (is->said[i] < ' ' || is->said[i] == 127) broken("a control character in a meaning");

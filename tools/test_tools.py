@@ -135,6 +135,13 @@ class Manual(InRoom):
             ).stdout
             self.assertEqual(said, "")
 
+    def test_standard_error_with_status_0(self) -> None:
+        page = (self.room / "man" / "irs.1").read_text()
+        _, _, told = page.partition(".SH DIAGNOSTICS\n")
+        self.assertIn("which fixing the\nfirst of them lacks", told)
+        for name in ("schedule", "audit", "breaks", "emit", "emit\\-xml", "net", "accrue"):
+            self.assertRegex(told.replace("\n", " "), f"[ ,]{re.escape(name)}[ ,.]", name)
+
 
 class Try(InRoom):
     """The words of `make try`: a program that prints them replaces the unproved one."""
@@ -555,15 +562,16 @@ class Fuzz(InRoom):
             if (audit) status = 0, text = "yes 4 0\n";
             MISTAKE;
             show(text, out, room, needed);
-            show(status ? MEANING : "", said, said_room, said_needed);
+            show(status ? MEANING : NOTE, said, said_room, said_needed);
             return status;
         }
     """
 
-    def broken(self, words: str, mistake: str = "", meaning: str = '"a meaning"') -> str:
+    def broken(self, words: str, mistake: str = "", meaning: str = '"a meaning"', note: str = '""') -> str:
         """Which assertion a library breaks on these words; empty where none is."""
         source, fuzzer = self.room / "library.c", self.room / "fuzzer"
-        source.write_text(self.LIBRARY.replace("MISTAKE", mistake).replace("MEANING", meaning))
+        text = self.LIBRARY.replace("MISTAKE", mistake).replace("MEANING", meaning).replace("NOTE", note)
+        source.write_text(text)
         flags = ["-fsanitize=fuzzer,address", f"-I{TOP / 'bindings'}", "-o", str(fuzzer)]
         subprocess.run(["clang", *flags, str(TOOLS / "fuzz.c"), str(source)], check=True)
         (self.room / "input").write_bytes(words.encode() + b"\n\xff\xffd\n{}")
@@ -589,6 +597,24 @@ class Fuzz(InRoom):
         ):
             self.assertIn(said, self.broken(words, mistake), mistake)
         self.assertIn("several lines", self.broken("what", meaning='"one\\ntwo"'))
+
+    #: What a library says of amounts that aren't known.
+    NOTE = '"payments without an amount: 1 of 2; the first, .."'
+
+    def test_amounts_that_are_not_known(self) -> None:
+        schedule = 'status = 0, text = "irs-schedule 2\\nstream 1 USD 30/360 float\\np 1 1 x %s\\nend\\n"'
+        net = 'status = 0, text = "irs-net 1\\nn 2024-07-15 USD 0 %s\\nend\\n"'
+        for words, unknown in (
+            ("audit d - d", 'text = "yes 4 10\\n"'),
+            ("schedule d -", schedule % "-"),
+            ("net d -", net % "1"),
+        ):
+            self.assertEqual(self.broken(words, unknown, note=self.NOTE), "", words)
+            self.assertIn("nothing is said", self.broken(words, unknown), words)
+        for words, known in (("schedule d -", schedule % "1.00"), ("check d", 'status = 0, text = "ok\\n"')):
+            self.assertIn("the other way round", self.broken(words, known, note=self.NOTE), words)
+        self.assertIn("another meaning", self.broken("net d -", net % "1", note='"a meaning"'))
+        self.assertEqual(self.broken("accrue 2024-01-15 d -", 'status = 0, text = "irs-accrued 1 x\\nend\\n"'), "")
 
 
 class XmlBeside(unittest.TestCase):
