@@ -11,6 +11,7 @@ pub mod Represents
 pub mod Selected
 pub mod Closed
 pub mod Words
+pub mod EndLines
 pub mod Machine
 pub mod Given
 pub mod Files
