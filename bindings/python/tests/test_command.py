@@ -219,7 +219,8 @@ class EndLines(Command):
 
     def setUp(self):
         super().setUp()
-        self.put("calendars/de.cal", CALENDAR + b"# end %d\n" % CALENDAR.count(b"\n"))
+        calendar = example("business_days/de.cal")
+        self.put("calendars/de.cal", calendar + b"# end %d\n" % calendar.count(b"\n"))
         self.trade("T1")
 
     def told(self, *words):

@@ -1,9 +1,9 @@
 -- The lines of a file as they are read.
-use Rattle.std.proofs.Common.{◌≡◌, inl, inr, ℕ, ◌+◌, ◌<◌, ◌==◌, Bool, true, false, ◌&&◌, List, [], ◌∷◌, ◌++◌, length}
-use Rattle.std.proofs.Common.{arith, refl, ap, subst}
+use Rattle.std.proofs.Common.{◌≡◌, inl, inr, ℕ, ◌+◌, ◌==◌, Bool, true, false, ◌&&◌, List, [], ◌∷◌, length}
+use Rattle.std.proofs.Common.{refl, ap}
 use Rattle.std.proofs.lemmas.Bool.{cases_Bool}
 use Rattle.irs_base.specs.Lines.{begins_feed, lines_of, with_byte}
-use Rattle.irs_calendar.specs.EndLines.{EndsTruly, bad_line, is_false_end, is_none, line_seen, seen_from}
+use Rattle.irs_calendar.specs.EndLines.{EndsTruly, bad_line, is_none, seen_from}
 use Rattle.irs_calendar.specs.Machine.{Wrong}
 use Rattle.irs_calendar.specs.Words.{kind_of}
 

@@ -62,7 +62,7 @@ fn line_seen(line: &[u8], before: u32, is_last: bool) -> &[u8]
     ensures { result.now ≡ line_seen is_last before line.now }
 {
     if is_last && is_false_end(line, before) {
-        b" #"
+        b" #".as_slice()
     } else {
         line
     }

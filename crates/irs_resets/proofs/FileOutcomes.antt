@@ -1,5 +1,5 @@
 -- A file of fixings has one outcome: rates, or a first line at fault.
-use Rattle.std.proofs.Common.{◌≡◌, ◌⊎◌, inl, inr, ℕ, ◌+◌, ◌≤◌, Bool, true, false, List, [], ◌∷◌, length, Option}
+use Rattle.std.proofs.Common.{◌≡◌, ◌⊎◌, inl, inr, ℕ, ◌+◌, ◌≤◌, Bool, true, false, ◌&&◌, List, [], ◌∷◌, length, Option}
 use Rattle.std.proofs.Common.{Some, None, ℤ, IsTrue, Err, refl, sym, ap, ap₂, subst, ◌∙◌, arith, cond, true≢false}
 use Rattle.std.specs.Prelude.{nat_lt, ◌↔◌}
 use Rattle.std.specs.Cmp.Lexicographic.{nat_list_eq_equiv}

@@ -1,4 +1,5 @@
--- What a fixing file holds, and its first line that is at fault. Lines count from 1.
+-- What a fixing file holds, and its first line that is at fault. Lines count from 1. They are those that are read:
+-- a false end line in the last place is outside the grammar.
 use Rattle.std.specs.Prelude.{◌≡◌, ◌⊎◌, ◌↔◌, ℕ, ◌-◌, ◌<◌, ◌≤◌, false, IsTrue, List, [], length, slice_index_or, Some}
 use Rattle.std.specs.Prelude.{None, IsSome, ℤ, nat_lt}
 use Rattle.irs_calendar.specs.EndLines.{seen_lines}

@@ -1,9 +1,9 @@
 //! Fixings: the rates that were observed, from a file.
 //!
 //! Lines end in LF or CRLF, and the last one may have no end. A line of spaces and tabs alone and a
-//! line whose first byte is `#` are ignored, but for a last line `# end N` whose number isn't that of the
-//! lines before it. Each other line gives the rate of an index at a date
-//! and tenor, and no two lines give the same index, date and tenor. The format is our rule.
+//! line whose first byte is `#` are ignored. But a last line `# end N` is at fault if N isn't the
+//! number of lines before it. Each other line gives the rate of an index at a date and tenor, and no
+//! two lines give the same index, date and tenor. The format is our rule.
 ghost use Rattle.std.specs.Prelude.{◌≡◌, ◌≤◌, ◌↔◌, [], length, IfSome, IsErrOf, IsTrue};
 ghost use Rattle.irs_base.specs.Limits.{most_bytes};
 ghost use Rattle.irs_calendar.specs.EndLines.{seen_lines};
@@ -28,7 +28,7 @@ use thiserror::Error;
 /// The first line of a fixing file that is at fault. Lines count from 1.
 #[derive(Clone, Copy, Debug, Error)]
 pub enum FixErr {
-    /// The line isn't ignored and spells no fixing.
+    /// The line isn't ignored and spells no fixing. So it is with a last line `# end N` whose number is false.
     #[error("line {0} spells no fixing")]
     Syntax(u32),
     /// An earlier line has the date, tenor and index of this line.
