@@ -1,4 +1,7 @@
 pub mod LeafTexts
+pub mod PlainTexts
+pub mod Pieces
+pub mod RowTexts
 pub mod ReadBack
 pub mod Bounds
 pub mod Values
