@@ -1,8 +1,7 @@
 -- The texts of leaves are of plain characters, so they are ASCII and need no escape.
 use Rattle.std.proofs.Common.{◌≡◌, ℕ, zero, suc, ◌+◌, ◌/◌, ◌%◌, ◌^◌, ◌<◌, ◌≤◌, ◌==◌, Bool, true, false, List, [], ◌∷◌, ◌++◌}
-use Rattle.std.proofs.Common.{if◌then◌else◌, ◌&&◌, ℤ, pos, negsuc, unsigned_abs, FitsSigned, refl, ap, sym, ◌∙◌, arith}
+use Rattle.std.proofs.Common.{if◌then◌else◌, ℤ, pos, negsuc, unsigned_abs, FitsSigned, refl, sym, ap, subst, ◌∙◌, arith}
 use Rattle.std.proofs.Math.Nat.{div-le_self}
-use Rattle.std.proofs.lemmas.Bool.{and_parts}
 use Rattle.std.proofs.lemmas.Bool.Decides.{nat_tests}
 use Rattle.std.proofs.lemmas.Fmt.{decimal_by_steps_wide}
 use Rattle.std.proofs.lemmas.List.Elements.{All-head, All-tail}
@@ -11,14 +10,17 @@ use Rattle.std.proofs.lemmas.Str.Ascii.{IsAscii-nil, IsAscii-cons}
 use Rattle.std.specs.Fmt.{decimal, signed_decimal}
 use Rattle.std.specs.Int.{w128}
 use Rattle.std.specs.List.{All, list_all}
-use Rattle.std.specs.Str.{IsAscii}
+use Rattle.std.proofs.lemmas.Str.{IsUtf8-from_ascii, is_utf8-from_IsUtf8}
+use Rattle.std.specs.Str.{IsAscii, is_utf8}
 use Rattle.irs_base.proofs.DateWalks.{date_of_day}
 use Rattle.irs_base.proofs.Dates.{year_range}
+use Rattle.irs_base.proofs.TextLemmas.{with_point}
 use Rattle.irs_base.proofs.TextLengths.{small_abs}
+use Rattle.irs_base.proofs.VisibleTexts.{not_none}
 use Rattle.irs_base.specs.DateOf.{year_of, month_of, day_of_month}
 use Rattle.irs_base.specs.Days.{IsDay}
 use Rattle.irs_base.specs.Texts.{date_text, day_text, dec_text, digit_row, two_digits, unsigned_dec}
-use Rattle.irs_emit.proofs.LeafTexts.{text_kept}
+use Rattle.irs_elements.proofs.Exact.{both_true, true_both}
 use Rattle.irs_emit.specs.Leaves.{currency_leaf, text_of}
 use Rattle.irs_emit.specs.Texts.{ArePlain, is_plain}
 use Rattle.irs_schedule.specs.Parts.{IsCode}
@@ -27,9 +29,6 @@ use Rattle.jiff_core.proofs.CalendarLemmas.{days_in_month_bounds}
 use Rattle.jiff_core.proofs.SignedLemmas.{signed_arith}
 use Rattle.json.specs.Print.{escape, escape_byte}
 use Rattle.serde_json.specs.Data.{string}
-
-true_both : (a b : Bool) → a ≡ true → b ≡ true → (a && b) ≡ true
-true_both a b p q = rw (p, q) refl
 
 plain_append : (a b : List ℕ) → ArePlain a → ArePlain b → ArePlain (a ++ b)
 plain_append a b h k = list_all-append is_plain a b ∙ true_both (list_all is_plain a) (list_all is_plain b) h k
@@ -120,6 +119,19 @@ number_plain z places f = dec_plain z places (small_abs z f)
 pub count_plain : (z : ℤ) → FitsSigned w128 z → ArePlain (signed_decimal z)
 count_plain z f = whole_plain z (small_abs z f)
 
+short_by : (n p : ℕ) → n / 10 ^ p < 10 ^ 18 → ArePlain (unsigned_dec n p)
+short_by n zero h = let s : n < 10 ^ 18 = omega (arith, h) in decimal_plain n (omega (arith, s))
+short_by n (suc k) h =
+    let a = n / 10 ^ suc k in
+    subst ArePlain (sym (with_point n (suc k) (not_none k)))
+    (plain_append (decimal a) (46 ∷ digit_row (suc k) n) (decimal_plain a (omega (arith, h)))
+    (plain_cons 46 (digit_row (suc k) n) point (row_plain (suc k) n)))
+
+-- the text of a number with at most 18 digits before its point is plain
+pub short_plain : (z : ℤ) (p : ℕ) → unsigned_abs z / 10 ^ p < 10 ^ 18 → ArePlain (dec_text z p)
+short_plain (pos n) p h = short_by n p h
+short_plain (negsuc n) p h = plain_cons 45 (unsigned_dec (suc n) p) dash (short_by (suc n) p h)
+
 -- ---- currencies
 
 capital_plain : (c : ℕ) → (65 ≤ c) × (c ≤ 90) → is_plain c ≡ true
@@ -150,8 +162,12 @@ ascii_one c h = grind (arith, nat_tests)
 pub plain_ascii : (s : List ℕ) → ArePlain s → IsAscii s
 plain_ascii [] h = IsAscii-nil
 plain_ascii (c ∷ cs) h =
-    let both = and_parts (is_plain c) (list_all is_plain cs) h in
+    let both = both_true (is_plain c) (list_all is_plain cs) h in
     IsAscii-cons c cs (ascii_one c both.0) (plain_ascii cs both.1)
+
+-- an ASCII text is kept as a text
+pub text_kept : (s : List ℕ) → IsAscii s → text_of s ≡ s
+text_kept s h = let e : is_utf8 s ≡ true = is_utf8-from_IsUtf8 s (IsUtf8-from_ascii s h) in rw e refl
 
 -- a plain text is kept as a text
 pub plain_kept : (s : List ℕ) → ArePlain s → text_of s ≡ s
@@ -169,5 +185,5 @@ escape_one c h = grind (arith, nat_tests)
 pub plain_escape : (s : List ℕ) → ArePlain s → escape s ≡ s
 plain_escape [] h = refl
 plain_escape (c ∷ cs) h =
-    let both = and_parts (is_plain c) (list_all is_plain cs) h in
+    let both = both_true (is_plain c) (list_all is_plain cs) h in
     ap (λ t. t ++ escape cs) (escape_one c both.0) ∙ ap (λ t. c ∷ t) (plain_escape cs both.1)

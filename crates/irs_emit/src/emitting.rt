@@ -162,7 +162,6 @@ pub fn emit_flows(alloc: Global, s: &Schedule) -> Result<Vec<u8>, Memory>
     ensures reads { IfOk result (λ bytes. Reads bytes.items (emit_value s.now)) }
     ensures states { IfOk result (λ bytes. StatesFlows bytes.items s.now) }
 {
-    s.bounds();
     let mut out = Vec::new(alloc);
     out.extend_from_slice(b"{\"swap\":{\"swapStream\":[")?;
     streams(&mut out, s.streams())?;

@@ -107,12 +107,15 @@ pub(crate) fn known_amount(out: &mut Vec<u8>, start: &[u8], v: Option<Dec>) -> R
     requires { IfSome v IsFew }
     ensures { OnOk result (out.new.items ≡ out.old.items ++ known_text start.now (option_map amount_leaf v)) }
 {
-    if let Some(v) = v {
-        out.extend_from_slice(start)?;
-        amount(out, v)?;
-        out.push(b',')?;
+    match v {
+        Some(v) => {
+            out.extend_from_slice(start)?;
+            amount(out, v)?;
+            out.push(b',')?;
+            Ok(())
+        },
+        None => Ok(()),
     }
-    Ok(())
 }
 
 /// A member with a rate and a comma after it, where the rate is known. `start` is the name in quotes
@@ -120,10 +123,13 @@ pub(crate) fn known_amount(out: &mut Vec<u8>, start: &[u8], v: Option<Dec>) -> R
 pub(crate) fn known_rate(out: &mut Vec<u8>, start: &[u8], units: Option<i64>) -> Result<(), Memory>
     ensures { OnOk result (out.new.items ≡ out.old.items ++ known_text start.now (option_map rate_leaf units)) }
 {
-    if let Some(units) = units {
-        out.extend_from_slice(start)?;
-        rate(out, units)?;
-        out.push(b',')?;
+    match units {
+        Some(units) => {
+            out.extend_from_slice(start)?;
+            rate(out, units)?;
+            out.push(b',')?;
+            Ok(())
+        },
+        None => Ok(()),
     }
-    Ok(())
 }

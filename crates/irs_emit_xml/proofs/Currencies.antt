@@ -6,7 +6,7 @@ use Rattle.std.specs.List.{list_all}
 use Rattle.std.specs.Str.{IsAscii}
 use Rattle.irs_terms.specs.declared.currency.Currency.{Currency}
 use Rattle.irs_schedule.specs.Parts.{IsCode}
-use Rattle.irs_emit.proofs.LeafTexts.{text_kept}
+use Rattle.irs_emit.proofs.PlainTexts.{text_kept}
 use Rattle.irs_emit.specs.Leaves.{text_of}
 use Rattle.irs_emit_xml.specs.Trees.{is_plain}
 use Rattle.irs_emit_xml.proofs.PlainTexts.{ArePlain, capitals_plain}
