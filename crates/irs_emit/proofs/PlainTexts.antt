@@ -21,14 +21,13 @@ use Rattle.irs_base.specs.DateOf.{year_of, month_of, day_of_month}
 use Rattle.irs_base.specs.Days.{IsDay}
 use Rattle.irs_base.specs.Texts.{date_text, day_text, dec_text, digit_row, two_digits, unsigned_dec}
 use Rattle.irs_elements.proofs.Exact.{both_true, true_both}
-use Rattle.irs_emit.specs.Leaves.{currency_leaf, text_of}
+use Rattle.irs_emit.specs.Leaves.{text_of}
 use Rattle.irs_emit.specs.Texts.{ArePlain, is_plain}
 use Rattle.irs_schedule.specs.Parts.{IsCode}
 use Rattle.irs_terms.specs.declared.currency.Currency.{Currency}
 use Rattle.jiff_core.proofs.CalendarLemmas.{days_in_month_bounds}
 use Rattle.jiff_core.proofs.SignedLemmas.{signed_arith}
 use Rattle.json.specs.Print.{escape, escape_byte}
-use Rattle.serde_json.specs.Data.{string}
 
 plain_append : (a b : List ℕ) → ArePlain a → ArePlain b → ArePlain (a ++ b)
 plain_append a b h k = list_all-append is_plain a b ∙ true_both (list_all is_plain a) (list_all is_plain b) h k
@@ -174,8 +173,8 @@ pub plain_kept : (s : List ℕ) → ArePlain s → text_of s ≡ s
 plain_kept s h = text_kept s (plain_ascii s h)
 
 -- the letters of a currency are kept as a text
-pub code_kept : (c : Currency) → IsCode c → currency_leaf c ≡ string c.letters
-code_kept c h = ap string (plain_kept c.letters (code_plain c h))
+pub code_kept : (c : Currency) → IsCode c → text_of c.letters ≡ c.letters
+code_kept c h = plain_kept c.letters (code_plain c h)
 
 escape_one : (c : ℕ) → is_plain c ≡ true → escape_byte c ≡ c ∷ []
 unfolding is_plain escape_byte

@@ -7,9 +7,8 @@ use Rattle.json.specs.Json as json
 use Rattle.serde_json.specs.Data.{Data, null, boolean, number, string, array, object, Items, no_items, item, Members}
 use Rattle.serde_json.specs.Data.{no_members, member, put, depth, items_depth, members_depth}
 use Rattle.serde_json.specs.Read.{of_json, max_depth, read}
-use Rattle.serde_json.specs.Written.{comma_if, compact_text, has_float, items_have_float, items_text}
-use Rattle.serde_json.specs.Written.{members_have_float, members_text}
-use Rattle.std.proofs.Common.{◌≡◌, ℕ, ◌-◌, ◌<◌, ◌≤◌, List, [], ◌∷◌, ◌++◌, Bool, true, false, ◌||◌, Ordering, Less}
+use Rattle.serde_json.specs.Written.{comma_if, compact_text, items_text, members_text}
+use Rattle.std.proofs.Common.{◌≡◌, ℕ, ◌-◌, ◌<◌, ◌≤◌, List, [], ◌∷◌, ◌++◌, Bool, true, false, Ordering, Less}
 use Rattle.std.proofs.Common.{Equal, Greater, nat_cmp, refl, sym, ap, ap₂, ◌∙◌, append_assoc, append-nil, arith}
 use Rattle.std.specs.Cmp.Lexicographic.{slice_cmp}
 use Rattle.std.specs.Ordering.{match_ordering}
@@ -77,31 +76,6 @@ mutual
   members_within n no_members h = omega arith
   members_within n (member k d ms) h =
       max_within (depth d) (members_depth ms) n (built_depth n d h.0) (members_within n ms h.1)
-
--- ---- no number is a float
-
-neither : (a b : Bool) → a ≡ false → b ≡ false → (a || b) ≡ false
-neither a b p q = rw (p, q) refl
-
-mutual
-  -- a value that is built has no number that is a float
-  pub built_floatless : (n : ℕ) (d : Data) → Built n d → has_float d ≡ false
-  built_floatless n null h = refl
-  built_floatless n (boolean b) h = refl
-  built_floatless n (number x) h = absurd h
-  built_floatless n (string s) h = refl
-  built_floatless n (array ds) h = items_floatless (n - 1) ds h.1
-  built_floatless n (object ms) h = members_floatless (n - 1) ms h.1
-
-  items_floatless : (n : ℕ) (ds : Items) → ItemsBuilt n ds → items_have_float ds ≡ false
-  items_floatless n no_items h = refl
-  items_floatless n (item d ds) h =
-      neither (has_float d) (items_have_float ds) (built_floatless n d h.0) (items_floatless n ds h.1)
-
-  members_floatless : (n : ℕ) (ms : Members) → MembersBuilt n ms → members_have_float ms ≡ false
-  members_floatless n no_members h = refl
-  members_floatless n (member k d ms) h =
-      neither (has_float d) (members_have_float ms) (built_floatless n d h.0) (members_floatless n ms h.1)
 
 -- ---- the lexemes don't depend on what follows
 
