@@ -27,6 +27,7 @@ use Rattle.irs_schedule.specs.Parts.{IsCode}
 use Rattle.irs_terms.specs.declared.currency.Currency.{Currency}
 use Rattle.jiff_core.proofs.CalendarLemmas.{days_in_month_bounds}
 use Rattle.jiff_core.proofs.SignedLemmas.{signed_arith}
+use Rattle.json.proofs.Printed.Strings.{escape_byte_plain}
 use Rattle.json.specs.Print.{escape, escape_byte}
 
 plain_append : (a b : List ℕ) → ArePlain a → ArePlain b → ArePlain (a ++ b)
@@ -176,9 +177,20 @@ plain_kept s h = text_kept s (plain_ascii s h)
 pub code_kept : (c : Currency) → IsCode c → text_of c.letters ≡ c.letters
 code_kept c h = plain_kept c.letters (code_plain c h)
 
+printed : (c : ℕ) → is_plain c ≡ true → 32 ≤ c
+unfolding is_plain
+printed c h = grind (arith, nat_tests)
+
+no_quote : (c : ℕ) → is_plain c ≡ true → c ≡ 34 → ⊥
+unfolding is_plain
+no_quote c h e = let bad : false ≡ true = subst (λ x. is_plain x ≡ true) e h in cc
+
+no_backslash : (c : ℕ) → is_plain c ≡ true → c ≡ 92 → ⊥
+unfolding is_plain
+no_backslash c h e = let bad : false ≡ true = subst (λ x. is_plain x ≡ true) e h in cc
+
 escape_one : (c : ℕ) → is_plain c ≡ true → escape_byte c ≡ c ∷ []
-unfolding is_plain escape_byte
-escape_one c h = grind (arith, nat_tests)
+escape_one c h = escape_byte_plain c (no_quote c h) (no_backslash c h) (printed c h)
 
 -- a plain text needs no escape
 pub plain_escape : (s : List ℕ) → ArePlain s → escape s ≡ s

@@ -8,10 +8,10 @@ use Rattle.irs_emit.proofs.LeavesRead.{currency_ascii}
 use Rattle.irs_emit.specs.Texts.{ArePlain}
 use Rattle.irs_emit.proofs.PlainTexts.{day_plain, plain_ascii, short_plain, text_kept, whole_plain}
 use Rattle.irs_emit.specs.Emitted.{array_of, cashflows_value, definition_value, emit_value, exchange_value, fixed_value}
-use Rattle.irs_emit.specs.Emitted.{floating_value, forecast_value, known_exchanges, listed_period, object_with}
+use Rattle.irs_emit.specs.Emitted.{floating_value, forecast_value, known_exchanges, listed_period}
 use Rattle.irs_emit.specs.Emitted.{observation_value, one_period, payment_value, period_members, period_value}
 use Rattle.irs_emit.specs.Emitted.{period_values, put_known, stream_value}
-use Rattle.irs_emit.specs.Leaves.{amount_leaf, count_leaf, currency_leaf, day_leaf, rate_leaf, text_of}
+use Rattle.irs_emit.specs.Leaves.{amount_leaf, count_leaf, currency_leaf, day_leaf, rate_leaf}
 use Rattle.irs_emit.specs.PartLaws.{IsPartShort}
 use Rattle.irs_emit.specs.RowLaws.{IsExchangeShort, IsPaymentShort, IsPeriodShort, IsResetShort, IsShort, IsShortAmount}
 use Rattle.irs_emit.specs.RowLaws.{IsShortRate}
@@ -29,7 +29,7 @@ use Rattle.serde_json.specs.Data.{no_members, member, put}
 use Rattle.serde_json.specs.View.{items_of}
 use Rattle.serde_json.specs.Written.{comma_if, compact_text, items_text, members_text}
 use Rattle.std.proofs.Common.{◌≡◌, ℕ, ℤ, zero, suc, ◌+◌, ◌-◌, ◌^◌, ◌<◌, List, [], ◌∷◌, ◌++◌, Bool, true, false, map, Option}
-use Rattle.std.proofs.Common.{Some, None, IfSome, option_map, unsigned_abs, codes, refl, sym, ap, subst, arith}
+use Rattle.std.proofs.Common.{Some, None, IfSome, option_map, unsigned_abs, codes, refl, sym, subst, arith}
 use Rattle.std.proofs.lemmas.Str.{IsUtf8-append, IsUtf8-from_ascii}
 use Rattle.std.specs.Fmt.{signed_decimal}
 use Rattle.std.specs.Prelude.{slice_get}

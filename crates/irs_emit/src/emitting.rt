@@ -119,7 +119,9 @@ fn payments(out: &mut Vec<u8>, part: &StreamPart) -> Result<(), Memory>
 fn cashflows(out: &mut Vec<u8>, part: &StreamPart) -> Result<(), Memory>
     ensures { OnOk result (out.new.items ≡ out.old.items ++ compact_text (cashflows_value part.now)) }
 {
-    out.extend_from_slice(b"{\"cashflowsMatchParameters\":\"true\",\"paymentCalculationPeriod\":[")?;
+    out.extend_from_slice(
+        b"{\"cashflowsMatchParameters\":\"true\",\"paymentCalculationPeriod\":[",
+    )?;
     payments(out, part)?;
     out.extend_from_slice(b"]")?;
     exchanges(out, part)?;
