@@ -25,7 +25,7 @@ use Rattle.irs_observed.proofs.RunningLemmas.{before_above, one_before}
 use Rattle.irs_observed.specs.RunningRates.{IsRateBefore}
 use Rattle.irs_observed.specs.declared.overnight_rate.OvernightRate.{OvernightRate}
 use Rattle.irs_observed.specs.declared.overnight_rate.OvernightRate.TheVariants.{Stated, Known, Absent, OutOfRange}
-use Rattle.irs_compound.specs.OvernightLaws.{one_overnight}
+use Rattle.irs_compound.specs.Private.OvernightLaws.{one_overnight}
 use Rattle.irs_compound.specs.OvernightRates.{IsAbove as HasDenominator}
 use Rattle.irs_compound.specs.declared.periods.Rates.{Rates}
 use Rattle.irs_schedule.specs.Parts.{KeepsBounds, Part}

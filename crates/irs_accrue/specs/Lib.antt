@@ -2,4 +2,4 @@ pub mod Shares
 pub mod Accruals
 pub mod DailyAccruals
 pub mod AccrualTexts
-pub mod Sizes
+pub mod Private

@@ -17,7 +17,7 @@ ghost use Rattle.irs_observed.specs.OvernightRates.{HasBounds};
 ghost use Rattle.irs_accrue.specs.Accruals.{Runs};
 ghost use Rattle.irs_accrue.specs.DailyAccruals.{AccruesAs, AccruesDaily, EarnsBefore, GivesRate, HasSpan, IsDailyAccrual};
 ghost use Rattle.irs_accrue.specs.DailyAccruals.{daily_terms, nothing};
-ghost use Rattle.irs_accrue.specs.Sizes.{IsSmall};
+ghost use Rattle.irs_accrue.specs.Private.Sizes.{IsSmall};
 
 use crate::Accrual;
 use crate::interest::amount_of;

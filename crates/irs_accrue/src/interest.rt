@@ -6,7 +6,7 @@ ghost use Rattle.irs_base.specs.Limits.{most_numerator, most_rate};
 ghost use Rattle.irs_terms.specs.Currencies.{decimals_of};
 ghost use Rattle.irs_terms.specs.Lawful.{IsNotional};
 ghost use Rattle.irs_accrue.specs.Accruals.{IsAccrued, IsInterest};
-ghost use Rattle.irs_accrue.specs.Sizes.{IsSmall, most_product, most_scaled, most_divisor};
+ghost use Rattle.irs_accrue.specs.Private.Sizes.{IsSmall, most_product, most_scaled, most_divisor};
 
 use irs_base::{Dec, Direction, MOST_RATE, round};
 use irs_terms::{Currency, Frac};

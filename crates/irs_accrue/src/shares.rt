@@ -6,7 +6,7 @@
 ghost use Rattle.std.specs.Prelude.{◌≡◌, ◌<ℤ◌, ◌≤ℤ◌, pos, ◌-ℤ◌};
 ghost use Rattle.irs_daycount.specs.Fractions.{denominator_of};
 ghost use Rattle.irs_accrue.specs.Shares.{CountedTo, HasRun, OfWhole};
-ghost use Rattle.irs_accrue.specs.Sizes.{IsSmall};
+ghost use Rattle.irs_accrue.specs.Private.Sizes.{IsSmall};
 
 use irs_base::Day;
 use irs_daycount::{days_by, fraction_by};

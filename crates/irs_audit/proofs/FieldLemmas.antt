@@ -23,7 +23,7 @@ use Rattle.irs_audit.specs.declared.flows.FlowPeriod.{FlowPeriod}
 use Rattle.irs_audit.specs.declared.flows.FlowReset.{FlowReset}
 use Rattle.irs_audit.specs.DepartureOrder.{field_before}
 use Rattle.irs_audit.specs.FieldDepartures.{ExchangeDeparts, PaymentDeparts, PeriodDeparts, ResetDeparts}
-use Rattle.irs_audit.specs.FieldTables.{first_true}
+use Rattle.irs_audit.specs.Private.FieldTables.{first_true}
 use Rattle.irs_audit.proofs.TableLemmas.{Stands, table_first}
 use Rattle.irs_base.specs.Order.{IsFirst}
 

@@ -13,7 +13,5 @@ pub mod Agreement
 pub mod DepartureOrder
 pub mod Verdicts
 pub mod Comparisons
-pub mod FieldTables
-pub mod RowSets
 pub mod RowNames
-pub mod StreamSets
+pub mod Private

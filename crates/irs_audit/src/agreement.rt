@@ -2,7 +2,7 @@
 ghost use Rattle.std.specs.Prelude.{◌≡◌, ◌↔◌, ◌≤◌, length, option_copied};
 ghost use Rattle.irs_audit.specs.Agreement.{Departs};
 ghost use Rattle.irs_audit.specs.DepartureOrder.{departs_before};
-ghost use Rattle.irs_audit.specs.StreamSets.{OfStream};
+ghost use Rattle.irs_audit.specs.Private.StreamSets.{OfStream};
 ghost use Rattle.irs_audit.specs.Verdicts.{IsNo, IsVerdict};
 ghost use Rattle.irs_audit.specs.declared.departures.Departure.{Departure};
 ghost use Rattle.irs_audit.specs.declared.departures.Verdict.{Verdict};

@@ -4,7 +4,7 @@ ghost use Rattle.std.specs.Prelude.{◌≡◌, ◌+◌, ◌-◌, ◌≤◌, IfSo
 ghost use Rattle.irs_audit.specs.Comparisons.{IsSmall, IsPayment};
 ghost use Rattle.irs_audit.specs.DepartureOrder.{field_before};
 ghost use Rattle.irs_audit.specs.FieldDepartures.{ExchangeDeparts, PaymentDeparts, PeriodDeparts, ResetDeparts};
-ghost use Rattle.irs_audit.specs.FieldTables.{first_true};
+ghost use Rattle.irs_audit.specs.Private.FieldTables.{first_true};
 ghost use Rattle.irs_audit.specs.StatedValues.{IsNumber, IsAmount, StatedWrongly, NotStatedRightly, WhereKnown};
 ghost use Rattle.irs_base.specs.Order.{IsFirst};
 

@@ -2,7 +2,7 @@
 ghost use Rattle.std.specs.Prelude.{◌≡◌, option_copied, slice_get};
 ghost use Rattle.irs_audit.specs.Agreement.{KindDeparts, stated_reset};
 ghost use Rattle.irs_audit.specs.DepartureOrder.{departs_before, field_before};
-ghost use Rattle.irs_audit.specs.RowSets.{AmongRows, AmongStream};
+ghost use Rattle.irs_audit.specs.Private.RowSets.{AmongRows, AmongStream};
 ghost use Rattle.irs_base.specs.Order.{IsFirst};
 
 use crate::row_fields::{exchange_field, payment_field, period_field, reset_field};

@@ -6,7 +6,7 @@ use Rattle.jiff_core.proofs.SignedLemmas.{signed_arith}
 use Rattle.irs_base.specs.Limits.{most_rate}
 use Rattle.irs_base.proofs.RoundingLaws.{nearest_exists, nearest_once}
 use Rattle.irs_terms.specs.Lawful.{IsRate}
-use Rattle.irs_overnight.specs.Bounds.{IsSmall}
+use Rattle.irs_overnight.specs.Private.Bounds.{IsSmall}
 use Rattle.irs_overnight.specs.Observations.{first_absent}
 use Rattle.irs_overnight.specs.declared.derived.Found.{Found}
 use Rattle.irs_overnight.specs.declared.derived.Found.TheVariants.{Rate, Missing}

@@ -12,7 +12,7 @@ use Rattle.irs_base.proofs.MemberLemmas.{numbered_push, numbered_there, one_numb
 use Rattle.irs_calendar.specs.GoodDays.{DaySet}
 use Rattle.irs_adjust.specs.ConventionLaws.{one_prev}
 use Rattle.irs_adjust.proofs.FoundDays.{decides_prev}
-use Rattle.irs_overnight.specs.Bounds.{IsSmall}
+use Rattle.irs_overnight.specs.Private.Bounds.{IsSmall}
 use Rattle.irs_overnight.specs.Sources.{RateLines, rate_by}
 use Rattle.irs_overnight.specs.declared.observations.Observation.{Observation}
 use Rattle.irs_average.specs.Means.{ShareOut, sum_over}

@@ -4,7 +4,7 @@ ghost use Rattle.std.specs.Prelude.{◌≡◌, ◌+◌, ◌*◌, ◌^◌, ◌<�
 ghost use Rattle.std.specs.Prelude.{◌+ℤ◌, unsigned_abs};
 ghost use Rattle.irs_base.specs.Days.{all_days};
 ghost use Rattle.irs_terms.specs.Lawful.{IsRate};
-ghost use Rattle.irs_overnight.specs.Bounds.{IsSmall};
+ghost use Rattle.irs_overnight.specs.Private.Bounds.{IsSmall};
 ghost use Rattle.irs_overnight.specs.FileLaw.{IsSmallFound};
 ghost use Rattle.irs_overnight.specs.Observations.{first_absent};
 ghost use Rattle.irs_base.specs.Rounding.{Rounded};

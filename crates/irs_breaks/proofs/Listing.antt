@@ -9,11 +9,11 @@ use Rattle.std.proofs.lemmas.List.Sorted.{Contains-permutation, IsPermutation-sy
 use Rattle.std.proofs.lemmas.Option.{none-some, slice_get_within}
 use Rattle.irs_breaks.specs.Blocks.{At, IsPartner}
 use Rattle.irs_breaks.specs.Dated.{rows_from}
-use Rattle.irs_breaks.specs.Merging.{IsDatedRow, IsMergedTo}
+use Rattle.irs_breaks.specs.Private.Merging.{IsDatedRow, IsMergedTo}
 use Rattle.irs_breaks.specs.PairedRows.{Ahead, ComesBefore, IsListed, IsPairing, row_of_ours}
 use Rattle.irs_breaks.specs.PairedRows.{extra, missing, paired, undated, undated_extra, undated_ours, undated_theirs}
 use Rattle.irs_breaks.specs.Pairing.{ArePaired}
-use Rattle.irs_breaks.specs.Undated.{AreListedTo, ListsUndated, ListsUndatedExtras}
+use Rattle.irs_breaks.specs.Private.Undated.{AreListedTo, ListsUndated, ListsUndatedExtras}
 use Rattle.irs_breaks.specs.declared.dated.DatedRow.{DatedRow}
 use Rattle.irs_breaks.specs.declared.dated.PairedRow.{PairedRow}
 use Rattle.irs_breaks.proofs.Arrangements.{arranged_paired, paired_back}

@@ -13,7 +13,7 @@ use Rattle.std.proofs.lemmas.List.Elements.{Contains-append_left, Contains-push,
 use Rattle.std.proofs.lemmas.Option.{get_or_from_slice_get, none-some, same_Some, slice_get-get_or, slice_get_within}
 use Rattle.jiff_core.proofs.SignedLemmas.{signed_arith}
 use Rattle.irs_breaks.specs.Blocks.{AreRising, At, IsEarlier, IsPartner}
-use Rattle.irs_breaks.specs.Merging.{IsAlone, IsBeforeAll, IsDatedRow, IsMergedBefore, IsMergedTo, IsNotBefore}
+use Rattle.irs_breaks.specs.Private.Merging.{IsAlone, IsBeforeAll, IsDatedRow, IsMergedBefore, IsMergedTo, IsNotBefore}
 use Rattle.irs_breaks.specs.PairedRows.{AreInOrder, ComesBefore, row_of_ours, row_of_theirs}
 use Rattle.irs_breaks.specs.Pairing.{ArePaired}
 use Rattle.irs_breaks.specs.declared.dated.DatedRow.{DatedRow}

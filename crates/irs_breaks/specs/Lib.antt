@@ -2,8 +2,6 @@ pub mod Dated
 pub mod Pairing
 pub mod Blocks
 pub mod PairedRows
-pub mod Merging
-pub mod Undated
 pub mod Laws
 pub mod Values
 pub mod Fields
@@ -13,3 +11,4 @@ pub mod RowFindings
 pub mod BreakLists
 pub mod OneNumber
 pub mod BreakTexts
+pub mod Private

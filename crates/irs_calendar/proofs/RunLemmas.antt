@@ -12,7 +12,7 @@ use Rattle.irs_calendar.specs.declared.runs.Run.{Run}
 use Rattle.irs_calendar.specs.declared.search.End.TheVariants.{First, Last}
 use Rattle.irs_calendar.specs.GoodDays.{DaySet, InCover, IsGood, Next, Prev}
 use Rattle.irs_calendar.specs.Runs.{CoveredRuns, AreRuns, holds_day, set_of_runs}
-use Rattle.irs_calendar.specs.Splits.{comes_before, IsDownward, Splits}
+use Rattle.irs_calendar.specs.Private.Splits.{comes_before, IsDownward, Splits}
 
 -- what passes a test somewhere in a list has a place in it
 pub any_place : {A : Type 0} (p : A → Bool) (xs : List A) → list_any p xs ≡ true

@@ -7,8 +7,8 @@ use Rattle.jiff_core.proofs.SignedLemmas.{signed_arith}
 use Rattle.irs_terms.specs.declared.step_list.Step.{Step}
 use Rattle.irs_terms.specs.StepDates.{StepsRise}
 use Rattle.irs_compound.specs.InForce.{LastOf, last_from}
-use Rattle.irs_compound.specs.InForceLaws.{last_from_is}
-use Rattle.irs_compound.specs.StepCounts.{IsCountTo}
+use Rattle.irs_compound.specs.Private.InForceLaws.{last_from_is}
+use Rattle.irs_compound.specs.Private.StepCounts.{IsCountTo}
 use Rattle.irs_compound.proofs.CountedSteps.{rises_to}
 
 -- a test of all steps by place

@@ -14,7 +14,7 @@ use Rattle.irs_terms.specs.declared.amounts.Leg.TheVariants.{Fixed, Floating}
 use Rattle.irs_terms.specs.declared.step_list.StepValues.{StepValues}
 use Rattle.irs_terms.specs.Lawful.{IsLawfulValues, IsLawfulFloat, IsLawfulLeg, IsRate}
 use Rattle.irs_compound.specs.InForce.{value_in_force}
-use Rattle.irs_compound.specs.InForceLaws.{in_force_is, in_force_within}
+use Rattle.irs_compound.specs.Private.InForceLaws.{in_force_is, in_force_within}
 use Rattle.irs_compound.specs.PeriodRates.{rate_at, exact_base, treated, rates_of, fixed_rates_of, rates_by}
 use Rattle.irs_compound.specs.PeriodRates.{most_exact_rate, most_rounded_rate}
 use Rattle.irs_compound.specs.Tens.{ten_above, ten_positive}

@@ -1,13 +1,9 @@
 pub mod InForce
-pub mod InForceLaws
-pub mod StepCounts
 pub mod PeriodRates
 pub mod OvernightRates
-pub mod RateLaws
-pub mod OvernightLaws
 pub mod Amounts
-pub mod Balances
 pub mod Tens
 pub mod PartsLaws
 pub mod AmountLaws
 pub mod Outcomes
+pub mod Private

@@ -12,7 +12,7 @@ ghost use Rattle.irs_daycount.specs.Actual.{act_act_denominator};
 ghost use Rattle.irs_compound.specs.declared.periods.Parts.{Parts};
 ghost use Rattle.irs_compound.specs.Amounts.{IsTerm, StandsAt, PartsWithin, RatesWithin, amount};
 ghost use Rattle.irs_compound.specs.Amounts.{kept_of, most_amount, most_balance, most_exact, most_product};
-ghost use Rattle.irs_compound.specs.Balances.{BalanceFits, Takes, Stops, after};
+ghost use Rattle.irs_compound.specs.Private.Balances.{BalanceFits, Takes, Stops, after};
 
 use crate::interest::{earned, interest};
 use crate::periods::{Parts, PeriodTerm, Rates};

@@ -3,7 +3,7 @@
 ghost use Rattle.std.specs.Prelude.{◌≡◌, ◌<◌, ◌≤◌, pos, ◌+ℤ◌, ◌≤ℤ◌, length, IsTrue, ◌↔◌};
 ghost use Rattle.irs_base.specs.Days.{all_days};
 ghost use Rattle.irs_terms.specs.StepDates.{StepsRise};
-ghost use Rattle.irs_compound.specs.StepCounts.{IsCountTo};
+ghost use Rattle.irs_compound.specs.Private.StepCounts.{IsCountTo};
 
 use irs_base::Day;
 use irs_terms::Step;

@@ -14,7 +14,7 @@ use Rattle.irs_observed.specs.declared.observation.Observation.{Observation}
 use Rattle.irs_observed.proofs.FactorLemmas.{Compounds, compounds_more, compounds_none, grows_all, none_passes, passes_at}
 use Rattle.irs_observed.proofs.ThroughLemmas.{absent_at, every_all, every_more, through_all, through_more, total_first}
 use Rattle.irs_observed.proofs.ThroughLemmas.{total_more}
-use Rattle.irs_daily.specs.FactorSteps.{IsGrowthOf, IsNext, IsStepped, StepsBy, first_factor, most_factor}
+use Rattle.irs_daily.specs.Private.FactorSteps.{IsGrowthOf, IsNext, IsStepped, StepsBy, first_factor, most_factor}
 use Rattle.irs_daily.specs.declared.growth.Growth.{Growth}
 use Rattle.irs_daily.specs.declared.growth.Growth.TheVariants.{Known, Passed, Absent}
 

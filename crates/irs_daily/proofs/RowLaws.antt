@@ -10,7 +10,7 @@ use Rattle.irs_observed.specs.DailyRates.{DailyRates, daily_rates}
 use Rattle.irs_observed.specs.ObservedRates.{Fraction, IsObservedRate, PassesLimit}
 use Rattle.irs_observed.specs.OvernightRates.{AreOvernightRates, IsOvernightRate, IsRateBy, IsRateOf}
 use Rattle.irs_observed.specs.OvernightRates.{OvernightSource, period_of, periods_of}
-use Rattle.irs_observed.specs.OvernightWalk.{NoneLacks}
+use Rattle.irs_observed.specs.Private.OvernightWalk.{NoneLacks}
 use Rattle.irs_observed.specs.RateOrigins.{HasOwnRate}
 use Rattle.irs_observed.specs.declared.method.DailyRateMethod.{DailyRateMethod}
 use Rattle.irs_observed.specs.declared.method.DailyRateMethod.TheVariants.{Compounding, Averaging}

@@ -1,6 +1,6 @@
 pub mod PeriodFactors
 pub mod ObservedRows
-pub mod FactorSteps
 pub mod RowTexts
 pub mod Outcomes
 pub mod Laws
+pub mod Private

@@ -11,7 +11,7 @@ ghost use Rattle.irs_observed.specs.Factors.{year_of};
 ghost use Rattle.irs_observed.specs.ObservedRates.{days_of_year};
 ghost use Rattle.irs_observed.specs.declared.method.DailyRateMethod.TheVariants.{Averaging as Averages};
 ghost use Rattle.irs_observed.specs.declared.method.DailyRateMethod.TheVariants.{Compounding as Compounds};
-ghost use Rattle.irs_daily.specs.FactorSteps.{IsNext, IsSmall, IsStepped, StepsBy, first_factor, most_factor};
+ghost use Rattle.irs_daily.specs.Private.FactorSteps.{IsNext, IsSmall, IsStepped, StepsBy, first_factor, most_factor};
 
 use crate::growth::Growth;
 use irs_base::{Direction, round};

@@ -9,7 +9,7 @@ ghost use Rattle.irs_observed.specs.DailyRates.{daily_rates, rates_by};
 ghost use Rattle.irs_observed.specs.ObservationPeriods.{observed_period};
 ghost use Rattle.irs_observed.specs.Observations.{HasWeights};
 ghost use Rattle.irs_observed.specs.OvernightRates.{overnight_source};
-ghost use Rattle.irs_daily.specs.FactorSteps.{IsGrowthOf};
+ghost use Rattle.irs_daily.specs.Private.FactorSteps.{IsGrowthOf};
 ghost use Rattle.irs_daily.specs.ObservedRows.{day_rows};
 ghost use Rattle.irs_daily.specs.Outcomes.{daily_rows_of, period_rows_of, rows_by_of};
 ghost use Rattle.irs_daily.specs.declared.rows.ObservedRow.TheVariants.{Stub as OfStub};

@@ -11,7 +11,7 @@ use Rattle.irs_base.proofs.DateWalks.{IsPlaced, year_place, placed_once}
 use Rattle.irs_daycount.specs.Actual.{ActAct, act_act_denominator, act_act_parts, in_leap_year, in_common_year}
 use Rattle.irs_daycount.specs.Actual.{days_counted}
 use Rattle.irs_terms.specs.declared.results.Frac.{Frac}
-use Rattle.irs_daycount.specs.Places.{weight_of, place_at, place_of}
+use Rattle.irs_daycount.specs.Private.Places.{weight_of, place_at, place_of}
 
 by_leap : (b : Bool) → (if b then 366 else 365) * (if b then 365 else 366) ≡ act_act_denominator
 by_leap true = refl

@@ -2,4 +2,4 @@ pub mod Actual
 pub mod Thirty
 pub mod Fractions
 pub mod FractionLaws
-pub mod Places
+pub mod Private

@@ -9,7 +9,7 @@ ghost use Rattle.std.specs.Int.{IsInRange};
 ghost use Rattle.jiff_core.specs.Calendar.{IsCivilDate, day_of_year, days_of_months};
 ghost use Rattle.irs_base.specs.Days.{IsDay, last_year};
 ghost use Rattle.irs_daycount.specs.Actual.{ActAct};
-ghost use Rattle.irs_daycount.specs.Places.{most_place, place_at, place_of};
+ghost use Rattle.irs_daycount.specs.Private.Places.{most_place, place_at, place_of};
 
 use irs_base::{Civil, Day, civil_of};
 use irs_terms::Frac;

@@ -3,7 +3,7 @@ use Rattle.irs_base.proofs.MemberLemmas.{every_get}
 use Rattle.irs_base.specs.Members.{Every}
 use Rattle.irs_base.specs.declared.line.Dec.{Dec}
 use Rattle.irs_daycount.specs.Fractions.{denominator_of}
-use Rattle.irs_emit.specs.Paid.{IsPaid}
+use Rattle.irs_emit.specs.Private.Paid.{IsPaid}
 use Rattle.irs_schedule.proofs.PlaceLemmas.{decimals_few}
 use Rattle.irs_schedule.specs.Parts.{Part, Covers, KeepsBounds, IsAmount, HasAmount, IsEntry}
 use Rattle.irs_schedule.specs.PeriodViews.{period_at, dated_period}

@@ -1,6 +1,6 @@
 pub mod Leaves
 pub mod Emitted
-pub mod Paid
 pub mod LeafLaws
 pub mod RowLaws
 pub mod PartLaws
+pub mod Private

@@ -2,7 +2,7 @@
 ghost use Rattle.std.specs.Prelude.{◌≡◌, ◌+◌, ◌-◌, ◌<◌, ◌^◌, ◌++◌, IfOk, OnOk, option_map, map};
 ghost use Rattle.serde_json.specs.View.{view};
 ghost use Rattle.irs_json.specs.Reading.{Reads};
-ghost use Rattle.irs_emit.specs.Paid.{IsPaid};
+ghost use Rattle.irs_emit.specs.Private.Paid.{IsPaid};
 ghost use Rattle.irs_emit.specs.PartLaws.{StatesFlows};
 ghost use Rattle.irs_emit.specs.Emitted.{array_of, cashflows_value, emit_text, emit_value};
 ghost use Rattle.irs_emit.specs.Emitted.{known_exchanges, object_with, one_period, payment_value, period_values};

@@ -1,7 +1,7 @@
 //! The document: the streams of a schedule with their cash flows, in FpML's elements.
 ghost use Rattle.std.specs.Prelude.{◌≡◌, ◌++◌, ◌-◌, ◌≤◌, IfOk, OnOk, map};
 ghost use Rattle.irs_emit.specs.Emitted.{emit_value};
-ghost use Rattle.irs_emit.specs.Paid.{IsPaid};
+ghost use Rattle.irs_emit.specs.Private.Paid.{IsPaid};
 ghost use Rattle.irs_emit_xml.specs.Flows.{cashflows_node, exchange_node, flows_text, lines, one_period, payment_node};
 ghost use Rattle.irs_emit_xml.specs.Flows.{period_nodes, stream_node};
 ghost use Rattle.irs_emit_xml.specs.Ones.{ones};

@@ -11,7 +11,7 @@ use Rattle.irs_locate.specs.Lines.{with_child, IsRootTag, root_piece}
 use Rattle.irs_locate.specs.Lines.{further, opens, ends_at_once, ended_at_once, too_few, cut_off}
 use Rattle.irs_locate.specs.Markup as markup
 use Rattle.irs_locate.specs.Markup.{piece_of}
-use Rattle.irs_locate.specs.Seen.{mark_seen, piece_seen}
+use Rattle.irs_locate.specs.Private.Seen.{mark_seen, piece_seen}
 use Rattle.irs_base.specs.Elements.{document}
 use Rattle.irs_locate.specs.Ways.{Step, below_swap, once, to_swap, way}
 use Rattle.irs_locate.specs.declared.lines.Tag.{Tag}

@@ -2,4 +2,4 @@ pub mod Ways
 pub mod Markup
 pub mod Lines
 pub mod Members
-pub mod Seen
+pub mod Private

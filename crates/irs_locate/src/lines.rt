@@ -4,7 +4,7 @@
 //! and every other element is passed over whole.
 ghost use Rattle.irs_locate.specs.Lines.{HasNone, IsLast, IsLineOf, IsRootTag, Open, PassesOver};
 ghost use Rattle.irs_locate.specs.Lines.{line_after as line_after_of};
-ghost use Rattle.irs_locate.specs.Seen.{step_seen};
+ghost use Rattle.irs_locate.specs.Private.Seen.{step_seen};
 ghost use Rattle.irs_locate.specs.Ways.{way};
 ghost use Rattle.std.specs.Prelude.{◌≡◌, ◌<◌, ◌≤◌, IfNone, IfSome, Some, false, length, slice_get};
 

@@ -5,7 +5,7 @@ ghost use Rattle.irs_locate.specs.Markup.{local_name as local_name_of, mark_of, 
 ghost use Rattle.irs_locate.specs.Markup.{past_all as past_all_of};
 ghost use Rattle.irs_locate.specs.Markup.{piece_by as piece_by_of, piece_of, quote_after as quote_after_of};
 ghost use Rattle.irs_locate.specs.Markup.{tag_end as tag_end_of, tag_of};
-ghost use Rattle.irs_locate.specs.Seen.{mark_seen, piece_seen};
+ghost use Rattle.irs_locate.specs.Private.Seen.{mark_seen, piece_seen};
 ghost use Rattle.std.specs.Prelude.{◌≡◌, ◌+◌, ◌<◌, ◌≤◌, IfSome, drop, length, option_map};
 ghost use Rattle.std.specs.Str.{bytes_eq};
 

@@ -6,7 +6,7 @@ ghost use Rattle.irs_elements.specs.Elements.{is_unknown, name_at, texts};
 ghost use Rattle.irs_elements.specs.Find.{values_in};
 ghost use Rattle.irs_locate.specs.Members.{IsMemberOf, IsRowOf, LiesAt, first_odd as first_odd_of, is_out as is_out_of};
 ghost use Rattle.irs_locate.specs.Members.{is_row_of as is_row_of_elem, table_of as table_of_elem};
-ghost use Rattle.irs_locate.specs.Seen.{known_seen};
+ghost use Rattle.irs_locate.specs.Private.Seen.{known_seen};
 ghost use Rattle.irs_locate.specs.Ways.{way};
 ghost use Rattle.serde_json.specs.View.{view};
 ghost use Rattle.std.specs.List.{find};

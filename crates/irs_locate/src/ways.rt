@@ -5,7 +5,7 @@ ghost use Rattle.irs_locate.specs.Ways.{IsRestOf, first_in, names_in, once as on
 ghost use Rattle.irs_locate.specs.Ways.{stream_step as stream_step_of};
 ghost use Rattle.irs_locate.specs.Ways.{to_swap as to_swap_of, way};
 ghost use Rattle.irs_base.specs.Paths.{path_of};
-ghost use Rattle.irs_locate.specs.Seen.{step_seen};
+ghost use Rattle.irs_locate.specs.Private.Seen.{step_seen};
 ghost use Rattle.std.specs.Prelude.{◌≡◌, ◌<◌, IfSome, length, map, option_map, slice_get};
 
 use irs_base::{Elem, Place};

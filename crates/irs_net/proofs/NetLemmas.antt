@@ -16,7 +16,7 @@ use Rattle.irs_schedule.specs.PeriodTerms.{dec_of}
 use Rattle.irs_schedule.proofs.PlaceLemmas.{decimals_few}
 use Rattle.irs_net.specs.Nets.{HasPlaces, IsNet, IsSumOf, key_order, same_key, part_key, row_key, known_sum}
 use Rattle.irs_net.specs.Nets.{unknown_count}
-use Rattle.irs_net.specs.NetTotals.{row_of, total_at}
+use Rattle.irs_net.specs.Private.NetTotals.{row_of, total_at}
 use Rattle.irs_net.specs.declared.parts.NetPart.{NetPart}
 use Rattle.irs_net.specs.declared.table.NetRow.{NetRow}
 use Rattle.irs_net.specs.declared.totals.NetKey.{NetKey}

@@ -13,7 +13,7 @@ use Rattle.irs_schedule.proofs.PlaceLemmas.{decimals_few, every_both, every_map}
 use Rattle.irs_schedule.specs.Parts.{Covers, HasAmount, IsAmount, IsWithin, KeepsBounds, Part}
 use Rattle.irs_schedule.specs.declared.entries.PaymentEntry.{PaymentEntry}
 use Rattle.irs_net.specs.NetParts.{exchange_part, parts_of, payment_part, signed, stream_parts}
-use Rattle.irs_net.specs.NetTotals.{IsSmall, most_parts, most_units}
+use Rattle.irs_net.specs.Private.NetTotals.{IsSmall, most_parts, most_units}
 use Rattle.irs_net.specs.declared.parts.NetPart.{NetPart}
 
 -- what holds for each element of a list holds for the one at a place

@@ -27,10 +27,10 @@ use Rattle.irs_json.specs.Names.{names_of}
 use Rattle.irs_read.specs.Documents.{DocumentFault, Way, the_swap, below}
 use Rattle.irs_read.specs.Meaning.{streams_in}
 use Rattle.irs_read.specs.Swaps.{no_stream, many_streams}
-use Rattle.irs_net.specs.FoundParties.{href_in, pair_of, parties_in, party_in, side_by, side_in}
+use Rattle.irs_net.specs.Private.FoundParties.{href_in, pair_of, parties_in, party_in, side_by, side_in}
 use Rattle.irs_net.specs.Parties.{AreSides, BreaksK8, BreaksK8Of, IsBackward, IsForward, IsPaid, IsSide, RefersTo}
 use Rattle.irs_net.specs.Parties.{SidesOf, broken_at}
-use Rattle.irs_net.specs.SidesTo.{SidesTo}
+use Rattle.irs_net.specs.Private.SidesTo.{SidesTo}
 use Rattle.irs_net.specs.declared.sides.Sides.{Sides}
 
 -- ---- references

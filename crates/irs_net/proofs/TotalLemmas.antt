@@ -8,7 +8,7 @@ use Rattle.std.proofs.lemmas.Bool.{or_parts}
 use Rattle.jiff_core.proofs.SignedLemmas.{signed_arith}
 use Rattle.irs_base.specs.Members.{Every}
 use Rattle.irs_net.specs.Nets.{same_key, part_key, known_sum, known_units, unknown_count}
-use Rattle.irs_net.specs.NetTotals.{IsSmall, most_parts, most_total, most_units, no_total, total_at, total_with}
+use Rattle.irs_net.specs.Private.NetTotals.{IsSmall, most_parts, most_total, most_units, no_total, total_at, total_with}
 use Rattle.irs_net.specs.declared.parts.NetPart.{NetPart}
 use Rattle.irs_net.specs.declared.totals.NetKey.{NetKey}
 use Rattle.irs_net.specs.declared.totals.NetTotal.{NetTotal}

@@ -1,7 +1,5 @@
 pub mod NetParts
 pub mod Nets
-pub mod NetTotals
 pub mod NetTexts
 pub mod Parties
-pub mod FoundParties
-pub mod SidesTo
+pub mod Private

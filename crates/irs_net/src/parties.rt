@@ -2,7 +2,7 @@
 //! is an object whose `@href` is a text, and an array of one object counts as that object.
 ghost use Rattle.std.specs.Prelude.{◌≡◌, option_map};
 ghost use Rattle.serde_json.specs.View.{view};
-ghost use Rattle.irs_net.specs.FoundParties.{href_of, parties_in, parties_seen, party_in, side_in};
+ghost use Rattle.irs_net.specs.Private.FoundParties.{href_of, parties_in, parties_seen, party_in, side_in};
 
 use irs_elements::values_at;
 use irs_json::{Value, child};
@@ -69,7 +69,7 @@ pub(crate) fn side(first: &Value, stream: &Value) -> Option<bool>
 }
 
 ghost use Rattle.std.specs.Prelude.{Some};
-ghost use Rattle.irs_net.specs.FoundParties.{side_by};
+ghost use Rattle.irs_net.specs.Private.FoundParties.{side_by};
 
 fn side_of(first: Parties<'_>, own: Parties<'_>) -> Option<bool>
     ensures { result ≡ side_by (Some (first.entry.payer.now, first.entry.receiver.now))

@@ -4,7 +4,7 @@ ghost use Rattle.std.specs.Prelude.{◌≡◌, ◌++◌, ◌≤◌, map, length,
 ghost use Rattle.irs_base.specs.Members.{Every};
 ghost use Rattle.irs_schedule.specs.Parts.{HasAmount, IsAmount};
 ghost use Rattle.irs_net.specs.NetParts.{exchange_part, payment_part, parts_of, signed, stream_parts};
-ghost use Rattle.irs_net.specs.NetTotals.{IsSmall, most_parts, most_units};
+ghost use Rattle.irs_net.specs.Private.NetTotals.{IsSmall, most_parts, most_units};
 
 use crate::Sides;
 use irs_base::{Day, Dec, Memory};

@@ -6,7 +6,7 @@ ghost use Rattle.irs_base.specs.Members.{Every};
 ghost use Rattle.irs_terms.specs.declared.currency.Currency.{Currency};
 ghost use Rattle.irs_net.specs.NetParts.{parts_of};
 ghost use Rattle.irs_net.specs.Nets.{HasPlaces, Net, parts_total, rows_total};
-ghost use Rattle.irs_net.specs.NetTotals.{row_of};
+ghost use Rattle.irs_net.specs.Private.NetTotals.{row_of};
 ghost use Rattle.irs_net.specs.declared.table.NetRow.{NetRow};
 
 use crate::Sides;

@@ -7,7 +7,7 @@ use Rattle.irs_base.specs.declared.places.Fault.{Fault}
 use Rattle.irs_base.proofs.Firsts.{lt_false}
 use Rattle.irs_observed.specs.ObservationRules.{reported_before}
 use Rattle.irs_observed.specs.OvernightRates.{BreaksObservations, LacksAt, OvernightSource, observation_fault}
-use Rattle.irs_observed.specs.OvernightWalk.{HasFewAfter, NoneLacks, NoneLacksBefore, StopsAt, fault_by}
+use Rattle.irs_observed.specs.Private.OvernightWalk.{HasFewAfter, NoneLacks, NoneLacksBefore, StopsAt, fault_by}
 use Rattle.irs_observed.specs.declared.observation.NoObservations.{NoObservations}
 use Rattle.irs_observed.specs.declared.observation.NoObservations.TheVariants.{FewMembers, NoDay}
 use Rattle.irs_observed.specs.declared.overnight_rates.Unobserved.{Unobserved}

@@ -17,7 +17,7 @@ use Rattle.irs_adjust.proofs.MovedDays.{decides_moves}
 use Rattle.irs_adjust.proofs.OffsetLaws.{one_moved}
 use Rattle.irs_observed.specs.ObservationPeriods.{IsObservationPeriod, ObservedPeriod, Shifts, back}
 use Rattle.irs_observed.specs.ObservationRules.{Lacks, reported_before}
-use Rattle.irs_observed.specs.ObservationWalk.{IsUnseen, IsWalk}
+use Rattle.irs_observed.specs.Private.ObservationWalk.{IsUnseen, IsWalk}
 use Rattle.irs_observed.specs.Observations.{AddsUp, AreObservations, AreObserved, HasWeights, IsObservation, ObservesOn}
 use Rattle.irs_observed.specs.Observations.{lockout_days, place_observed}
 use Rattle.irs_observed.specs.Outcomes.{observations_of}

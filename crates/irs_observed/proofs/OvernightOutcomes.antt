@@ -36,7 +36,7 @@ use Rattle.irs_observed.specs.OvernightResets.{AreOvernightResets, ArePrinted, B
 use Rattle.irs_observed.specs.OvernightResets.{HasOvernightResets, HasOvernightResetsBy, IsOvernightReset, IsPrintedRow}
 use Rattle.irs_observed.specs.OvernightResets.{with_dates}
 use Rattle.irs_resets.specs.Outcomes.{resets_of}
-use Rattle.irs_observed.specs.OvernightWalk.{NoneLacks}
+use Rattle.irs_observed.specs.Private.OvernightWalk.{NoneLacks}
 use Rattle.irs_observed.specs.declared.daily_resets.OvernightResets.{OvernightResets}
 use Rattle.irs_observed.specs.declared.observation.NoObservations.TheVariants.{FewMembers, NoDay}
 use Rattle.irs_observed.specs.ObservedRates.{Fraction}

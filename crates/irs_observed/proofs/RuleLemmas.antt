@@ -16,7 +16,7 @@ use Rattle.irs_observed.specs.declared.observation.NoObservations.TheVariants.{F
 use Rattle.irs_observed.proofs.MemberLemmas.{one_members}
 use Rattle.irs_observed.proofs.PeriodLemmas.{one_end, one_start}
 use Rattle.irs_base.proofs.MemberLemmas.{numbered_has}
-use Rattle.irs_observed.specs.ObservationWalk.{IsWalk, good_at}
+use Rattle.irs_observed.specs.Private.ObservationWalk.{IsWalk, good_at}
 use Rattle.irs_observed.specs.declared.observation.Observation.{Observation}
 use Rattle.irs_terms.specs.declared.parameters.ObservationOffset.{ObservationOffset}
 use Rattle.irs_terms.specs.declared.parameters.ObservationOffset.TheVariants.{Absent, Shift, Lookback, Lockout}

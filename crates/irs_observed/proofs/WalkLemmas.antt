@@ -10,7 +10,7 @@ use Rattle.irs_adjust.specs.ConventionLaws.{one_prev, prev_stays}
 use Rattle.irs_adjust.specs.declared.ways.Way.TheVariants.{Back}
 use Rattle.irs_adjust.proofs.WayLemmas.{Reached, moved, reached_more, reached_none}
 use Rattle.irs_observed.specs.ObservationPeriods.{MovesBack}
-use Rattle.irs_observed.specs.ObservationWalk.{IsWalk, LooksBack, good_at}
+use Rattle.irs_observed.specs.Private.ObservationWalk.{IsWalk, LooksBack, good_at}
 use Rattle.irs_observed.specs.PeriodMembers.{AreMembers, IsMember, LeavesCover}
 use Rattle.irs_observed.proofs.ListLemmas.{at_member, at_or_end, first_lowest, member_place, none_between}
 use Rattle.irs_observed.proofs.ListLemmas.{rises_to}

@@ -5,7 +5,7 @@ use Rattle.irs_base.specs.Days.{IsDay}
 use Rattle.irs_base.specs.Members.{EachNumbered, Every, day_at}
 use Rattle.irs_calendar.specs.GoodDays.{DaySet}
 use Rattle.irs_observed.specs.ObservationPeriods.{IsObservationPeriod, ObservedPeriod}
-use Rattle.irs_observed.specs.ObservationWalk.{IsWalk}
+use Rattle.irs_observed.specs.Private.ObservationWalk.{IsWalk}
 use Rattle.irs_observed.specs.Observations.{AddsUp, AreObserved, HasWeights, IsObservation, total_weight}
 use Rattle.irs_observed.specs.PeriodMembers.{member_or_end}
 use Rattle.irs_observed.specs.declared.observation.Observation.{Observation}

@@ -1,7 +1,6 @@
 pub mod ObservationPeriods
 pub mod PeriodMembers
 pub mod Observations
-pub mod ObservationWalk
 pub mod ObservationRules
 pub mod DailyRates
 pub mod Factors
@@ -10,6 +9,6 @@ pub mod RateLaws
 pub mod RateOrigins
 pub mod OvernightRates
 pub mod OvernightResets
-pub mod OvernightWalk
 pub mod RunningRates
 pub mod Outcomes
+pub mod Private

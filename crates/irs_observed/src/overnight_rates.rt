@@ -13,7 +13,7 @@ ghost use Rattle.irs_observed.specs.ObservationPeriods.{observed_period};
 ghost use Rattle.irs_observed.specs.Outcomes.{overnight_rates_of, rate_at_of, rate_over_of};
 ghost use Rattle.irs_observed.specs.OvernightRates.{AreOvernightRates, BreaksObservations, HasBounds, LacksAt};
 ghost use Rattle.irs_observed.specs.OvernightRates.{method_by, observation_fault, overnight_source, year_by};
-ghost use Rattle.irs_observed.specs.OvernightWalk.{HasFewAfter, NoneLacks, StopsAt, fault_by};
+ghost use Rattle.irs_observed.specs.Private.OvernightWalk.{HasFewAfter, NoneLacks, StopsAt, fault_by};
 ghost use Rattle.irs_observed.specs.declared.observation.NoObservations.TheVariants.{FewMembers as TooFew};
 
 use crate::method::{DailyRateMethod, YearDays};

@@ -7,7 +7,7 @@ ghost use Rattle.irs_base.specs.Outcomes.{Determined, Meets};
 ghost use Rattle.irs_observed.specs.ObservationPeriods.{observed_period};
 ghost use Rattle.irs_observed.specs.Observations.{AddsUp, AreObserved, IsObservation, ObservesOn, lockout_days};
 ghost use Rattle.irs_observed.specs.Observations.{place_observed};
-ghost use Rattle.irs_observed.specs.ObservationWalk.{IsUnseen, IsWalk, LooksBack, good_at};
+ghost use Rattle.irs_observed.specs.Private.ObservationWalk.{IsUnseen, IsWalk, LooksBack, good_at};
 ghost use Rattle.irs_observed.specs.Outcomes.{observations_of};
 ghost use Rattle.irs_observed.specs.PeriodMembers.{member_or_end};
 ghost use Rattle.irs_observed.specs.declared.observation.NoObservations.TheVariants.{NoDay as OfNoDay};

@@ -14,7 +14,7 @@ use Rattle.irs_overnight.specs.DailyPeriods.{period_at}
 use Rattle.irs_overnight.specs.DerivedRules.{BreaksBasis, BreaksDerived, BreaksPeriod, NotAfter, derived_before}
 use Rattle.irs_overnight.specs.DerivedRules.{derived_turn, no_basis, not_after_at, period_fault}
 use Rattle.irs_overnight.specs.FoundRates.{DailyPeriod, PeriodFails}
-use Rattle.irs_overnight.specs.PeriodTurns.{FirstWay, NoneFails}
+use Rattle.irs_overnight.specs.Private.PeriodTurns.{FirstWay, NoneFails}
 use Rattle.irs_overnight.specs.DailySources.{DailySource}
 use Rattle.irs_overnight.specs.Sources.{basis_of}
 use Rattle.irs_overnight.specs.declared.periods.PeriodFault.{PeriodFault}

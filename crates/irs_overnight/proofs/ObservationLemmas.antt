@@ -7,7 +7,7 @@ use Rattle.irs_base.specs.Members.{EachNumbered}
 use Rattle.irs_base.proofs.MemberLemmas.{numbered_push, one_numbered}
 use Rattle.irs_calendar.specs.GoodDays.{DaySet}
 use Rattle.irs_adjust.specs.ConventionLaws.{one_prev}
-use Rattle.irs_overnight.specs.Bounds.{IsSmall}
+use Rattle.irs_overnight.specs.Private.Bounds.{IsSmall}
 use Rattle.irs_overnight.specs.Observations.{AreObservations, AreObserved, IsObservation, absent_or, first_absent}
 use Rattle.irs_overnight.specs.Sources.{RateLines}
 use Rattle.irs_overnight.specs.declared.observations.Observation.{Observation}

@@ -7,7 +7,7 @@ use Rattle.irs_terms.specs.declared.codes.DayCountCode.TheVariants.{OneOne, ActA
 use Rattle.irs_terms.specs.declared.codes.DayCountCode.TheVariants.{ThirtyE360, ThirtyE360Isda}
 use Rattle.irs_overnight.specs.Factors.{Grows, PassesLimit, one_factor}
 use Rattle.irs_overnight.specs.FoundRates.{DailyPeriod, FindsRate, IsFound, PassesRange}
-use Rattle.irs_overnight.specs.PeriodTurns.{NoneFails}
+use Rattle.irs_overnight.specs.Private.PeriodTurns.{NoneFails}
 use Rattle.irs_overnight.specs.Observations.{AreObservations, first_absent}
 use Rattle.irs_overnight.specs.Sources.{basis_of}
 use Rattle.irs_overnight.specs.Starts.{LacksDays}

@@ -2,11 +2,9 @@ pub mod Sources
 pub mod DailySources
 pub mod Starts
 pub mod Observations
-pub mod Bounds
 pub mod Factors
 pub mod FoundRates
 pub mod DailyPeriods
-pub mod PeriodTurns
 pub mod DerivedRules
 pub mod DerivedRows
 pub mod Texts
@@ -14,3 +12,4 @@ pub mod Reading
 pub mod FileLaw
 pub mod TwoPrecisions
 pub mod Overnight
+pub mod Private

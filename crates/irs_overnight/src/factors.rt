@@ -5,7 +5,7 @@ ghost use Rattle.std.specs.Prelude.{◌-ℤ◌, ◌*ℤ◌, unsigned_abs};
 ghost use Rattle.irs_base.specs.Days.{all_days};
 ghost use Rattle.irs_base.specs.Limits.{most_rate};
 ghost use Rattle.irs_terms.specs.Lawful.{IsRate};
-ghost use Rattle.irs_overnight.specs.Bounds.{IsSmall};
+ghost use Rattle.irs_overnight.specs.Private.Bounds.{IsSmall};
 ghost use Rattle.irs_overnight.specs.Factors.{FactorPasses, Grows, GrowsBy, IsCompounded, PassesLimit, most_factor};
 ghost use Rattle.irs_overnight.specs.Factors.{one_factor, year_of};
 ghost use Rattle.irs_overnight.specs.FileLaw.{IsSmallFound};

@@ -2,7 +2,7 @@
 ghost use Rattle.std.specs.Prelude.{◌≡◌, ◌<◌, length, IfOk, IfSome, All, ◌<ℤ◌};
 ghost use Rattle.irs_base.specs.Members.{day_at};
 ghost use Rattle.irs_terms.specs.Lawful.{IsRate};
-ghost use Rattle.irs_overnight.specs.Bounds.{IsSmall};
+ghost use Rattle.irs_overnight.specs.Private.Bounds.{IsSmall};
 ghost use Rattle.irs_overnight.specs.Observations.{AreObservations, AreObserved, IsObservation, first_absent};
 ghost use Rattle.irs_overnight.specs.Observations.{next_start, observed_on};
 ghost use Rattle.irs_overnight.specs.Sources.{daily_lines, rate_by};

@@ -8,8 +8,8 @@ use Rattle.irs_base.proofs.Rising.{member_old, member_new, rising_push, one_risi
 use Rattle.irs_terms.specs.FirstDay.{first_day_of}
 use Rattle.irs_terms.specs.declared.stream.Stream.{Stream}
 use Rattle.irs_payments.specs.Grouping.{pay_anchor, EndsPayment, IsPay, PayList}
-use Rattle.irs_payments.specs.Cuts.{days_at, EachPlace, EndsAt, IsCut, AreCuts, cut_at}
-use Rattle.irs_payments.specs.Places.{ArePlaces}
+use Rattle.irs_payments.specs.Private.Cuts.{days_at, EachPlace, EndsAt, IsCut, AreCuts, cut_at}
+use Rattle.irs_payments.specs.Private.Places.{ArePlaces}
 use Rattle.irs_payments.proofs.PlaceLemmas.{member_at, place_of, rises_at, place_below}
 use Rattle.irs_base.specs.Members.{day_at}
 

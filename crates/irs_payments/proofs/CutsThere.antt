@@ -9,11 +9,11 @@ use Rattle.irs_terms.specs.declared.results.Payment.{Payment}
 use Rattle.irs_terms.specs.declared.stream.Stream.{Stream}
 use Rattle.irs_calendar.specs.GoodDays.{DaySet}
 use Rattle.irs_roll.specs.Rolls.{OnGrid}
-use Rattle.irs_payments.specs.Cuts.{AreCuts, EndsAt, cut_at}
-use Rattle.irs_payments.specs.Dating.{ArePaid, IsCutPayment, date_place}
+use Rattle.irs_payments.specs.Private.Cuts.{AreCuts, EndsAt, cut_at}
+use Rattle.irs_payments.specs.Private.Dating.{ArePaid, IsCutPayment, date_place}
 use Rattle.irs_payments.specs.Grouping.{EndsPayment, IsRegularPay, anchor_by, pay_anchor}
 use Rattle.irs_payments.specs.PaymentDates.{IsPaymentDate}
-use Rattle.irs_payments.specs.Places.{ArePlaces}
+use Rattle.irs_payments.specs.Private.Places.{ArePlaces}
 use Rattle.irs_payments.proofs.CutLemmas.{no_cuts, pass_cut, take_cut}
 use Rattle.irs_payments.proofs.DateLemmas.{dated_more, none_dated}
 use Rattle.irs_payments.proofs.PlaceLemmas.{place_of}

@@ -8,12 +8,12 @@ use Rattle.irs_calendar.specs.GoodDays.{DaySet}
 use Rattle.irs_adjust.proofs.MoveLaws.{date_in_range, date_not_lacking, one_failure}
 use Rattle.irs_adjust.specs.declared.moved.NoDate.{NoDate}
 use Rattle.irs_adjust.specs.declared.moved.NoDate.TheVariants.{NoResult, OutOfRange}
-use Rattle.irs_payments.specs.Cuts.{cut_at}
-use Rattle.irs_payments.specs.Places.{ArePlaces}
+use Rattle.irs_payments.specs.Private.Cuts.{cut_at}
+use Rattle.irs_payments.specs.Private.Places.{ArePlaces}
 use Rattle.irs_payments.specs.PaymentDates.{LacksResult, LeavesRange}
 use Rattle.irs_payments.specs.Payments.{Covers}
-use Rattle.irs_payments.specs.Dating.{date_place, IsCutPayment, NoneLacks, NoneLeaves, ArePaid, Dated}
-use Rattle.irs_payments.specs.Dating.{LeavesAt, LeavesFirst, LacksAt, LacksFirst, Settles, IsOutcome, IsDateFault}
+use Rattle.irs_payments.specs.Private.Dating.{date_place, IsCutPayment, NoneLacks, NoneLeaves, ArePaid, Dated}
+use Rattle.irs_payments.specs.Private.Dating.{LeavesAt, LeavesFirst, LacksAt, LacksFirst, Settles, IsOutcome, IsDateFault}
 use Rattle.irs_base.specs.Elements.{payment_dates}
 use Rattle.irs_base.specs.Faults.{fault_at}
 use Rattle.irs_base.specs.declared.places.Fault.{Fault}

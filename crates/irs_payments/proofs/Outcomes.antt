@@ -13,8 +13,8 @@ use Rattle.irs_terms.specs.declared.results.Payment.{Payment}
 use Rattle.irs_terms.specs.declared.stream.Stream.{Stream}
 use Rattle.irs_calendar.specs.GoodDays.{DaySet}
 use Rattle.irs_adjust.proofs.FoundDays.{InRange}
-use Rattle.irs_payments.specs.Cuts.{AreCuts}
-use Rattle.irs_payments.specs.Dating.{paid_at}
+use Rattle.irs_payments.specs.Private.Cuts.{AreCuts}
+use Rattle.irs_payments.specs.Private.Dating.{paid_at}
 use Rattle.irs_payments.specs.Exchanges.{AreExchanges, BreaksExchanges}
 use Rattle.irs_payments.specs.Grouping.{BreaksGrouping}
 use Rattle.irs_payments.specs.Outcomes.{payments_of, principals_of, steps_of}

@@ -17,13 +17,13 @@ use Rattle.irs_calendar.specs.GoodDays.{DaySet}
 use Rattle.irs_base.specs.Faults.{fault_at}
 use Rattle.irs_base.specs.Order.{First, comes_before}
 use Rattle.irs_payments.specs.Grouping.{BreaksGrouping}
-use Rattle.irs_payments.specs.Cuts.{days_at, EachPlace, EndsAt, IsCut, AreCuts, cut_at}
-use Rattle.irs_payments.specs.Places.{ArePlaces}
+use Rattle.irs_payments.specs.Private.Cuts.{days_at, EachPlace, EndsAt, IsCut, AreCuts, cut_at}
+use Rattle.irs_payments.specs.Private.Places.{ArePlaces}
 use Rattle.irs_payments.specs.PaymentDates.{IsPaymentDate, LacksResult, LeavesRange}
 use Rattle.irs_payments.specs.Payments.{pay_place, CoversPeriods, IsPayment, ArePayments, Covers, PaysFrom, IsLacking}
 use Rattle.irs_payments.specs.Payments.{IsLeaving, BreaksDates}
-use Rattle.irs_payments.specs.Dating.{date_place, IsCutPayment, NoneLacks, NoneLeaves, ArePaid, LacksFirst, OnlyLeaves}
-use Rattle.irs_payments.specs.Dating.{IsDateFault}
+use Rattle.irs_payments.specs.Private.Dating.{date_place, IsCutPayment, NoneLacks, NoneLeaves, ArePaid, LacksFirst, OnlyLeaves}
+use Rattle.irs_payments.specs.Private.Dating.{IsDateFault}
 use Rattle.irs_payments.proofs.DateLemmas.{none_lacks, none_leaves}
 use Rattle.irs_payments.proofs.PlaceLemmas.{rises_at, place_below, place_same}
 use Rattle.irs_payments.proofs.FirstFaults.{told, not_before_index, not_before_rule, not_before_turn}

@@ -7,8 +7,8 @@ use Rattle.irs_terms.specs.Lawful.{IsLawfulStream}
 use Rattle.irs_terms.specs.declared.results.Payment.{Payment}
 use Rattle.irs_terms.specs.declared.stream.Stream.{Stream}
 use Rattle.irs_calendar.specs.GoodDays.{DaySet}
-use Rattle.irs_payments.specs.Cuts.{EachPlace, EndsAt, IsCut, cut_at, days_at}
-use Rattle.irs_payments.specs.Dating.{date_place}
+use Rattle.irs_payments.specs.Private.Cuts.{EachPlace, EndsAt, IsCut, cut_at, days_at}
+use Rattle.irs_payments.specs.Private.Dating.{date_place}
 use Rattle.irs_payments.specs.PaymentDates.{IsPaymentDate}
 use Rattle.irs_payments.specs.Payments.{ArePayments, Covers, IsPayment, pay_place}
 use Rattle.irs_payments.proofs.CutLemmas.{cut_places, length-pay, one_pay, pay_at}

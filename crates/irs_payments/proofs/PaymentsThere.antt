@@ -20,8 +20,8 @@ use Rattle.irs_terms.specs.declared.stream.Stream.{Stream}
 use Rattle.irs_calendar.specs.GoodDays.{DaySet}
 use Rattle.irs_adjust.proofs.FoundDays.{InRange}
 use Rattle.irs_adjust.proofs.MoveLaws.{DateOrFailure, date_in_range, date_not_lacking, date_or_failure, one_failure}
-use Rattle.irs_payments.specs.Cuts.{AreCuts}
-use Rattle.irs_payments.specs.Dating.{NoneLacks, NoneLeaves, LacksFirst, LeavesFirst, date_place}
+use Rattle.irs_payments.specs.Private.Cuts.{AreCuts}
+use Rattle.irs_payments.specs.Private.Dating.{NoneLacks, NoneLeaves, LacksFirst, LeavesFirst, date_place}
 use Rattle.irs_payments.proofs.DateLemmas.{lacks_first, leaves_first}
 use Rattle.irs_payments.specs.Grouping.{BreaksGrouping}
 use Rattle.irs_payments.specs.PaymentDates.{IsPaymentDate, LacksResult, LeavesRange}

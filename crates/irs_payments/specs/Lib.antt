@@ -3,10 +3,7 @@ pub mod Steps
 pub mod Transfers
 pub mod Exchanges
 pub mod Grouping
-pub mod Cuts
-pub mod Places
 pub mod PaymentDates
 pub mod Payments
-pub mod Dating
-pub mod Listing
 pub mod Outcomes
+pub mod Private

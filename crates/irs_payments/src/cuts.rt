@@ -2,7 +2,7 @@
 ghost use Rattle.std.specs.Prelude.{◌<◌, length, IfOk};
 ghost use Rattle.irs_base.specs.Listed.{IsRising};
 ghost use Rattle.irs_terms.specs.Lawful.{IsLawfulStream};
-ghost use Rattle.irs_payments.specs.Cuts.{AreCuts};
+ghost use Rattle.irs_payments.specs.Private.Cuts.{AreCuts};
 
 use crate::grouping::{ends_payment, payment_anchor};
 use irs_base::{Day, Memory};

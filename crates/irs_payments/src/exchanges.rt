@@ -15,7 +15,7 @@ ghost use Rattle.irs_terms.specs.Lawful.{IsLawfulStream, IsLawfulValues, IsNotio
 ghost use Rattle.irs_terms.specs.declared.results.Exchange.{Exchange};
 ghost use Rattle.irs_payments.specs.Exchanges.{initial_of, change, intermediate_of, last_value, final_of};
 ghost use Rattle.irs_payments.specs.Exchanges.{BreaksExchanges, IsExchange, LacksDay};
-ghost use Rattle.irs_payments.specs.Listing.{ListsUpTo, listing_to};
+ghost use Rattle.irs_payments.specs.Private.Listing.{ListsUpTo, listing_to};
 ghost use Rattle.irs_payments.specs.Outcomes.{principals_of};
 ghost use Rattle.irs_payments.specs.Transfers.{listed};
 ghost use Rattle.irs_payments.specs.declared.exchanges.Transfer.{Transfer};

@@ -9,11 +9,11 @@ ghost use Rattle.irs_base.specs.Outcomes.{Determined, IfMemory, Meets};
 ghost use Rattle.irs_terms.specs.FirstDay.{first_day_of};
 ghost use Rattle.irs_terms.specs.Lawful.{IsLawfulStream};
 ghost use Rattle.irs_payments.specs.Grouping.{BreaksGrouping};
-ghost use Rattle.irs_payments.specs.Dating.{IsOutcome, Settles, earliest, paid_at};
+ghost use Rattle.irs_payments.specs.Private.Dating.{IsOutcome, Settles, earliest, paid_at};
 ghost use Rattle.irs_payments.specs.Outcomes.{payments_of};
 ghost use Rattle.irs_payments.specs.Payments.{ArePayments, Covers};
 ghost use Rattle.irs_terms.specs.declared.results.Payment.{Payment};
-ghost use Rattle.irs_payments.specs.Places.{ArePlaces};
+ghost use Rattle.irs_payments.specs.Private.Places.{ArePlaces};
 ghost use Rattle.irs_terms.specs.DayTypes.{IsSaid};
 ghost use Rattle.irs_base.specs.Listed.{RunsFromTo};
 

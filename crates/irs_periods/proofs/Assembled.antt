@@ -5,7 +5,7 @@ use Rattle.jiff_core.proofs.SignedLemmas.{signed_arith}
 use Rattle.irs_base.specs.Listed.{Member, AllAfter, Lists}
 use Rattle.irs_base.proofs.Rising.{member_old, member_new, member_cases, rising_push, one_rising}
 use Rattle.irs_periods.specs.Boundaries.{OnSpan, IsBoundaryBy}
-use Rattle.irs_periods.specs.GridLists.{where_before}
+use Rattle.irs_periods.specs.Private.GridLists.{where_before}
 
 all_after : (e : ℤ) (xs : List ℤ) → ((d : ℤ) → Member d xs → e <ℤ d) → AllAfter e xs
 all_after e [] h = tt

@@ -12,7 +12,7 @@ use Rattle.irs_terms.specs.FirstDay.{first_day_of}
 use Rattle.irs_periods.specs.Spans.{Regular, GivenSpan, given_anchor, is_term}
 use Rattle.irs_periods.specs.SpanRules.{SpanKept}
 use Rattle.irs_periods.specs.Boundaries.{Boundaries, OnSpan}
-use Rattle.irs_periods.specs.GridLists.{all_boundaries, days_from}
+use Rattle.irs_periods.specs.Private.GridLists.{all_boundaries, days_from}
 use Rattle.irs_periods.proofs.TermOrder.{begins_before_end}
 use Rattle.irs_periods.proofs.GridDays.{no_earlier, number_order}
 use Rattle.irs_periods.proofs.GridSpans.{span_days}

@@ -14,7 +14,7 @@ ghost use Rattle.irs_terms.specs.FirstDay.{first_day_of};
 ghost use Rattle.irs_terms.specs.TermDates.{DatesInOrder, termination_of};
 ghost use Rattle.irs_roll.specs.Rolls.{OnGrid};
 ghost use Rattle.irs_periods.specs.Boundaries.{Boundaries, BreaksPeriods, RegularEnd, RegularStart, too_many_periods};
-ghost use Rattle.irs_periods.specs.GridLists.{boundaries_on, days_from, where_before};
+ghost use Rattle.irs_periods.specs.Private.GridLists.{boundaries_on, days_from, where_before};
 ghost use Rattle.irs_periods.specs.Outcomes.{boundaries_of};
 ghost use Rattle.irs_periods.specs.SpanRules.{SpanKept};
 ghost use Rattle.irs_periods.specs.Spans.{Regular};

@@ -7,7 +7,7 @@ use Rattle.irs_base.specs.Rules.{rule_number}
 use Rattle.irs_base.specs.Faults.{fault_at}
 use Rattle.irs_base.specs.Order.{earlier, level}
 use Rattle.irs_base.proofs.Firsts.{IsOrder, rank_order, level_order, level_same, lt_false, first_or, first_same}
-use Rattle.irs_rules.specs.Order.{is_before_here, IsFirstHere}
+use Rattle.irs_rules.specs.Private.Order.{is_before_here, IsFirstHere}
 use Rattle.irs_rules.specs.Breaks.{Breaks, BreaksItem}
 
 -- the order of one stream's broken rules is an order

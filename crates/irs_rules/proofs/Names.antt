@@ -14,7 +14,7 @@ use Rattle.irs_terms.specs.Lawful.{IsLawfulCenters, IsLawfulFix, IsLawfulLeg, Is
 use Rattle.irs_terms.specs.Needs.{fixing_names, fixing_names_of, names_for}
 use Rattle.irs_rules.specs.Breaks.{BreaksItem}
 use Rattle.irs_rules.specs.Centers.{IsFoundAt}
-use Rattle.irs_rules.specs.Order.{IsFirstHere}
+use Rattle.irs_rules.specs.Private.Order.{IsFirstHere}
 use Rattle.irs_rules.specs.Parameters.{applicable_names, centers_of}
 
 -- the centres that are needed have lawful names

@@ -12,7 +12,7 @@ use Rattle.irs_base.proofs.Firsts.{level_same, level_later}
 use Rattle.irs_calendar.specs.declared.sections.Section.{Section}
 use Rattle.irs_terms.specs.declared.stream.Stream.{Stream}
 use Rattle.irs_terms.specs.declared.stream_list.Swap.{Swap}
-use Rattle.irs_rules.specs.Order.{is_before_here, IsFirstHere}
+use Rattle.irs_rules.specs.Private.Order.{is_before_here, IsFirstHere}
 use Rattle.irs_rules.specs.TermsRules.{BreaksStream, BreaksTerms}
 
 -- none of the first n streams breaks a rule

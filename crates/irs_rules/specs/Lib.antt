@@ -1,4 +1,3 @@
-pub mod Order
 pub mod Breaks
 pub mod Centers
 pub mod Parameters
@@ -8,3 +7,4 @@ pub mod Amounts
 pub mod TermsRules
 pub mod TermsKept
 pub mod Outcomes
+pub mod Private

@@ -3,7 +3,7 @@
 ghost use Rattle.std.specs.Prelude.{◌≡◌, ◌+◌, ◌<◌, ◌^◌, ◌||◌, ◌&&◌, ◌==◌, nat_lt, IsTrue};
 ghost use Rattle.irs_base.specs.Faults.{fault_at};
 ghost use Rattle.irs_base.specs.Order.{earlier};
-ghost use Rattle.irs_rules.specs.Order.{is_before_here, IsFirstHere};
+ghost use Rattle.irs_rules.specs.Private.Order.{is_before_here, IsFirstHere};
 ghost use Rattle.irs_rules.specs.Breaks.{Breaks};
 
 use irs_base::{Elem, Fault, Rule};

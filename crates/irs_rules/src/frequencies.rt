@@ -6,7 +6,7 @@ ghost use Rattle.irs_terms.specs.Frequencies.{HasWholePeriods, PaymentSuits, Res
 ghost use Rattle.irs_terms.specs.Lawful.{IsLawfulStream};
 ghost use Rattle.irs_terms.specs.Lengths.{IsPositive};
 ghost use Rattle.irs_terms.specs.Suiting.{FrequencySuits, IsTerm};
-ghost use Rattle.irs_rules.specs.Order.{IsFirstHere};
+ghost use Rattle.irs_rules.specs.Private.Order.{IsFirstHere};
 ghost use Rattle.irs_rules.specs.Dates.{BreaksK14, BreaksK15, IsTermAlone};
 ghost use Rattle.irs_rules.specs.Amounts.{BreaksK20};
 ghost use Rattle.irs_rules.specs.Parameters.{IsOneDay, ResetFits};

@@ -4,7 +4,7 @@ ghost use Rattle.std.specs.Prelude.{◌≡◌, ◌≤◌, IfSome, Some, length, 
 ghost use Rattle.irs_base.specs.Limits.{most_centers};
 ghost use Rattle.irs_base.specs.declared.places.Rule.TheVariants.{K12};
 ghost use Rattle.irs_terms.specs.Lawful.{IsLawfulStream, IsLawfulNames};
-ghost use Rattle.irs_rules.specs.Order.{IsFirstHere};
+ghost use Rattle.irs_rules.specs.Private.Order.{IsFirstHere};
 ghost use Rattle.irs_rules.specs.Breaks.{BreaksItem};
 ghost use Rattle.irs_rules.specs.Centers.{IsFoundAt, start_names};
 ghost use Rattle.irs_rules.specs.Names.{BreaksK12};

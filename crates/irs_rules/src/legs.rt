@@ -2,7 +2,7 @@
 //! Compounding doesn't go with a fixed rate, nor with ZeroInterestRateMethod.
 ghost use Rattle.std.specs.Prelude.{◌↔◌, IsTrue};
 ghost use Rattle.irs_terms.specs.Legs.{FitsCompounding, FitsResets, FitsStubs, MayCompound};
-ghost use Rattle.irs_rules.specs.Order.{IsFirstHere};
+ghost use Rattle.irs_rules.specs.Private.Order.{IsFirstHere};
 ghost use Rattle.irs_rules.specs.Amounts.{BreaksK19, BreaksK21};
 
 use crate::faults::{earlier, fault_unless};

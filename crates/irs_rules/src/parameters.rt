@@ -3,7 +3,7 @@
 //! own. Compounding counts by years of 360 or of 365 days.
 ghost use Rattle.std.specs.Prelude.{◌≡◌, ◌↔◌, IsTrue, IfSome, option_copied};
 ghost use Rattle.irs_rules.specs.Amounts.{BreaksK47};
-ghost use Rattle.irs_rules.specs.Order.{IsFirstHere};
+ghost use Rattle.irs_rules.specs.Private.Order.{IsFirstHere};
 ghost use Rattle.irs_rules.specs.Parameters.{DayCountFits, FinalStubFits, FitsMethod, HasParameters, InitialRateFits};
 ghost use Rattle.irs_rules.specs.Parameters.{InitialStubFits, IsNumber, IsOneDay, TenorFits, applicable_names, centers_of};
 

@@ -6,7 +6,7 @@ ghost use Rattle.irs_terms.specs.Lengths.{IsPositive};
 ghost use Rattle.irs_terms.specs.PaymentDates.{AsksInitialStub, FirstPaymentStands, HasInitialKind, HasRegularPayments};
 ghost use Rattle.irs_terms.specs.PaymentDates.{IsFirstPayment, IsInitial, IsLastPayment, IsPaymentInside};
 ghost use Rattle.irs_terms.specs.PaymentDates.{LastPaymentStands, NeedsFirstPayment, StartsLater};
-ghost use Rattle.irs_rules.specs.Order.{IsFirstHere};
+ghost use Rattle.irs_rules.specs.Private.Order.{IsFirstHere};
 ghost use Rattle.irs_rules.specs.Dates.{BreaksK16};
 
 use crate::faults::{earlier, fault_unless};

@@ -5,7 +5,7 @@ ghost use Rattle.irs_base.specs.Elements.{first_period_start_centers_reference, 
 ghost use Rattle.irs_base.specs.Elements.{stub_amount_reference};
 ghost use Rattle.irs_base.specs.declared.places.Rule.TheVariants.{K10};
 ghost use Rattle.irs_terms.specs.References.{FixingNamesOneList, NamesOneList, NamesTarget, StartNamesOneList};
-ghost use Rattle.irs_rules.specs.Order.{IsFirstHere};
+ghost use Rattle.irs_rules.specs.Private.Order.{IsFirstHere};
 ghost use Rattle.irs_rules.specs.Breaks.{Breaks};
 ghost use Rattle.irs_rules.specs.Names.{BreaksK10, BreaksK10InPeriods, BreaksK10InPayments, BreaksK10InResets};
 

@@ -5,7 +5,7 @@ ghost use Rattle.irs_base.specs.Limits.{most_steps};
 ghost use Rattle.irs_base.specs.declared.places.Rule.TheVariants.{K18};
 ghost use Rattle.irs_terms.specs.Lawful.{IsLawfulStream, IsLawfulLeg};
 ghost use Rattle.irs_terms.specs.StepDates.{IsStepInside, StepStands, step_before};
-ghost use Rattle.irs_rules.specs.Order.{IsFirstHere};
+ghost use Rattle.irs_rules.specs.Private.Order.{IsFirstHere};
 ghost use Rattle.irs_rules.specs.Breaks.{BreaksItem};
 ghost use Rattle.irs_rules.specs.Amounts.{BreaksK18, BreaksK18InLeg};
 

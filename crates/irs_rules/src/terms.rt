@@ -2,7 +2,7 @@
 //! then by rule, then by element in the order of the table of elements, then by index.
 ghost use Rattle.irs_base.specs.Outcomes.{Checks, Determined};
 ghost use Rattle.irs_terms.specs.Lawful.{IsLawful, IsLawfulStream};
-ghost use Rattle.irs_rules.specs.Order.{IsFirstHere};
+ghost use Rattle.irs_rules.specs.Private.Order.{IsFirstHere};
 ghost use Rattle.irs_rules.specs.Outcomes.{terms_of};
 ghost use Rattle.irs_rules.specs.TermsRules.{BreaksAmounts, BreaksDates, BreaksNames, BreaksStream};
 

@@ -16,9 +16,9 @@ use Rattle.irs_daycount.specs.Fractions.{fraction_of}
 use Rattle.irs_daycount.specs.FractionLaws.{fraction_is, days_is}
 use Rattle.irs_compound.specs.Amounts.{IsFraction, AmountOf}
 use Rattle.irs_compound.specs.InForce.{value_in_force}
-use Rattle.irs_compound.specs.InForceLaws.{in_force_is}
+use Rattle.irs_compound.specs.Private.InForceLaws.{in_force_is}
 use Rattle.irs_compound.specs.PartsLaws.{AllFractions}
-use Rattle.irs_compound.specs.OvernightLaws.{rates_in_are}
+use Rattle.irs_compound.specs.Private.OvernightLaws.{rates_in_are}
 use Rattle.irs_compound.specs.OvernightRates.{rates_in}
 use Rattle.irs_compound.specs.declared.periods.PeriodTerm.{PeriodTerm}
 use Rattle.irs_compound.proofs.FractionFits.{fraction_is_fit}

@@ -14,9 +14,9 @@ use Rattle.irs_terms.specs.declared.results.Payment.{Payment}
 use Rattle.irs_terms.specs.declared.stream.Stream.{Stream}
 use Rattle.irs_daycount.specs.FractionLaws.{one_fraction, one_days}
 use Rattle.irs_compound.specs.AmountLaws.{one_amount as one_units}
-use Rattle.irs_compound.specs.InForceLaws.{one_in_force}
+use Rattle.irs_compound.specs.Private.InForceLaws.{one_in_force}
 use Rattle.irs_compound.specs.PartsLaws.{AllFractions}
-use Rattle.irs_compound.specs.OvernightLaws.{one_rates_in}
+use Rattle.irs_compound.specs.Private.OvernightLaws.{one_rates_in}
 use Rattle.irs_compound.specs.declared.periods.PeriodTerm.{PeriodTerm}
 use Rattle.irs_schedule.specs.declared.entries.PaymentEntry.{PaymentEntry}
 use Rattle.irs_schedule.specs.declared.entries.PeriodEntry.{PeriodEntry}

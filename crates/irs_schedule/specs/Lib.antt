@@ -16,6 +16,6 @@ pub mod StreamDates
 pub mod PeriodTerms
 pub mod Schedules
 pub mod CenterDays
-pub mod StageSets
 pub mod Outcomes
 pub mod DatedRules
+pub mod Private

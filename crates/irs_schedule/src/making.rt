@@ -15,7 +15,7 @@ ghost use Rattle.irs_schedule.specs.CenterDays.{HasSwap};
 ghost use Rattle.irs_schedule.specs.Outcomes.{schedule_of, stream_of};
 ghost use Rattle.irs_schedule.specs.Parts.{KeepsBounds, Part};
 ghost use Rattle.irs_schedule.specs.Schedules.{IsSchedule};
-ghost use Rattle.irs_schedule.specs.StageSets.{sets_of};
+ghost use Rattle.irs_schedule.specs.Private.StageSets.{sets_of};
 
 use crate::Schedule;
 use crate::center_table::{CenterTable, StreamDays};

@@ -12,7 +12,7 @@ ghost use Rattle.irs_schedule.specs.KeptTerms.{is_daily};
 ghost use Rattle.irs_schedule.specs.Outcomes.{entries_of, events_of, layout_of, passed_at, payment_dates_of, resets_over};
 ghost use Rattle.irs_schedule.specs.Outcomes.{stream_of};
 ghost use Rattle.irs_schedule.specs.Parts.{HasAmount, KeepsBounds};
-ghost use Rattle.irs_schedule.specs.StageSets.{sets_of};
+ghost use Rattle.irs_schedule.specs.Private.StageSets.{sets_of};
 ghost use Rattle.irs_schedule.specs.StreamDates.{layout_dates};
 ghost use Rattle.irs_schedule.specs.StreamResets.{HasRates, resets_alone, resets_by, resets_in, with_factors};
 

@@ -41,7 +41,7 @@ use Rattle.irs_schedule.specs.StreamResets.{resets_by, resets_in}
 use Rattle.irs_schedule.proofs.RateLemmas.{with_rates}
 use Rattle.irs_unfixed.specs.AbsentDays.{HasAbsentDay, IsAbsentDay}
 use Rattle.irs_unfixed.specs.Fixings.{Fixing, FloatsOn, LacksFixing, RestsBy, RestsIn, daily_period}
-use Rattle.irs_unfixed.specs.Made.{IsGap, reset_source}
+use Rattle.irs_unfixed.specs.Private.Made.{IsGap, reset_source}
 use Rattle.irs_unfixed.proofs.MadeLemmas.{Stages, gap_high, gap_unknown, stages_of}
 use Rattle.irs_unfixed.proofs.RateLemmas.{IsUnknown, absent, unobserved}
 use Rattle.irs_unfixed.proofs.AbsentLemmas.{absent_none}

@@ -30,7 +30,7 @@ use Rattle.irs_schedule.proofs.LayoutRules.{layout_kept}
 use Rattle.irs_schedule.proofs.PaidEntries.{entries_are}
 use Rattle.irs_schedule.proofs.PeriodLemmas.{entry_at, length_periods}
 use Rattle.irs_schedule.proofs.RateLemmas.{with_rates}
-use Rattle.irs_unfixed.specs.Made.{HasSpan, IsMade, reset_source}
+use Rattle.irs_unfixed.specs.Private.Made.{HasSpan, IsMade, reset_source}
 use Rattle.irs_unfixed.specs.Unfixed.{IsUnrated, LacksRate}
 use Rattle.irs_unfixed.proofs.RateLemmas.{IsUnknown, map_none, rates_none, unknown_by}
 

@@ -20,7 +20,7 @@ use Rattle.irs_schedule.specs.Schedules.{IsPart}
 use Rattle.irs_schedule.specs.declared.entries.PaymentEntry.{PaymentEntry}
 use Rattle.irs_schedule.proofs.OnePart.{one_schedule, schedule_determined, schedule_is}
 use Rattle.irs_unfixed.specs.Fixings.{Fixing, LacksFixing}
-use Rattle.irs_unfixed.specs.Made.{IsGap, IsMade}
+use Rattle.irs_unfixed.specs.Private.Made.{IsGap, IsMade}
 use Rattle.irs_unfixed.specs.Missing.{IsMadeFrom, PaymentLacks, MadeFrom}
 use Rattle.irs_unfixed.specs.Unfixed.{UnfixedAt, IsUnrated, LacksAmount}
 use Rattle.irs_unfixed.specs.declared.places.PaymentPlace.{PaymentPlace}

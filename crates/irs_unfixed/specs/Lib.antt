@@ -2,5 +2,5 @@ pub mod Unfixed
 pub mod AbsentDays
 pub mod Fixings
 pub mod Counts
-pub mod Made
 pub mod Missing
+pub mod Private

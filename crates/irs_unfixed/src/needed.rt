@@ -10,7 +10,7 @@ ghost use Rattle.irs_periods.specs.Spans.{Regular};
 ghost use Rattle.irs_resets.specs.ObservedRates.{Line as LineOf, Stated, source_by};
 ghost use Rattle.irs_unfixed.specs.AbsentDays.{IsAbsentDay};
 ghost use Rattle.irs_unfixed.specs.Fixings.{LacksFixing, daily_period};
-ghost use Rattle.irs_unfixed.specs.Made.{HasSpan, IsGap};
+ghost use Rattle.irs_unfixed.specs.Private.Made.{HasSpan, IsGap};
 ghost use Rattle.irs_unfixed.specs.Missing.{fixing_in};
 ghost use Rattle.irs_observed.specs.DailyRates.{daily_rates};
 

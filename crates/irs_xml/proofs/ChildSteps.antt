@@ -4,8 +4,8 @@ use Rattle.std.proofs.lemmas.List.{length-map}
 use Rattle.std.specs.Prelude.{string_bytes}
 use Rattle.std.proofs.Math.Seq.{take-append_seam}
 use Rattle.irs_xml.specs.Namespaces.{Scope, Opening, is_opened, scope_in}
-use Rattle.irs_xml.specs.Reading.{child_at, element_at, tag_at}
-use Rattle.irs_xml.specs.TagViews.{scope_view}
+use Rattle.irs_xml.specs.Private.Reading.{child_at, element_at, tag_at}
+use Rattle.irs_xml.specs.Private.TagViews.{scope_view}
 use Rattle.irs_xml.specs.declared.settings.Declaration.{Declaration}
 
 -- past the nesting limit no element is read

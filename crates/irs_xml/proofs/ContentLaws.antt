@@ -16,7 +16,7 @@ use Rattle.irs_xml.specs.Document.{tag_of}
 use Rattle.irs_xml.specs.Names.{is_name_start, is_name_char, is_nc_name, name_text, prefixed, is_prefix, is_qname}
 use Rattle.irs_xml.specs.Namespaces.{Setting, Opening, Scope, opening_of, is_opened, scope_in}
 use Rattle.irs_xml.specs.References.{Reference, reference_text, character_of, is_reference}
-use Rattle.irs_xml.specs.Reading.{Got, ◌>>=◌, choose, skip_space, Inside, Mark, ending, commented, sectioned, instructed, nested, referred, standing, mark_at, markup_at, piece_at, content_at, closing_name_at, closing_at, filled_at, element_at, child_at, as_child, finished, begun, with_one, with_text, with_character, comment_at, instruction_at, data_at, reference_at, tag_at}
+use Rattle.irs_xml.specs.Private.Reading.{Got, ◌>>=◌, choose, skip_space, Inside, Mark, ending, commented, sectioned, instructed, nested, referred, standing, mark_at, markup_at, piece_at, content_at, closing_name_at, closing_at, filled_at, element_at, child_at, as_child, finished, begun, with_one, with_text, with_character, comment_at, instruction_at, data_at, reference_at, tag_at}
 use Rattle.irs_xml.specs.Seen.{seen}
 use Rattle.irs_xml.specs.Tags.{Tag, tag_text, is_tag, attributes_text}
 use Rattle.irs_xml.specs.Values.{Child, is_ours, key_of, named, both, element_data, element_child, children_in, text_in, with_children}

@@ -1,6 +1,6 @@
 -- How content goes on, a piece after another.
 use Rattle.std.proofs.Common.{◌≡◌, ℕ, zero, suc, ◌<◌, ◌≤◌, true, false, List, [], ◌∷◌, length, Some, None, refl, sym, ◌∙◌, arith}
-use Rattle.irs_xml.specs.Reading.{Got, Inside, Mark, mark_at, piece_at, content_at}
+use Rattle.irs_xml.specs.Private.Reading.{Got, Inside, Mark, mark_at, piece_at, content_at}
 use Rattle.irs_xml.specs.Values.{Child}
 
 -- what is read after what was read gives what is read from the start

@@ -7,7 +7,7 @@ use Rattle.std.specs.Str.{bytes_eq}
 use Rattle.irs_xml.specs.Characters.{is_space, is_white, is_gap}
 use Rattle.irs_xml.specs.Comments.{after}
 use Rattle.irs_xml.specs.Document.{Pair, pair_text, is_pair, is_version, is_encoding, is_standalone, Declaration, pair_text_if, is_pair_if, declaration_text, is_xml_declaration}
-use Rattle.irs_xml.specs.Reading.{◌>>=◌, choose, skip_space, gap_at, equals_at, quote_at, after_any_case, quoted_at, version_at, encoding_at, standalone_at, name_behind, pair_at, declared_at, opening_at, declaration_at}
+use Rattle.irs_xml.specs.Private.Reading.{◌>>=◌, choose, skip_space, gap_at, equals_at, quote_at, after_any_case, quoted_at, version_at, encoding_at, standalone_at, name_behind, pair_at, declared_at, opening_at, declaration_at}
 use Rattle.irs_xml.specs.Tags.{is_quote}
 use Rattle.irs_xml.proofs.Steps.{same_some, bind_some, choose_some, chosen, both_true, true_both, eq_true, true_eq, after_sound, after_complete, begins, white_run, run_white, skip_sound, skip-white, gap_sound, gap_complete, gap_none}
 use Rattle.irs_xml.proofs.TagLaws.{equals_sound, equals_complete, quote_sound, quote_complete, quote_no_space}

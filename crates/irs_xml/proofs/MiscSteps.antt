@@ -2,7 +2,7 @@
 use Rattle.std.proofs.Common.{◌≡◌, ℕ, zero, suc, ◌<◌, ◌≤◌, List, length, Some, None, refl, sym, ap, arith}
 use Rattle.std.specs.Prelude.{codes}
 use Rattle.irs_xml.specs.Comments.{after}
-use Rattle.irs_xml.specs.Reading.{skip_space, comment_at, instruction_at, misc_at}
+use Rattle.irs_xml.specs.Private.Reading.{skip_space, comment_at, instruction_at, misc_at}
 use Rattle.irs_xml.proofs.Steps.{length_after}
 use Rattle.irs_xml.proofs.Shorter.{skip_short, comment_short, instruction_short}
 

@@ -7,7 +7,7 @@ use Rattle.std.specs.Prelude.{codes}
 use Rattle.std.specs.Str.{encode_utf8_all}
 use Rattle.irs_xml.specs.Comments.{after}
 use Rattle.irs_xml.specs.Names.{is_name_start, is_name_char, is_nc_name, QName, name_text, prefixed, is_prefix, is_qname}
-use Rattle.irs_xml.specs.Reading.{◌>>=◌, choose, name_run, name_rest, name_at, qname_at}
+use Rattle.irs_xml.specs.Private.Reading.{◌>>=◌, choose, name_run, name_rest, name_at, qname_at}
 use Rattle.irs_xml.proofs.Steps.{same_some, bind_some, choose_some, chosen, both_true, true_both, after_sound, begins}
 
 run_named : (cs : List ℕ) → list_all is_name_char (name_run cs) ≡ true

@@ -9,7 +9,7 @@ use Rattle.std.specs.Char.{encode_utf8}
 use Rattle.std.specs.Str.{chars, encode_utf8_all, IsUtf8, IsCharBoundary}
 use Rattle.irs_xml.specs.Characters.{ends_after}
 use Rattle.irs_xml.specs.Names.{is_name_start, is_name_char}
-use Rattle.irs_xml.specs.Reading.{name_run, name_rest, name_at, SplitsName, EndsName}
+use Rattle.irs_xml.specs.Private.Reading.{name_run, name_rest, name_at, SplitsName, EndsName}
 use Rattle.irs_xml.specs.Seen.{seen}
 use Rattle.irs_xml.proofs.Seeing.{seen_other, seen_return}
 

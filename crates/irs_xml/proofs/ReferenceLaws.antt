@@ -8,7 +8,7 @@ use Rattle.std.specs.Prelude.{codes}
 use Rattle.irs_xml.specs.Characters.{is_char}
 use Rattle.irs_xml.specs.Comments.{after}
 use Rattle.irs_xml.specs.References.{Reference, less, greater, ampersand, apostrophe, quotation, decimal, hexadecimal, reference_text, number_after, character_of, are_digits, is_reference}
-use Rattle.irs_xml.specs.Reading.{Got, capped, digits_at, number_at, character_at, reference_at}
+use Rattle.irs_xml.specs.Private.Reading.{Got, capped, digits_at, number_at, character_at, reference_at}
 use Rattle.irs_xml.proofs.Steps.{same_some, bind_some, choose_some, chosen, both_true, true_both, eq_true, after_sound}
 
 -- past the last character

@@ -12,7 +12,7 @@ use Rattle.irs_xml.specs.Content.{Element, element_text, IsElement, IsTagIn, mos
 use Rattle.irs_xml.specs.Document.{Declaration, declaration_text, is_xml_declaration, Misc, blank, comment, instruction, misc_text, is_misc, Document, document_text, tag_of, root_namespace, is_fpml, IsDocument, root_key, rooted, root_value, document_value}
 use Rattle.irs_xml.specs.Names.{is_name_char, is_name_start, is_nc_name}
 use Rattle.irs_xml.specs.Namespaces.{Scope, opening_of, first_scope, scope_in, is_opened}
-use Rattle.irs_xml.specs.Reading.{◌>>=◌, skip_space, gap_at, comment_at, instruction_at, tag_at, child_at, element_at, opening_at, declaration_at, misc_at, as_root, root_by, root_at, ended, document_at}
+use Rattle.irs_xml.specs.Private.Reading.{◌>>=◌, skip_space, gap_at, comment_at, instruction_at, tag_at, child_at, element_at, opening_at, declaration_at, misc_at, as_root, root_by, root_at, ended, document_at}
 use Rattle.irs_xml.specs.Values.{Child, element_child}
 use Rattle.irs_xml.proofs.Steps.{same_some, bind_some, choose_some, chosen, both_true, true_both, eq_true, after_sound, begins, white_run, run_white, skip_sound, skip-stop}
 use Rattle.irs_xml.proofs.CommentLaws.{comment_sound, comment_complete, instruction_sound, instruction_complete, space_no_name}

@@ -4,7 +4,7 @@ use Rattle.std.specs.Prelude.{codes}
 use Rattle.serde_json.specs.Data.{Data}
 use Rattle.irs_xml.specs.Comments.{after, comment_text, cdata_text, instruction_text}
 use Rattle.irs_xml.specs.Namespaces.{Scope, Opening, is_opened, scope_in}
-use Rattle.irs_xml.specs.Reading.{Got, ◌>>=◌, choose, skip_space, Inside, Mark, ending, commented, sectioned, instructed, nested, referred, standing, mark_at, markup_at, piece_at, content_at, closing_name_at, closing_at, filled_at, element_at, child_at, as_child, begun, with_one, with_text, with_character, comment_at, instruction_at, data_at, reference_at, tag_at}
+use Rattle.irs_xml.specs.Private.Reading.{Got, ◌>>=◌, choose, skip_space, Inside, Mark, ending, commented, sectioned, instructed, nested, referred, standing, mark_at, markup_at, piece_at, content_at, closing_name_at, closing_at, filled_at, element_at, child_at, as_child, begun, with_one, with_text, with_character, comment_at, instruction_at, data_at, reference_at, tag_at}
 use Rattle.irs_xml.specs.Seen.{seen}
 use Rattle.irs_xml.specs.Tags.{tag_text}
 use Rattle.irs_xml.specs.Values.{Child, is_ours}

@@ -4,7 +4,7 @@ use Rattle.std.proofs.lemmas.Bool.{cases_Bool}
 use Rattle.std.proofs.lemmas.Bool.Decides.{nat_tests}
 use Rattle.irs_xml.specs.Characters.{is_space, is_white, is_gap}
 use Rattle.irs_xml.specs.Comments.{after}
-use Rattle.irs_xml.specs.Reading.{◌>>=◌, choose, skip_space, gap_at, past}
+use Rattle.irs_xml.specs.Private.Reading.{◌>>=◌, choose, skip_space, gap_at, past}
 
 -- equal options have equal values
 pub same_some : {A : Type 0} {x y : A} → ◌≡◌ {A = Option A} (Some x) (Some y) → x ≡ y

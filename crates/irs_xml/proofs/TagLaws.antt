@@ -13,7 +13,7 @@ use Rattle.irs_xml.specs.Content.{most_attributes}
 use Rattle.irs_xml.specs.Names.{is_name_start, is_name_char, is_nc_name, QName, name_text, prefixed, is_prefix, is_qname}
 use Rattle.irs_xml.specs.Namespaces.{Setting, Opening, setting_of, settings_of, opening_of}
 use Rattle.irs_xml.specs.References.{Reference, less, greater, ampersand, apostrophe, quotation, decimal, hexadecimal, reference_text, character_of, is_reference}
-use Rattle.irs_xml.specs.Reading.{Got, ◌>>=◌, choose, skip_space, gap_at, qname_at, reference_at, equals_at, quote_at, value_character_at, value_at, setting_at, tag_end_at, settings_at, tag_at}
+use Rattle.irs_xml.specs.Private.Reading.{Got, ◌>>=◌, choose, skip_space, gap_at, qname_at, reference_at, equals_at, quote_at, value_character_at, value_at, setting_at, tag_end_at, settings_at, tag_at}
 use Rattle.irs_xml.specs.Tags.{Piece, plain, refers, piece_text, piece_character, is_piece, pieces_text, are_pieces, pieces_value, Attribute, attribute_text, is_quote, is_attribute, attributes_text, are_attributes, Tag, tag_text, is_tag}
 use Rattle.irs_xml.proofs.Steps.{same_some, bind_some, choose_some, chosen, both_true, true_both, eq_true, true_eq, after_sound, begins, white_run, run_white, skip_sound, skip-white, gap_sound, gap_complete}
 use Rattle.irs_xml.proofs.NameLaws.{is_qname_char, qname_sound, qname_complete}

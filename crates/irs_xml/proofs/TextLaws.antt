@@ -10,7 +10,7 @@ use Rattle.irs_xml.specs.Characters.{is_char, ends_after, line_ends, without_mar
 use Rattle.irs_xml.specs.Comments.{after}
 use Rattle.irs_xml.specs.Document.{XmlReads}
 use Rattle.irs_xml.specs.Places.{IsNotXml, ReadsNone}
-use Rattle.irs_xml.specs.Reading.{Fails, Takes, document_at}
+use Rattle.irs_xml.specs.Private.Reading.{Fails, Takes, document_at}
 use Rattle.irs_xml.specs.Seen.{seen}
 use Rattle.irs_xml.specs.declared.failure.Failure.{Failure}
 use Rattle.irs_xml.specs.declared.failure.Failure.TheVariants.{NotXml as NotRead}

@@ -4,16 +4,10 @@ pub mod References
 pub mod Comments
 pub mod Tags
 pub mod Namespaces
-pub mod Resolved
 pub mod Content
 pub mod Values
 pub mod Document
 pub mod Places
-pub mod Reading
 pub mod Seen
-pub mod Plain
-pub mod TagViews
-pub mod InsideViews
-pub mod MarkViews
-pub mod WordViews
 pub mod Sizes
+pub mod Private

@@ -1,7 +1,7 @@
 //! Classes of characters: XML 1.0 (fifth edition), 2.2 and 2.3.
 ghost use Rattle.irs_xml.specs.Characters.{is_char as is_char_of, is_space as is_space_of};
 ghost use Rattle.irs_xml.specs.Names.{is_name_char as is_name_char_of, is_name_start as is_name_start_of};
-ghost use Rattle.irs_xml.specs.Plain.{IsPlain};
+ghost use Rattle.irs_xml.specs.Private.Plain.{IsPlain};
 ghost use Rattle.std.specs.Prelude.{◌≡◌, ◌<◌, IsTrue, true};
 
 /// XML allows the character.

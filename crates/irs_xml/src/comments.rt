@@ -1,13 +1,13 @@
 //! Comments, processing instructions and CDATA sections, after what opens them: XML 1.0 (fifth
 //! edition), 2.5, 2.6 and 2.7.
-ghost use Rattle.irs_xml.specs.Reading.{Gives, Passes, comment_at, data_at, instruction_at, past};
+ghost use Rattle.irs_xml.specs.Private.Reading.{Gives, Passes, comment_at, data_at, instruction_at, past};
 ghost use Rattle.std.specs.Prelude.{string_bytes};
 
 use crate::failure::Failure;
 use crate::reader::Reader;
 
 /// Passes over a comment, which has no `--` but at its end.
-#[tactic(auto, unfolding(crate::specs::Reading::comment_at))]
+#[tactic(auto, unfolding(crate::specs::Private::Reading::comment_at))]
 pub(crate) fn comment(reader: &mut Reader<'_>) -> Option<()>
     ensures { Passes result reader.new (comment_at reader.old) }
 {
@@ -16,7 +16,7 @@ pub(crate) fn comment(reader: &mut Reader<'_>) -> Option<()>
 }
 
 /// Passes over a processing instruction.
-#[tactic(auto, unfolding(crate::specs::Reading::instruction_at))]
+#[tactic(auto, unfolding(crate::specs::Private::Reading::instruction_at))]
 pub(crate) fn instruction(reader: &mut Reader<'_>) -> Option<()>
     ensures { Passes result reader.new (instruction_at reader.old) }
 {

@@ -1,11 +1,11 @@
 //! Elements and their content: XML 1.0 (fifth edition), 3 and 3.1.
 ghost use Rattle.irs_xml.specs.Comments.{after};
-ghost use Rattle.irs_xml.specs.InsideViews.{inside_view};
-ghost use Rattle.irs_xml.specs.MarkViews.{mark_view};
-ghost use Rattle.irs_xml.specs.Plain.{PlainPieces};
-ghost use Rattle.irs_xml.specs.Reading.{Gives, Passes, Reads, child_at, closing_at, closing_name_at, content_at, element_at, filled_at, mark_at, markup_at, piece_at};
+ghost use Rattle.irs_xml.specs.Private.InsideViews.{inside_view};
+ghost use Rattle.irs_xml.specs.Private.MarkViews.{mark_view};
+ghost use Rattle.irs_xml.specs.Private.Plain.{PlainPieces};
+ghost use Rattle.irs_xml.specs.Private.Reading.{Gives, Passes, Reads, child_at, closing_at, closing_name_at, content_at, element_at, filled_at, mark_at, markup_at, piece_at};
 ghost use Rattle.irs_xml.specs.Seen.{seen};
-ghost use Rattle.irs_xml.specs.TagViews.{opening_view, scope_view, tag_view};
+ghost use Rattle.irs_xml.specs.Private.TagViews.{opening_view, scope_view, tag_view};
 ghost use Rattle.irs_xml.specs.Values.{is_ours as is_ours_of};
 ghost use Rattle.serde_json.specs.View.{view};
 ghost use Rattle.std.specs.Prelude.{◌≡◌, OnOk, Some, length, string_bytes};
@@ -41,7 +41,7 @@ pub(crate) enum Mark {
 }
 
 // What comes next, taken. No `]]>` may be in text.
-#[tactic(auto, unfolding(crate::specs::Reading::mark_at))]
+#[tactic(auto, unfolding(crate::specs::Private::Reading::mark_at))]
 fn next_mark(reader: &mut Reader<'_>) -> Option<Mark>
     ensures { Reads mark_view result reader.new (mark_at reader.old) }
 {
@@ -58,7 +58,7 @@ fn next_mark(reader: &mut Reader<'_>) -> Option<Mark>
 }
 
 // What comes next after `<`.
-#[tactic(auto, unfolding(crate::specs::Reading::markup_at))]
+#[tactic(auto, unfolding(crate::specs::Private::Reading::markup_at))]
 fn markup(reader: &mut Reader<'_>) -> Mark
     ensures { markup_at reader.old ≡ Some (mark_view result, reader.new) }
 {
@@ -76,7 +76,7 @@ fn markup(reader: &mut Reader<'_>) -> Mark
 }
 
 // The end of an end tag, which has the name of the start tag.
-#[tactic(auto, unfolding(crate::specs::Reading::closing_at))]
+#[tactic(auto, unfolding(crate::specs::Private::Reading::closing_at))]
 fn closing(reader: &mut Reader<'_>, tag: &Tag<'_>) -> Option<()>
     ensures { Passes result reader.new (closing_at (opening_view tag.now) reader.old) }
 {
@@ -86,7 +86,7 @@ fn closing(reader: &mut Reader<'_>, tag: &Tag<'_>) -> Option<()>
 }
 
 // The name of the start tag is here, and is taken.
-#[tactic(auto, unfolding(crate::specs::Reading::closing_name_at))]
+#[tactic(auto, unfolding(crate::specs::Private::Reading::closing_name_at))]
 fn closing_name(reader: &mut Reader<'_>, prefix: &str, local: &str) -> Option<()>
     ensures { Passes result reader.new (closing_name_at prefix.now local.now reader.old) }
 {
@@ -121,7 +121,7 @@ fn plain(reader: &mut Reader<'_>, inside: &mut Inside) -> Result<(), AllocError>
 
 // One piece of content, whose mark was read: whether it was the end.
 #[cycle(element)]
-#[tactic(auto, unfolding(crate::specs::Reading::piece_at))]
+#[tactic(auto, unfolding(crate::specs::Private::Reading::piece_at))]
 fn piece<'a>(
     reader: &mut Reader<'a>,
     alloc: Global,
@@ -201,7 +201,7 @@ fn content<'a>(
 
 // What is in an element after its tag, and its end tag.
 #[cycle(element)]
-#[tactic(auto, unfolding(crate::specs::Reading::filled_at))]
+#[tactic(auto, unfolding(crate::specs::Private::Reading::filled_at))]
 fn filled<'a>(
     reader: &mut Reader<'a>,
     alloc: Global,
@@ -228,7 +228,7 @@ fn filled<'a>(
 
 /// An element after its tag, in its own scope: its member's name, and its value.
 #[cycle(element)]
-#[tactic(auto, unfolding(crate::specs::Reading::element_at))]
+#[tactic(auto, unfolding(crate::specs::Private::Reading::element_at))]
 pub(crate) fn element<'a>(
     reader: &mut Reader<'a>,
     alloc: Global,

@@ -1,9 +1,9 @@
 //! Documents: XML 1.0 (fifth edition), 2.1, 2.8 and 2.9.
 ghost use Rattle.irs_xml.specs.Document.{is_fpml as is_fpml_of, root_key as root_key_of};
 ghost use Rattle.irs_xml.specs.Namespaces.{namespace_of};
-ghost use Rattle.irs_xml.specs.Reading.{Gives, GivesValue, Passes, Takes, declaration_at, declared_at, document_at, misc_at, name_behind, opening_at, pair_at, quoted_at, root_at, root_by, standalone_at};
-ghost use Rattle.irs_xml.specs.TagViews.{scope_view, tag_view};
-ghost use Rattle.irs_xml.specs.WordViews.{word_at};
+ghost use Rattle.irs_xml.specs.Private.Reading.{Gives, GivesValue, Passes, Takes, declaration_at, declared_at, document_at, misc_at, name_behind, opening_at, pair_at, quoted_at, root_at, root_by, standalone_at};
+ghost use Rattle.irs_xml.specs.Private.TagViews.{scope_view, tag_view};
+ghost use Rattle.irs_xml.specs.Private.WordViews.{word_at};
 ghost use Rattle.serde_json.specs.Data.{member, no_members, object};
 ghost use Rattle.serde_json.specs.View.{view};
 ghost use Rattle.std.specs.Prelude.{◌≡◌, IfOk, Some, length, suc};
@@ -36,7 +36,7 @@ enum Word {
 }
 
 /// A whole document.
-#[tactic(auto, unfolding(crate::specs::Reading::document_at))]
+#[tactic(auto, unfolding(crate::specs::Private::Reading::document_at))]
 pub(crate) fn document(reader: &mut Reader<'_>, alloc: Global) -> Result<Value, Failure>
     ensures { GivesValue view result (document_at reader.old) }
 {
@@ -60,7 +60,7 @@ pub(crate) fn document(reader: &mut Reader<'_>, alloc: Global) -> Result<Value, 
 }
 
 // The XML declaration, if there is one.
-#[tactic(auto, unfolding(crate::specs::Reading::declaration_at))]
+#[tactic(auto, unfolding(crate::specs::Private::Reading::declaration_at))]
 fn declaration(reader: &mut Reader<'_>) -> Option<()>
     ensures { Passes result reader.new (declaration_at reader.old) }
 {
@@ -87,7 +87,7 @@ fn opens(reader: &mut Reader<'_>) -> bool
 }
 
 // What an XML declaration holds after its `<?xml`.
-#[tactic(auto, unfolding(crate::specs::Reading::declared_at))]
+#[tactic(auto, unfolding(crate::specs::Private::Reading::declared_at))]
 fn declared(reader: &mut Reader<'_>) -> Option<()>
     ensures { Passes result reader.new (declared_at reader.old) }
 {
@@ -102,7 +102,7 @@ fn declared(reader: &mut Reader<'_>) -> Option<()>
 }
 
 // A name and its word, if the name is here after white space.
-#[tactic(auto, unfolding(crate::specs::Reading::pair_at))]
+#[tactic(auto, unfolding(crate::specs::Private::Reading::pair_at))]
 fn pair(reader: &mut Reader<'_>, name: &[u8], word: Word) -> Option<()>
     ensures { Passes result reader.new (pair_at name.now (word_at word) reader.old) }
 {
@@ -129,7 +129,7 @@ fn names(reader: &mut Reader<'_>, name: &[u8]) -> bool
 }
 
 // `=` and a word in quotes.
-#[tactic(auto, unfolding(crate::specs::Reading::quoted_at))]
+#[tactic(auto, unfolding(crate::specs::Private::Reading::quoted_at))]
 fn quoted(reader: &mut Reader<'_>, word: Word) -> Option<()>
     ensures { Passes result reader.new (quoted_at (word_at word) reader.old) }
 {
@@ -179,7 +179,7 @@ fn misc(reader: &mut Reader<'_>) -> Option<()>
 }
 
 // The root element after its `<`: the document's value.
-#[tactic(auto, unfolding(crate::specs::Reading::root_at))]
+#[tactic(auto, unfolding(crate::specs::Private::Reading::root_at))]
 fn root(reader: &mut Reader<'_>, alloc: Global) -> Result<Value, Failure>
     ensures { Gives view result reader.new (root_at reader.old) }
 {
@@ -194,7 +194,7 @@ fn root(reader: &mut Reader<'_>, alloc: Global) -> Result<Value, Failure>
 }
 
 // The root element after its tag, in its own scope.
-#[tactic(auto, unfolding(crate::specs::Reading::root_by))]
+#[tactic(auto, unfolding(crate::specs::Private::Reading::root_by))]
 fn rooted<'a>(
     reader: &mut Reader<'a>,
     alloc: Global,

@@ -1,6 +1,6 @@
 //! The members of an element's value, one after another.
 
-ghost use Rattle.irs_xml.specs.TagViews.{setting_view};
+ghost use Rattle.irs_xml.specs.Private.TagViews.{setting_view};
 ghost use Rattle.irs_xml.specs.Values.{is_counted as is_counted_of, item_last, joined, with_child, with_settings};
 ghost use Rattle.serde_json.specs.Data.{array, item, no_items, no_members, put, string};
 ghost use Rattle.serde_json.specs.View.{items_view, members_view, view};

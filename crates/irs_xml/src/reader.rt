@@ -1,7 +1,7 @@
 //! The characters of a text, one after another.
 ghost use Rattle.irs_xml.specs.Comments.{after};
-ghost use Rattle.irs_xml.specs.Reading.{EndsName, NameOf, SplitsName, Takes, after_any_case, gap_at, name_at, skip_space as behind_space, Reads};
-ghost use Rattle.irs_xml.specs.Plain.{PlainTaken, SplitsPlain};
+ghost use Rattle.irs_xml.specs.Private.Reading.{EndsName, NameOf, SplitsName, Takes, after_any_case, gap_at, name_at, skip_space as behind_space, Reads};
+ghost use Rattle.irs_xml.specs.Private.Plain.{PlainTaken, SplitsPlain};
 ghost use Rattle.irs_xml.specs.Seen.{seen, FirstOf, Uncons};
 ghost use Rattle.std.specs.Prelude.{◌≡◌, [], ◌∷◌, IfSome, Some};
 

@@ -1,5 +1,5 @@
 //! References, after their `&`: XML 1.0 (fifth edition), 4.1 and 4.6.
-ghost use Rattle.irs_xml.specs.Reading.{Reads, character_at, number_at, reference_at};
+ghost use Rattle.irs_xml.specs.Private.Reading.{Reads, character_at, number_at, reference_at};
 ghost use Rattle.std.specs.Prelude.{◌<◌, ◌≤◌};
 
 use crate::chars::is_char;
@@ -10,7 +10,7 @@ const PAST_CHARACTERS: u32 = 0x11_0000;
 
 /// The character that a reference names: one of the five predefined entities, or a character by its
 /// number.
-#[tactic(auto, unfolding(crate::specs::Reading::reference_at))]
+#[tactic(auto, unfolding(crate::specs::Private::Reading::reference_at))]
 pub(crate) fn reference(reader: &mut Reader<'_>) -> Option<char>
     ensures { Reads (λ c. c) result reader.new (reference_at reader.old) }
 {
@@ -34,7 +34,7 @@ pub(crate) fn reference(reader: &mut Reader<'_>) -> Option<char>
 }
 
 // The character whose number these digits write, up to a semicolon.
-#[tactic(auto, unfolding(crate::specs::Reading::character_at))]
+#[tactic(auto, unfolding(crate::specs::Private::Reading::character_at))]
 fn character(reader: &mut Reader<'_>, base: u32) -> Option<char>
     requires low { 2 ≤ base }
     requires high { base ≤ 36 }

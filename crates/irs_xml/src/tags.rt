@@ -1,8 +1,8 @@
 //! Tags, after their `<`: XML 1.0 (fifth edition), 3.1 and 3.3.3.
-ghost use Rattle.irs_xml.specs.Reading.{Gives, Passes, Reads, Tries, equals_at, qname_at, quote_at, setting_at, settings_at, tag_at, tag_end_at, value_at, value_character_at};
+ghost use Rattle.irs_xml.specs.Private.Reading.{Gives, Passes, Reads, Tries, equals_at, qname_at, quote_at, setting_at, settings_at, tag_at, tag_end_at, value_at, value_character_at};
 ghost use Rattle.irs_xml.specs.Characters.{is_space as is_space_of};
 ghost use Rattle.irs_xml.specs.Content.{most_attributes};
-ghost use Rattle.irs_xml.specs.TagViews.{setting_view, tag_view};
+ghost use Rattle.irs_xml.specs.Private.TagViews.{setting_view, tag_view};
 ghost use Rattle.std.specs.Prelude.{◌≡◌, [], if◌then◌else◌, length, map, string_bytes};
 
 use crate::chars::is_space;
@@ -16,7 +16,7 @@ use std::alloc::Global;
 pub(crate) const MOST_ATTRIBUTES: usize = 64;
 
 /// A tag, up to its `>`.
-#[tactic(auto, unfolding(crate::specs::Reading::tag_at))]
+#[tactic(auto, unfolding(crate::specs::Private::Reading::tag_at))]
 pub(crate) fn tag<'a>(reader: &mut Reader<'a>, alloc: Global) -> Result<Tag<'a>, Failure>
     ensures { Gives tag_view result reader.new (tag_at reader.old) }
 {
@@ -33,7 +33,7 @@ pub(crate) fn tag<'a>(reader: &mut Reader<'a>, alloc: Global) -> Result<Tag<'a>,
 }
 
 // A prefix, empty where there is none, and a local part.
-#[tactic(auto, unfolding(crate::specs::Reading::qname_at))]
+#[tactic(auto, unfolding(crate::specs::Private::Reading::qname_at))]
 fn qname<'a>(reader: &mut Reader<'a>) -> Option<(&'a str, &'a str)>
     ensures { Reads (λ n. (n.0.now, n.1.now)) result reader.new (qname_at reader.old) }
 {
@@ -68,7 +68,7 @@ fn settings<'a>(reader: &mut Reader<'a>, alloc: Global) -> Result<(Vec<Setting<'
 }
 
 // `>`, or `/>` of an empty element.
-#[tactic(auto, unfolding(crate::specs::Reading::tag_end_at))]
+#[tactic(auto, unfolding(crate::specs::Private::Reading::tag_end_at))]
 fn tag_end(reader: &mut Reader<'_>) -> Option<bool>
     ensures { Tries (λ b. b) result reader.old reader.new (tag_end_at reader.old) }
 {
@@ -82,7 +82,7 @@ fn tag_end(reader: &mut Reader<'_>) -> Option<bool>
 }
 
 // An attribute: its name, `=`, and its value in quotes.
-#[tactic(auto, unfolding(crate::specs::Reading::setting_at))]
+#[tactic(auto, unfolding(crate::specs::Private::Reading::setting_at))]
 fn setting<'a>(reader: &mut Reader<'a>, alloc: Global) -> Result<Setting<'a>, Failure>
     ensures { Gives setting_view result reader.new (setting_at reader.old) }
 {
@@ -104,7 +104,7 @@ fn setting<'a>(reader: &mut Reader<'a>, alloc: Global) -> Result<Setting<'a>, Fa
 }
 
 /// `=`, with white space round it.
-#[tactic(auto, unfolding(crate::specs::Reading::equals_at))]
+#[tactic(auto, unfolding(crate::specs::Private::Reading::equals_at))]
 pub(crate) fn equals(reader: &mut Reader<'_>) -> Option<()>
     ensures { Passes result reader.new (equals_at reader.old) }
 {
@@ -118,7 +118,7 @@ pub(crate) fn equals(reader: &mut Reader<'_>) -> Option<()>
 }
 
 /// A quote: `'` or `"`.
-#[tactic(auto, unfolding(crate::specs::Reading::quote_at))]
+#[tactic(auto, unfolding(crate::specs::Private::Reading::quote_at))]
 pub(crate) fn quote(reader: &mut Reader<'_>) -> Option<char>
     ensures { Reads (λ c. c) result reader.new (quote_at reader.old) }
 {
@@ -151,7 +151,7 @@ fn value(reader: &mut Reader<'_>, alloc: Global, quote: char) -> Result<String, 
 }
 
 // The character of a value that begins with this one, which is taken already.
-#[tactic(auto, unfolding(crate::specs::Reading::value_character_at))]
+#[tactic(auto, unfolding(crate::specs::Private::Reading::value_character_at))]
 fn value_character(reader: &mut Reader<'_>, c: char) -> Option<char>
     ensures { Reads (λ d. d) result reader.new (value_character_at c reader.old) }
 {

@@ -1,7 +1,7 @@
 use Rattle.std.proofs.Common.{rules, arith, ◌≡◌, ◌*◌, ◌^◌, ap, unsigned_abs, FitsSigned}
 use Rattle.std.specs.Int.{w128}
 use Rattle.std.proofs.lemmas.Int.{to_z-of_z}
-use Rattle.irs_accrue.specs.Sizes.{most_product}
+use Rattle.irs_accrue.specs.Private.Sizes.{most_product}
 use Rattle.irs_accrue.proofs.Products.{thousand, product_of_two}
 use Rattle.irs_accrue.proofs.interest.scaled.Goals as goal
 

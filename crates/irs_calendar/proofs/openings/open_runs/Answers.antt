@@ -2,7 +2,7 @@ use Rattle.std.proofs.Common.{ℕ, ◌+◌, List, sym, ◌∙◌, ap, subst, ari
 use Rattle.jiff_core.proofs.SignedLemmas.{signed_arith}
 use Rattle.irs_calendar.specs.declared.runs.Run.{Run}
 use Rattle.irs_calendar.specs.Sections.{all_open}
-use Rattle.irs_calendar.specs.Closed.{any_listed, is_marked, IsNext, AreHeld}
+use Rattle.irs_calendar.specs.Private.Closed.{any_listed, is_marked, IsNext, AreHeld}
 use Rattle.irs_calendar.proofs.CoverLemmas.{sections_at}
 use Rattle.irs_calendar.proofs.ClosedLemmas.{Turn, turn, weekend_later}
 use Rattle.irs_calendar.proofs.MarkLemmas.{marks_find, marks_held, next_later}

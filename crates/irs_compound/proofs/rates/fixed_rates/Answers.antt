@@ -2,7 +2,7 @@ use Rattle.std.proofs.Common.{rules, ◌≡◌, sym, subst, FitsSigned}
 use Rattle.std.specs.Int.{w128}
 use Rattle.std.proofs.lemmas.Int.{to_z-of_z}
 use Rattle.irs_compound.specs.PeriodRates.{FixedRatesOf}
-use Rattle.irs_compound.specs.RateLaws.{fixed_rates_are, fixed_rates_value}
+use Rattle.irs_compound.specs.Private.RateLaws.{fixed_rates_are, fixed_rates_value}
 use Rattle.irs_compound.proofs.rates.fixed_rates.Goals as goal
 
 pub returns-clause-value : goal.returns-clause-value

@@ -3,7 +3,7 @@ use Rattle.std.specs.Int.{w64}
 use Rattle.std.proofs.lemmas.Int.{to_z-of_z}
 use Rattle.irs_compound.specs.declared.periods.Rates.{Rates}
 use Rattle.irs_compound.specs.PeriodRates.{RatesOf, rates_of}
-use Rattle.irs_compound.specs.RateLaws.{rates_are}
+use Rattle.irs_compound.specs.Private.RateLaws.{rates_are}
 use Rattle.irs_compound.proofs.rates.period_rates.Goals as goal
 
 pub returns-clause-rates : goal.returns-clause-rates

@@ -1,7 +1,7 @@
 use Rattle.std.proofs.Common.{rules, ◌≡◌, FitsSigned}
 use Rattle.std.specs.Int.{w128}
 use Rattle.std.proofs.lemmas.Int.{to_z-of_z}
-use Rattle.irs_compound.specs.RateLaws.{fixed_rates_value}
+use Rattle.irs_compound.specs.Private.RateLaws.{fixed_rates_value}
 use Rattle.irs_compound.proofs.rising_rates.fixed_of_rising.Goals as goal
 
 pub returns : goal.returns

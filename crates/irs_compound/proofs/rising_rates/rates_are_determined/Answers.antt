@@ -1,4 +1,4 @@
-use Rattle.irs_compound.specs.RateLaws.{one_leg_rates}
+use Rattle.irs_compound.specs.Private.RateLaws.{one_leg_rates}
 use Rattle.irs_compound.proofs.rising_rates.rates_are_determined.Goals as goal
 
 pub returns : goal.returns

@@ -1,6 +1,6 @@
 use Rattle.std.proofs.Common.{◌≤◌, Option, IfSome, sym, subst, unsigned_abs}
 use Rattle.irs_compound.specs.PeriodRates.{AreRates, most_rounded_rate}
-use Rattle.irs_compound.specs.RateLaws.{rates_by_are}
+use Rattle.irs_compound.specs.Private.RateLaws.{rates_by_are}
 use Rattle.irs_compound.specs.declared.periods.Rates.{Rates}
 use Rattle.irs_compound.proofs.RateSizes.{rate_size}
 use Rattle.irs_compound.proofs.rising_rates.rates_of_rising.Goals as goal

@@ -1,6 +1,6 @@
 use Rattle.std.proofs.Common.{◌≡◌, take}
 use Rattle.irs_observed.specs.DailyRates.{rates_by}
-use Rattle.irs_daily.specs.FactorSteps.{IsSmall}
+use Rattle.irs_daily.specs.Private.FactorSteps.{IsSmall}
 use Rattle.irs_daily.specs.ObservedRows.{day_rows}
 use Rattle.irs_daily.proofs.Growths.{IsGrown}
 use Rattle.irs_daily.proofs.periods.rated.Given as goal

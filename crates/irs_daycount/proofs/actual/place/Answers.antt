@@ -5,7 +5,7 @@ use Rattle.jiff_core.specs.Calendar.{day_of_year}
 use Rattle.irs_base.specs.Days.{HasDate}
 use Rattle.irs_base.specs.DateOf.{year_part}
 use Rattle.irs_base.proofs.DateWalks.{year_place}
-use Rattle.irs_daycount.specs.Places.{place_at}
+use Rattle.irs_daycount.specs.Private.Places.{place_at}
 use Rattle.irs_daycount.proofs.Starts.{place_in_year}
 use Rattle.irs_daycount.proofs.actual.place.Goals as goal
 

@@ -1,5 +1,5 @@
 use Rattle.std.proofs.Common.{◌+◌, ◌-◌, ◌≤◌, length}
-use Rattle.irs_locate.specs.Seen.{step_seen}
+use Rattle.irs_locate.specs.Private.Seen.{step_seen}
 use Rattle.irs_locate.proofs.Opens.{Reached}
 use Rattle.irs_locate.proofs.lines.last_below.Given as goal
 

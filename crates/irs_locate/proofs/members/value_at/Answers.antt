@@ -1,6 +1,6 @@
 use Rattle.std.proofs.Common.{sym}
 use Rattle.serde_json.specs.View.{view}
-use Rattle.irs_locate.specs.Seen.{step_seen}
+use Rattle.irs_locate.specs.Private.Seen.{step_seen}
 use Rattle.irs_locate.specs.Ways.{way}
 use Rattle.irs_locate.proofs.Lies.{a_step_on, at_end}
 use Rattle.irs_locate.proofs.members.value_at.Goals as goal

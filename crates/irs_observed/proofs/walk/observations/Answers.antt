@@ -3,7 +3,7 @@ use Rattle.irs_base.specs.Order.{First}
 use Rattle.irs_calendar.specs.GoodDays.{DaySet}
 use Rattle.irs_observed.specs.ObservationPeriods.{ObservedPeriod, observed_period}
 use Rattle.irs_observed.specs.ObservationRules.{Lacks, reported_before}
-use Rattle.irs_observed.specs.ObservationWalk.{IsUnseen, IsWalk}
+use Rattle.irs_observed.specs.Private.ObservationWalk.{IsUnseen, IsWalk}
 use Rattle.irs_observed.specs.Observations.{AreObserved, lockout_days}
 use Rattle.irs_observed.specs.PeriodMembers.{LeavesCover}
 use Rattle.irs_observed.specs.declared.observation.NoObservations.{NoObservations}

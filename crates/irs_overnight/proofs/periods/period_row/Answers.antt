@@ -4,7 +4,7 @@ use Rattle.irs_overnight.specs.DailySources.{DailySource, daily_source}
 use Rattle.irs_overnight.specs.DailyPeriods.{period_at}
 use Rattle.irs_overnight.specs.FoundRates.{DailyPeriod, daily_period}
 use Rattle.irs_overnight.specs.DerivedRules.{period_fault}
-use Rattle.irs_overnight.specs.PeriodTurns.{FirstWay}
+use Rattle.irs_overnight.specs.Private.PeriodTurns.{FirstWay}
 use Rattle.irs_overnight.proofs.RowLemmas.{day_read, in_order}
 use Rattle.irs_overnight.proofs.periods.period_row.Goals as goal
 

@@ -11,7 +11,7 @@ use Rattle.irs_overnight.specs.DailySources.{DailySource, daily_source}
 use Rattle.irs_overnight.specs.DailyPeriods.{period_at}
 use Rattle.irs_overnight.specs.DerivedRows.{IsDerivedRow}
 use Rattle.irs_overnight.specs.DerivedRules.{BreaksPeriod, derived_before, period_fault}
-use Rattle.irs_overnight.specs.PeriodTurns.{FirstWay, NoneFails}
+use Rattle.irs_overnight.specs.Private.PeriodTurns.{FirstWay, NoneFails}
 use Rattle.irs_overnight.specs.declared.periods.PeriodFault.{PeriodFault}
 use Rattle.irs_overnight.proofs.DerivedOrder.{first_period}
 use Rattle.irs_overnight.proofs.periods.period_rows.Goals as goal

@@ -1,7 +1,7 @@
 use Rattle.std.proofs.Common.{◌≡◌, ℕ, ◌+◌, ◌++◌, [], ◌∷◌, length, arith, sym, subst, ap, ◌∙◌, ℤ, pos, true, false}
 use Rattle.std.proofs.lemmas.List.{get_or_default}
 use Rattle.irs_payments.specs.Grouping.{pay_anchor, EndsPayment}
-use Rattle.irs_payments.specs.Cuts.{AreCuts, EndsAt}
+use Rattle.irs_payments.specs.Private.Cuts.{AreCuts, EndsAt}
 use Rattle.irs_payments.proofs.CutLemmas.{no_cuts, pass_cut, take_cut}
 use Rattle.irs_payments.proofs.cuts.payment_places.Goals as goal
 use Rattle.irs_payments.proofs.cuts.payment_places.Goals.{then-ends_payment+in_ok-push-2, else-ends_payment}

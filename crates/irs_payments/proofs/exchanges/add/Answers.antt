@@ -1,7 +1,7 @@
 use Rattle.std.proofs.Common.{◌∷◌, ◌++◌, Option, subst, sym}
 use Rattle.irs_base.specs.Order.{First, comes_before}
 use Rattle.irs_payments.specs.Exchanges.{BreaksExchanges}
-use Rattle.irs_payments.specs.Listing.{ListsUpTo}
+use Rattle.irs_payments.specs.Private.Listing.{ListsUpTo}
 use Rattle.irs_payments.specs.Transfers.{listed}
 use Rattle.irs_payments.specs.declared.exchanges.Transfer.{Transfer}
 use Rattle.irs_payments.proofs.ListedExchanges.{one_lacks, one_listed}

@@ -1,9 +1,9 @@
 use Rattle.std.proofs.Common.{◌≡◌, ◌<◌, ℕ, ℤ, length, arith, pos, subst, ap, ◌∙◌, Result, Err}
 use Rattle.std.proofs.lemmas.List.{get_or_default}
 use Rattle.irs_adjust.specs.declared.moved.NoDate.{NoDate}
-use Rattle.irs_payments.specs.Cuts.{cut_at}
+use Rattle.irs_payments.specs.Private.Cuts.{cut_at}
 use Rattle.irs_payments.specs.PaymentDates.{LacksResult, LeavesRange}
-use Rattle.irs_payments.specs.Dating.{date_place}
+use Rattle.irs_payments.specs.Private.Dating.{date_place}
 use Rattle.irs_payments.proofs.DateLemmas.{outcome_err}
 use Rattle.irs_payments.proofs.PaymentLemmas.{place_low}
 use Rattle.irs_base.specs.Members.{day_at}

@@ -4,8 +4,8 @@ use Rattle.irs_base.specs.Outcomes.{Meets}
 use Rattle.irs_base.specs.declared.places.Fault.{Fault}
 use Rattle.irs_base.proofs.Outcomes.{if_memory}
 use Rattle.irs_terms.specs.FirstDay.{first_day_of}
-use Rattle.irs_payments.specs.Cuts.{AreCuts}
-use Rattle.irs_payments.specs.Dating.{paid_at}
+use Rattle.irs_payments.specs.Private.Cuts.{AreCuts}
+use Rattle.irs_payments.specs.Private.Dating.{paid_at}
 use Rattle.irs_payments.specs.Grouping.{BreaksGrouping}
 use Rattle.irs_payments.proofs.CutLemmas.{two_boundaries}
 use Rattle.irs_payments.proofs.Outcomes.{paid_meets}

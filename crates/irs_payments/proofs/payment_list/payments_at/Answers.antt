@@ -1,7 +1,7 @@
 use Rattle.std.proofs.Common.{◌≡◌, ℕ, arith, length, subst, Option}
 use Rattle.std.proofs.lemmas.Result.{err_from_is_err_and}
 use Rattle.irs_base.proofs.HandedAnswers.{handed_on}
-use Rattle.irs_payments.specs.Dating.{Dated, ArePaid, IsDateFault, NoneLacks}
+use Rattle.irs_payments.specs.Private.Dating.{Dated, ArePaid, IsDateFault, NoneLacks}
 use Rattle.irs_payments.proofs.DateLemmas.{dated_more, lacks_more, none_dated, lacking_breaks}
 use Rattle.irs_payments.proofs.payment_list.payments_at.Goals as goal
 

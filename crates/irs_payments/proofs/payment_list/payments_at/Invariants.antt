@@ -1,4 +1,4 @@
-use Rattle.irs_payments.specs.Dating.{Dated, NoneLacks}
+use Rattle.irs_payments.specs.Private.Dating.{Dated, NoneLacks}
 use Rattle.irs_payments.proofs.payment_list.payments_at.Given as goal
 
 -- the payments before j are worked out, and none of them lacks a date

@@ -2,7 +2,7 @@ use Rattle.std.proofs.Common.{◌≡◌, ◌+◌, ◌≤◌, length, ℤ, to_z, 
 use Rattle.jiff_core.proofs.SignedLemmas.{signed_arith}
 use Rattle.irs_base.specs.Limits.{most_periods}
 use Rattle.irs_periods.specs.Boundaries.{Boundaries, TooManyPeriods}
-use Rattle.irs_periods.specs.GridLists.{boundaries_on, where_before}
+use Rattle.irs_periods.specs.Private.GridLists.{boundaries_on, where_before}
 use Rattle.irs_terms.specs.FirstDay.{first_day_of}
 use Rattle.irs_periods.proofs.GridSpans.{length-all_boundaries}
 use Rattle.irs_base.proofs.Outcomes.{if_memory}

@@ -6,7 +6,7 @@ use Rattle.irs_schedule.specs.Keeping.{MakePart}
 use Rattle.irs_schedule.specs.KeptTerms.{is_daily, is_floating, kept_of}
 use Rattle.irs_schedule.specs.Outcomes.{part_over, stream_of}
 use Rattle.irs_schedule.specs.Periods.{periods_by}
-use Rattle.irs_schedule.specs.StageSets.{sets_of}
+use Rattle.irs_schedule.specs.Private.StageSets.{sets_of}
 use Rattle.irs_schedule.specs.StreamDates.{layout_dates}
 use Rattle.irs_schedule.specs.declared.center_table.StreamDays.{StreamDays}
 use Rattle.irs_schedule.specs.declared.kept_terms.KeptTerms.{KeptTerms}

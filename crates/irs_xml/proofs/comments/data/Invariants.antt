@@ -1,5 +1,5 @@
 use Rattle.std.proofs.Common.{◌≡◌, length, string_bytes}
-use Rattle.irs_xml.specs.Reading.{data_at}
+use Rattle.irs_xml.specs.Private.Reading.{data_at}
 use Rattle.irs_xml.proofs.comments.data.Given as goal
 
 -- what is left, after the text so far, gives what the whole gives

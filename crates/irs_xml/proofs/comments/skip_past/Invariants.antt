@@ -1,5 +1,5 @@
 use Rattle.std.proofs.Common.{◌≡◌, length}
-use Rattle.irs_xml.specs.Reading.{past}
+use Rattle.irs_xml.specs.Private.Reading.{past}
 use Rattle.irs_xml.proofs.comments.skip_past.Given as goal
 
 -- the first mark in what is left is the first mark of the whole

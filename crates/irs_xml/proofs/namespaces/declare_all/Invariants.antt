@@ -1,6 +1,6 @@
 use Rattle.std.proofs.Common.{◌≡◌, ◌++◌, drop, map}
 use Rattle.irs_xml.specs.Namespaces.{declarations}
-use Rattle.irs_xml.specs.TagViews.{scope_view, setting_view}
+use Rattle.irs_xml.specs.Private.TagViews.{scope_view, setting_view}
 use Rattle.irs_xml.proofs.namespaces.declare_all.Given as goal
 
 -- the declarations so far, with those that are left, are all of them

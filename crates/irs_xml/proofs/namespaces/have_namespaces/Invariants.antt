@@ -1,7 +1,7 @@
 use Rattle.std.proofs.Common.{◌≡◌, drop, map}
 use Rattle.std.specs.List.{list_all}
 use Rattle.std.specs.Prelude.{is_some}
-use Rattle.irs_xml.specs.TagViews.{resolved_view}
+use Rattle.irs_xml.specs.Private.TagViews.{resolved_view}
 use Rattle.irs_xml.proofs.namespaces.have_namespaces.Given as goal
 
 -- all prefixes are declared just where those that are left are

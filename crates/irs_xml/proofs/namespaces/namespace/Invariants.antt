@@ -1,7 +1,7 @@
 use Rattle.std.proofs.Common.{◌≡◌, drop, Bor, List, ℕ}
 use Rattle.std.specs.Option.{option_map}
 use Rattle.irs_xml.specs.Namespaces.{latest, namespace_of}
-use Rattle.irs_xml.specs.TagViews.{scope_view}
+use Rattle.irs_xml.specs.Private.TagViews.{scope_view}
 use Rattle.irs_xml.proofs.namespaces.namespace.Given as goal
 
 -- what is left, after what was found, gives what all gives

@@ -1,7 +1,7 @@
 use Rattle.std.proofs.Common.{length}
 use denote.Text.{Utf8}
 use denote.Shadow.{shadow}
-use Rattle.irs_xml.specs.Reading.{SplitsName}
+use Rattle.irs_xml.specs.Private.Reading.{SplitsName}
 use Rattle.irs_xml.proofs.reader.name_rest.Given as goal
 
 -- what is left is UTF-8, and the text is characters of a name and then what is left

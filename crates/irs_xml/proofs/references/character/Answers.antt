@@ -1,5 +1,5 @@
 use Rattle.std.proofs.Common.{refl}
-use Rattle.irs_xml.specs.Reading.{character_at}
+use Rattle.irs_xml.specs.Private.Reading.{character_at}
 use Rattle.irs_xml.proofs.Allowed.{no_char}
 use Rattle.irs_xml.proofs.references.character.Goals as goal
 

@@ -1,5 +1,5 @@
 use Rattle.std.proofs.Common.{◌≡◌, ◌≤◌, length}
-use Rattle.irs_xml.specs.Reading.{digits_at, number_at}
+use Rattle.irs_xml.specs.Private.Reading.{digits_at, number_at}
 use Rattle.irs_xml.proofs.references.number.Given as goal
 
 -- the digits that are left, after this number, give what all of them give

@@ -1,8 +1,8 @@
 use Rattle.std.proofs.Common.{◌≡◌, [], ◌∷◌, ◌++◌, map, sym, ◌∙◌, ap}
 use Rattle.std.proofs.lemmas.List.{map_push}
 use Rattle.std.proofs.lemmas.Result.{err_from_is_err_and}
-use Rattle.irs_xml.specs.Reading.{setting_at}
-use Rattle.irs_xml.specs.TagViews.{setting_view}
+use Rattle.irs_xml.specs.Private.Reading.{setting_at}
+use Rattle.irs_xml.specs.Private.TagViews.{setting_view}
 use Rattle.irs_xml.proofs.SettingSteps.{took, took_none, behind_gap, fails_then, settings_end, settings_full, settings_close, settings_wrong, settings_more}
 use Rattle.irs_xml.proofs.tags.settings.Goals as goal
 

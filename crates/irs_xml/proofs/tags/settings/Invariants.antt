@@ -1,7 +1,7 @@
 use Rattle.std.proofs.Common.{◌≡◌, [], map}
 use Rattle.irs_xml.specs.Content.{most_attributes}
-use Rattle.irs_xml.specs.Reading.{settings_at}
-use Rattle.irs_xml.specs.TagViews.{setting_view}
+use Rattle.irs_xml.specs.Private.Reading.{settings_at}
+use Rattle.irs_xml.specs.Private.TagViews.{setting_view}
 use Rattle.irs_xml.proofs.tags.settings.Given as goal
 
 -- what is left, after the attributes so far, gives what the whole gives

@@ -1,5 +1,5 @@
 use Rattle.std.proofs.Common.{◌≡◌, drop}
-use Rattle.irs_xml.specs.Reading.{after_any_case}
+use Rattle.irs_xml.specs.Private.Reading.{after_any_case}
 use Rattle.irs_xml.specs.Seen.{seen}
 use Rattle.irs_xml.proofs.reader.Reader.eat_any_case.Given as goal
 

@@ -1,5 +1,5 @@
 use Rattle.std.proofs.Common.{◌≡◌, length}
-use Rattle.irs_xml.specs.Reading.{skip_space}
+use Rattle.irs_xml.specs.Private.Reading.{skip_space}
 use Rattle.irs_xml.specs.Seen.{seen}
 use Rattle.irs_xml.proofs.reader.Reader.skip_space.Given as goal
 

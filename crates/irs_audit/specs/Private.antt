@@ -1,0 +1,3 @@
+pub mod FieldTables
+pub mod RowSets
+pub mod StreamSets

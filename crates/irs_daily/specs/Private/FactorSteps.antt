@@ -1,0 +1,56 @@
+-- Private: no public contract rests on this file.
+-- One step of a factor, and what is known of it through the observations.
+use Rattle.std.specs.Prelude.{◌≡◌, ℕ, ◌+◌, ◌*◌, ◌^◌, ◌<◌, ◌≤◌, List, Option, Some, None, ℤ, pos, ◌+ℤ◌, ◌*ℤ◌, unsigned_abs}
+use Rattle.irs_base.specs.Rounding.{Rounded}
+use Rattle.irs_base.specs.declared.rounding.Direction.TheVariants.{Nearest}
+use Rattle.irs_observed.specs.DailyRates.{AreKnown, DailyRates}
+use Rattle.irs_observed.specs.Factors.{one_factor, year_of}
+use Rattle.irs_observed.specs.ObservedRates.{PassesLimit, days_of_year, rate_precision}
+use Rattle.irs_observed.specs.declared.method.DailyRateMethod.{DailyRateMethod}
+use Rattle.irs_observed.specs.declared.method.DailyRateMethod.TheVariants.{Compounding, Averaging}
+use Rattle.irs_observed.specs.declared.observation.Observation.{Observation}
+use Rattle.irs_daily.specs.PeriodFactors.{IsFactor}
+use Rattle.irs_daily.specs.declared.growth.Growth.{Growth}
+use Rattle.irs_daily.specs.declared.growth.Growth.TheVariants.{Known, Passed, Absent}
+
+-- the factor before the first observation, or the empty sum
+abbrev pub first_factor : DailyRateMethod → ℤ
+first_factor (Compounding year) = one_factor rate_precision
+first_factor Averaging = pos 0
+
+-- the factor f becomes g by a daily rate over a number of days.
+-- A sum grows in size by at most 10 times these days.
+abbrev pub StepsBy : DailyRateMethod → ℤ → ℕ → ℤ → ℤ → Type 0
+StepsBy (Compounding year) rate weight f g =
+    Rounded Nearest (f *ℤ (year_of (days_of_year year) +ℤ rate *ℤ pos weight)) (year_of (days_of_year year)) g
+StepsBy Averaging rate weight f g =
+    (g ≡ f +ℤ rate *ℤ pos weight) × (unsigned_abs g ≤ unsigned_abs f + 10 ^ 10 * weight)
+
+-- the greatest factor in size of which the next one is worked out
+abbrev pub most_factor : ℕ
+most_factor = 10 ^ 22
+
+-- a known factor is no greater than that
+abbrev pub IsSmall : Growth → Type 0
+IsSmall (Known f) = unsigned_abs f ≤ most_factor
+IsSmall Passed = Unit {0}
+IsSmall Absent = Unit {0}
+
+-- what becomes of the factor f with a rate: the next factor, or that it passes the limit
+abbrev pub IsStepped : DailyRateMethod → ℤ → ℕ → ℤ → Growth → Type 0
+IsStepped method rate weight f (Known g) = StepsBy method rate weight f g × (unsigned_abs g ≤ most_factor)
+IsStepped method rate weight f Passed = (g : ℤ) × StepsBy method rate weight f g × (most_factor < unsigned_abs g)
+IsStepped method rate weight f Absent = ⊥
+
+-- what is known after one observation more, of this rate and weight
+abbrev pub IsNext : DailyRateMethod → Option ℤ → ℕ → Growth → Growth → Type 0
+IsNext method None weight before after = after ≡ Absent
+IsNext method (Some rate) weight (Known f) after = IsStepped method rate weight f after
+IsNext method (Some rate) weight Passed after = after ≡ Passed
+IsNext method (Some rate) weight Absent after = after ≡ Absent
+
+-- what is known of the factor after all observations
+abbrev pub IsGrowthOf : DailyRateMethod → DailyRates → List Observation → Growth → Type 0
+IsGrowthOf method daily os (Known f) = (PassesLimit method daily os → ⊥) × IsFactor method daily os f
+IsGrowthOf method daily os Passed = PassesLimit method daily os
+IsGrowthOf method daily os Absent = AreKnown daily os → ⊥

@@ -1,0 +1,3 @@
+pub mod NetTotals
+pub mod FoundParties
+pub mod SidesTo

@@ -1,0 +1,2 @@
+pub mod ObservationWalk
+pub mod OvernightWalk

@@ -1,0 +1,36 @@
+-- Private: no public contract rests on this file.
+-- A part of a schedule that was made, and a calculation period of it whose rate isn't known.
+use Rattle.std.specs.Prelude.{ℕ, List}
+use Rattle.irs_base.specs.Members.{HoldsOf}
+use Rattle.irs_terms.specs.Lawful.{IsLawfulStream}
+use Rattle.irs_terms.specs.declared.results.Span.{Span}
+use Rattle.irs_terms.specs.declared.stream.Stream.{Stream}
+use Rattle.irs_calendar.specs.declared.sections.Section.{Section}
+use Rattle.irs_periods.specs.Outcomes.{regular_span_of}
+use Rattle.irs_resets.specs.Rates.{RateTable}
+use Rattle.irs_resets.specs.Resets.{ResetSource, source_of}
+use Rattle.irs_rules.specs.TermsKept.{TermsKept}
+use Rattle.irs_schedule.specs.DaySets.{fixing_days, reset_days, stream_sets}
+use Rattle.irs_schedule.specs.Outcomes.{stream_of}
+use Rattle.irs_schedule.specs.Parts.{KeepsBounds, Part}
+use Rattle.irs_unfixed.specs.Unfixed.{LacksRate}
+
+-- the stream has a regular span, which breaks neither K30 nor K31
+abbrev pub HasSpan : Stream → Type 0
+HasSpan s = (span : Span) × (regular_span_of s).Answers span
+
+-- what the resets of a stream are worked out from, over the boundaries of its part of the schedule
+abbrev pub reset_source : List Section → Stream → Part → Span → ResetSource
+reset_source cal s p span = source_of s span p.adjusted (reset_days cal s) (fixing_days cal s)
+
+-- p is what a lawful stream comes to, whose terms keep the rules
+pub record IsMade (cal : List Section) (rates : RateTable) (s : Stream) (p : Part) : Type 0 where
+  pub lawful : IsLawfulStream s
+  pub kept : TermsKept cal s
+  pub made : (stream_of (stream_sets cal s) rates s).Answers p
+  pub bounds : KeepsBounds p
+
+-- the same, and the rate of its period i isn't known
+pub record IsGap (cal : List Section) (rates : RateTable) (s : Stream) (p : Part) (i : ℕ) : Type 0 where
+  pub made : IsMade cal rates s p
+  pub unrated : HoldsOf LacksRate p.periods i
