@@ -13,7 +13,8 @@ use Rattle.irs_payments.specs.Private.Places.{ArePlaces}
 use Rattle.irs_payments.specs.PaymentDates.{LacksResult, LeavesRange}
 use Rattle.irs_payments.specs.Payments.{Covers}
 use Rattle.irs_payments.specs.Private.Dating.{date_place, IsCutPayment, NoneLacks, NoneLeaves, ArePaid, Dated}
-use Rattle.irs_payments.specs.Private.Dating.{LeavesAt, LeavesFirst, LacksAt, LacksFirst, Settles, IsOutcome, IsDateFault}
+use Rattle.irs_payments.specs.Private.Dating.{LeavesAt, LeavesFirst, LacksAt, LacksFirst, Settles, IsOutcome}
+use Rattle.irs_payments.specs.Private.Dating.{IsDateFault}
 use Rattle.irs_base.specs.Elements.{payment_dates}
 use Rattle.irs_base.specs.Faults.{fault_at}
 use Rattle.irs_base.specs.declared.places.Fault.{Fault}

@@ -22,7 +22,8 @@ use Rattle.irs_payments.specs.Private.Places.{ArePlaces}
 use Rattle.irs_payments.specs.PaymentDates.{IsPaymentDate, LacksResult, LeavesRange}
 use Rattle.irs_payments.specs.Payments.{pay_place, CoversPeriods, IsPayment, ArePayments, Covers, PaysFrom, IsLacking}
 use Rattle.irs_payments.specs.Payments.{IsLeaving, BreaksDates}
-use Rattle.irs_payments.specs.Private.Dating.{date_place, IsCutPayment, NoneLacks, NoneLeaves, ArePaid, LacksFirst, OnlyLeaves}
+use Rattle.irs_payments.specs.Private.Dating.{date_place, IsCutPayment, NoneLacks, NoneLeaves, ArePaid, LacksFirst}
+use Rattle.irs_payments.specs.Private.Dating.{OnlyLeaves}
 use Rattle.irs_payments.specs.Private.Dating.{IsDateFault}
 use Rattle.irs_payments.proofs.DateLemmas.{none_lacks, none_leaves}
 use Rattle.irs_payments.proofs.PlaceLemmas.{rises_at, place_below, place_same}

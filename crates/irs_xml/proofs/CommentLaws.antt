@@ -9,7 +9,8 @@ use Rattle.std.specs.Str.{encode_utf8_all}
 use Rattle.irs_xml.specs.Characters.{is_space, is_white, is_gap}
 use Rattle.irs_xml.specs.Comments.{after, lacks, is_comment, comment_text, is_cdata, cdata_text, Instruction, is_apart, is_xml, is_instruction, instruction_text}
 use Rattle.irs_xml.specs.Names.{is_name_char, is_name_start, is_nc_name}
-use Rattle.irs_xml.specs.Private.Reading.{◌>>=◌, choose, name_at, gap_at, skip_space, past, comment_at, instruction_at, data_at}
+use Rattle.irs_xml.specs.Private.Reading.{◌>>=◌, choose, name_at, gap_at, skip_space, past, comment_at, instruction_at}
+use Rattle.irs_xml.specs.Private.Reading.{data_at}
 use Rattle.irs_xml.proofs.Steps.{same_some, bind_some, choose_some, chosen, both_true, true_both, after_sound, after_complete, past_found, begins, gap_sound}
 use Rattle.irs_xml.proofs.NameLaws.{name_sound, name_complete}
 
