@@ -1,4 +1,4 @@
-use Rattle.std.proofs.Common.{◌+◌, ◌∷◌, ◌++◌, [], take, sym, ◌∙◌, ap, ℤ, ◌<ℤ◌, ◌≤ℤ◌, List}
+use Rattle.std.proofs.Common.{◌∷◌, ◌++◌, [], take, sym, ◌∙◌, ap, ◌<ℤ◌, ◌≤ℤ◌, List}
 use Rattle.std.proofs.lemmas.List.{append-nil}
 use Rattle.irs_base.proofs.Orders.{lt_false, lt_true}
 use Rattle.irs_observed.specs.RunningRates.{ends_by, observed_until}
