@@ -16,6 +16,7 @@ from pathlib import Path
 from typing import Any, Callable, Deque, Dict, Iterable, Iterator, List, NamedTuple, Optional, Sequence, Tuple, Union
 
 from .common import Common, Loaded, common_of, loaded, stamp_of
+from .end_lines import end_of
 from .errors import OutOfMemory
 from .files import read_regular
 from .library import Answer, Text, as_bytes, engine
@@ -213,6 +214,27 @@ def _worked(command: str, common: Loaded, batch: Sequence[_Given]) -> List[Outco
         return [outcome for given in batch for outcome in _worked(command, common, [given])]
 
 
+def _unended(common: Loaded, given: _Given) -> Optional[str]:
+    """The first file of a trade that has to have a true end line and has none."""
+    if not common.require_end:
+        return None
+    if common.unended_calendar is not None:
+        return f"calendar {common.unended_calendar}"
+    for name, held in given.own:
+        if not end_of(held):
+            return f"calendar {name}"
+    fixings = given.item.fixings
+    if common.unended_fixings if fixings is None else not end_of(fixings):
+        return "fixings"
+    return None
+
+
+def _without_end(given: _Given, file: str) -> Outcome:
+    """The outcome of a trade with such a file."""
+    why = f"{file}: the last line isn't '# end N' with the number of lines before it"
+    return Outcome(given.trade.name, "bad file", None, f"no-end {file}", why, given.stamp)
+
+
 def failed(trade: Trade, why: str) -> Outcome:
     """The outcome of a trade that couldn't be worked."""
     return Outcome(trade.name, "failed", None, why, "the trade couldn't be worked", stamp(trade))
@@ -239,10 +261,15 @@ def work(command: str, common: Common, chunk: List[Trade]) -> List[Outcome]:
     left = MOST_READ
     for trade in chunk:
         try:
-            batch.append(_given(trade))
+            given = _given(trade)
         except Exception as why:  # what is no file or no text
             done.append(_unworked(trade, why))
             continue
+        unended = _unended(held, given)
+        if unended is not None:
+            done.append(_without_end(given, unended))
+            continue
+        batch.append(given)
         left -= batch[-1].size
         if left <= 0:
             done += _worked(command, held, batch)

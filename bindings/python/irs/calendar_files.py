@@ -11,6 +11,7 @@ from dataclasses import dataclass, replace
 from pathlib import Path
 from typing import FrozenSet, Iterator, List, Sequence, Set, Tuple
 
+from .end_lines import with_end
 from .files import read_text
 from .plain import visible
 from .probes import check_calendars
@@ -75,8 +76,8 @@ def section(calendar: Calendar) -> str:
 
 
 def text_of(calendars: Sequence[Calendar]) -> str:
-    """A calendar file of these sections, which the engine has read; `BadInput` where it refuses it."""
-    text = "".join(section(calendar) for calendar in calendars)
+    """A calendar file of these sections with its end line, which the engine has read; `BadInput` where it refuses it."""
+    text = with_end("".join(section(calendar) for calendar in calendars))
     check_calendars([text])
     return text
 

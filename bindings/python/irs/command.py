@@ -227,6 +227,7 @@ def asked_of(words: argparse.Namespace, common: Common) -> Dict[str, str]:
         "folder": shown(str(words.folder.resolve())),
         "library": engine(),
         "calendars and common fixings": f"{names} {common.stamp}",
+        "end lines": "required" if common.require_end else "",
         "manifest": shown(str(words.names_from.resolve())) if words.names_from else "",
     }
 
@@ -250,6 +251,11 @@ def parser() -> Parser:
     made.add_argument("--resume", action="store_true", help="go on with the journal that is there")
     made.add_argument(
         "--accept", action="append", choices=["unverified"], default=[], help="a verdict that counts as 0"
+    )
+    made.add_argument(
+        "--require-end",
+        action="store_true",
+        help="a calendar file or file of fixings without a true last line '# end N' is a bad file",
     )
     made.add_argument("--jobs", type=count, default=len(os.sched_getaffinity(0)), help="processes (one a processor)")
     made.add_argument("--scheduler", metavar="ADDRESS", help="a dask scheduler, as tcp://host:8786")
@@ -293,7 +299,8 @@ def _summarised(journal: Journal) -> Summary:
 
 def night(words: argparse.Namespace) -> int:
     """The run that the words ask for."""
-    trades, common = _trades(words), common_in(words.folder)
+    trades = _trades(words)
+    common = common_in(words.folder)._replace(require_end=words.require_end)
     _checked(words.csv)
     try:
         # What is wrong with the common files is said once, and processes of this machine have them already.

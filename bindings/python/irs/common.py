@@ -13,6 +13,7 @@ import logging
 from pathlib import Path
 from typing import Dict, List, NamedTuple, Optional, Sequence, Tuple, Union
 
+from .end_lines import end_of, inside
 from .files import read_regular
 from .library import MOST_BYTES, MOST_CALENDARS, Answer, Text, as_bytes
 from .many import Calendar, Item, answers
@@ -28,12 +29,14 @@ NO_CALENDAR = b"refused K12 "
 class Common(NamedTuple):
     """The calendar files and the fixings that all trades have, as bytes or as paths that each worker reads once.
 
-    `calendars` are pairs of a name and the file. `stamp` differs if what the paths hold changes.
+    `calendars` are pairs of a name and the file. `stamp` differs if what the paths hold changes. With `require_end` each
+    calendar file and file of fixings has to end with a true end line, also those of the trades.
     """
 
     calendars: Tuple[Tuple[str, Union[bytes, Path]], ...] = ()
     fixings: Union[bytes, Path, None] = None
     stamp: str = ""
+    require_end: bool = False
 
 
 def common_of(calendars: Sequence[Union[Text, Path]] = (), fixings: Union[Text, Path, None] = None) -> Common:
@@ -74,10 +77,10 @@ def packed(calendars: Sequence[Calendar]) -> List[Calendar]:
     for calendar in sorted(calendars, key=lambda it: len(it[1]), reverse=True):
         least = sizes.index(min(sizes))
         groups[least].append(calendar)
-        sizes[least] += len(calendar[1]) + 1
+        sizes[least] += len(inside(calendar[1])) + 1
     if max(sizes) > MOST_BYTES + 1:
         raise ValueError(f"{len(calendars)} calendar files don't fit into {MOST_CALENDARS} of {MOST_BYTES} bytes")
-    return [(_names(group), b"\n".join(held for _, held in group)) for group in groups]
+    return [(_names(group), b"\n".join(inside(held) for _, held in group)) for group in groups]
 
 
 def _names(calendars: Sequence[Calendar]) -> str:
@@ -173,6 +176,13 @@ class Loaded:
             LOG.warning("%s", left_out(fault))
         self.calendars = packed(sound)
         self.fixings = None if common.fixings is None else _held(common.fixings)
+        #: What has no true end line and has to have one: the first such calendar file, and the fixings.
+        self.unended_calendar: Optional[str] = None
+        self.unended_fixings = False
+        self.require_end = common.require_end
+        if self.require_end:
+            self.unended_calendar = next((name for name, held in read if not end_of(held)), None)
+            self.unended_fixings = self.fixings is not None and not end_of(self.fixings)
 
     def answers(self, command: str, items: Sequence[Item], own: Sequence[Calendar] = ()) -> List[Answer]:
         """The answer of each trade, in order. These trades have their own calendars beside the common ones."""

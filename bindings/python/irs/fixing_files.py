@@ -13,6 +13,7 @@ from pathlib import Path
 from typing import Dict, Iterable, List, Optional, Sequence, Tuple
 
 from .csv_rows import Row, day_of, field_of, rows_of
+from .end_lines import with_end
 from .files import read_text
 from .fixing_needs import Key
 from .plain import visible
@@ -98,12 +99,13 @@ def _key_of(path: Path, row: Row, columns: Columns) -> Key:
 
 
 def text_of(fixings: Dict[Key, Decimal], remarks: Iterable[str] = ()) -> str:
-    """A file of fixings by index, tenor and date, which the engine has read; `BadInput` where it refuses it."""
+    """A file of fixings by index, tenor and date with its end line, which the engine has read; `BadInput` where it
+    refuses it."""
     lines = [f"# {visible(remark)}" for remark in remarks]
     for key in sorted(fixings, key=_order):
         rate = fixings[key].normalize() if fixings[key] else Decimal(0)
         lines.append(f"{key.date} {rate:f} {key.tenor} {key.index}")
-    text = "\n".join(lines) + "\n"
+    text = with_end("".join(f"{line}\n" for line in lines))
     check_fixings(text)
     return text
 

@@ -11,6 +11,7 @@ import irs
 from irs import calendars
 from irs.calendar_sources import spans_of
 from irs.centres import CENTRES
+from irs.end_lines import end_of
 from irs.probes import frequency_of, plain_stream
 
 try:
@@ -319,13 +320,12 @@ class Files(InAFolder):
     def test_csv(self):
         ended = ran(calendars.main, "DESK", "--from", "2024", "--to", "2025", "--source", "csv:days.csv")
         self.assertEqual(ended.status, 0, ended)
-        self.assertTrue(
-            ended.out.endswith(
-                "center DESK\ncover 2024-01-01 2025-12-31\nweekend SAT SUN\n"
-                "2024-01-01\n2024-03-29\n2025-01-01\n2025-04-18\n"
-            ),
+        self.assertIn(
+            "center DESK\ncover 2024-01-01 2025-12-31\nweekend SAT SUN\n"
+            "2024-01-01\n2024-03-29\n2025-01-01\n2025-04-18\n# end ",
             ended.out,
         )
+        self.assertTrue(end_of(ended.out.encode()), ended.out)
 
     def test_the_last_year_of_a_list_is_cut_where_it_is_thin(self):
         day = datetime.date
@@ -447,7 +447,8 @@ class Files(InAFolder):
             "# corrected by the desk: 2024-05-01 is off\n# corrected by the desk: 2024-03-29 is a business day\n",
             ended.out,
         )
-        self.assertTrue(ended.out.endswith("2024-01-01\n2024-05-01\n2025-01-01\n2025-04-18\n"), ended.out)
+        self.assertIn("2024-01-01\n2024-05-01\n2025-01-01\n2025-04-18\n# end ", ended.out)
+        self.assertTrue(end_of(ended.out.encode()), ended.out)
         for correction, says in (
             (("--off", "2024-01-01"), "off in the source"),
             (("--on", "2024-01-02"), "on in the source"),

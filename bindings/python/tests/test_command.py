@@ -214,6 +214,42 @@ class Calendars(Command):
         self.assertNotIn("Traceback", said)
 
 
+class EndLines(Command):
+    """`--require-end`: calendar files and files of fixings that were cut."""
+
+    def setUp(self):
+        super().setUp()
+        calendar = example("business_days/de.cal")
+        self.put("calendars/de.cal", calendar + b"# end %d\n" % calendar.count(b"\n"))
+        self.trade("T1")
+
+    def told(self, *words):
+        status, _, _ = self.run_book("book", "--require-end", *words)
+        return status, {row["name"]: (row["verdict"], row["line"]) for row in self.rows()}
+
+    def test_all_have_one(self):
+        self.assertEqual(self.told()[0], 0)
+        self.assertEqual(self.verdicts(), {"T1": "agrees"})
+
+    def test_a_calendar_without_one(self):
+        self.put("calendars/cut.cal", b"# cut\n")
+        self.assertEqual(self.told(), (1, {"T1": ("bad file", "no-end calendar cut.cal")}))
+        self.assertEqual(self.run_book("book", "--csv", "again.csv")[0], 0)
+
+    def test_fixings_without_one(self):
+        self.put("fixings", b"2024-01-15 0.05 3M A\n")
+        self.trade("T2")
+        self.put("T2.fixings", b"# end 0\n")
+        self.assertEqual(self.told(), (1, {"T1": ("bad file", "no-end fixings"), "T2": ("agrees", self.agreed())}))
+
+    def test_a_false_one(self):
+        self.put("T1.fixings", b"2024-01-15 0.05 3M A\n# end 2\n")
+        self.assertEqual(self.told(), (1, {"T1": ("bad file", "no-end fixings")}))
+
+    def agreed(self):
+        return next(row["line"] for row in self.rows() if row["verdict"] == "agrees")
+
+
 class Odd(Command):
     """One odd entry beside five good trades: the five agree, and the odd one is reported."""
 

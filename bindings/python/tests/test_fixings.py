@@ -6,6 +6,7 @@ from commands import TOP, InAFolder, ran
 
 import irs
 from irs import fixings
+from irs.end_lines import end_of
 from irs.fixing_needs import Key
 
 EXAMPLES = TOP / "examples"
@@ -44,6 +45,7 @@ class FromCsv(InAFolder):
         )
         self.assertEqual(ended.status, 0, ended)
         self.assertEqual(printed(ended.out), ["2025-01-15 0.043 1D USD-SOFR", "2025-01-16 0.0429 1D USD-SOFR"])
+        self.assertTrue(end_of(ended.out.encode()), ended.out)
         self.assertIn(f"# from sofr.csv, column Rate (%) in percent, made {datetime.date.today()}", ended.out)
 
     def test_decimal_comma_and_a_byte_order_mark(self):

@@ -16,7 +16,7 @@ use Rattle.irs_calendar.specs.Machine.{after_cover, after_weekend, after_holiday
 use Rattle.irs_calendar.specs.Sections.{is_named, AreDistinct}
 use Rattle.irs_calendar.specs.Words.{kind_of}
 use Rattle.irs_calendar.specs.Files.{Place, numbered, then_read, sections_in, sections_of}
-use Rattle.irs_base.specs.Lines.{lines_of}
+use Rattle.irs_calendar.specs.EndLines.{seen_lines}
 use Rattle.irs_calendar.specs.Calendars.{Spot, in_file, then_file, calendars_in, GivesAll}
 use Rattle.irs_calendar.proofs.RisingLemmas.{not_true}
 
@@ -173,7 +173,7 @@ calendars_apart k done [] ss h e = subst AreDistinct (same_list e) h
     same_list e = cc e
 calendars_apart k done (f ∷ fs) ss h e =
     let p = then_file_ok (in_file k (sections_of done f)) (λ d. calendars_in (k + 1) d fs) ss e in
-    let apart = sections_apart 1 (record { done = done; part = Between }) (lines_of f) p.0
+    let apart = sections_apart 1 (record { done = done; part = Between }) (seen_lines f) p.0
     (record { done = h; part = tt }) (file_ok k (sections_of done f) p.0 p.1) in
     calendars_apart (k + 1) p.0 fs ss apart p.2
 

@@ -6,7 +6,7 @@ use Rattle.std.proofs.lemmas.List.{append-nil}
 use Rattle.std.proofs.lemmas.Bool.{cases_Bool}
 use Rattle.jiff_core.specs.Calendar.{days_from_civil, day_count, days_of_years, days_of_months}
 use Rattle.irs_base.specs.Limits.{most_holidays}
-use Rattle.irs_base.specs.Lines.{lines_of}
+use Rattle.irs_calendar.specs.EndLines.{seen_lines}
 use Rattle.irs_base.proofs.Orders.{le_true, true_le, both_true}
 use Rattle.irs_calendar.specs.declared.sections.Section.{Section}
 use Rattle.irs_calendar.specs.declared.part.Part.{Part}
@@ -680,7 +680,7 @@ first_in_file : (before after : List (List ℕ)) (file : List ℕ) (earlier : Li
     → CalFiles before earlier → sections_of earlier file ≡ Err p
     → IsFirstFault (before ++ file ∷ after) (record { fault = p.0; file = 1 + length before; line = p.1 })
 first_in_file before after file earlier p c e =
-    let st = stop 1 p.1 (fresh earlier) (lines_of file) p.0 e in
+    let st = stop 1 p.1 (fresh earlier) (seen_lines file) p.0 e in
     record {
       before = before;
       file = file;

@@ -7,6 +7,7 @@ use Rattle.irs_calendar.specs.declared.files.FileErr.TheVariants as errors
 use Rattle.irs_calendar.specs.Machine.{after_line, at_end}
 use Rattle.irs_calendar.specs.Words.{kind_of}
 use Rattle.irs_base.specs.Lines.{lines_of}
+use Rattle.irs_calendar.specs.EndLines.{seen_from}
 use Rattle.irs_calendar.specs.Files.{Place, numbered, then_read, sections_in, FileFails}
 
 -- a line that is read hands its state to the next line
@@ -36,8 +37,8 @@ fails n s line lines more whole (errors.Fault f k) kept split read =
     stops n s line lines more whole (f, k) kept split read
 
 -- after the last line the state at the end is the result
-pub ended : (n : ℕ) (s : State) (rest : List ℕ) (whole : Result (List Section) Place)
-    → sections_in n s (lines_of rest) ≡ whole → length rest ≤ 0 → numbered n (at_end s.done s.part) ≡ whole
+pub ended : (n before : ℕ) (s : State) (rest : List ℕ) (whole : Result (List Section) Place)
+    → sections_in n s (seen_from before (lines_of rest)) ≡ whole → length rest ≤ 0 → numbered n (at_end s.done s.part) ≡ whole
 unfolding sections_in
-ended n s [] whole kept none = kept
-ended n s (b ∷ bs) whole kept none = absurd (omega (arith, none))
+ended n before s [] whole kept none = kept
+ended n before s (b ∷ bs) whole kept none = absurd (omega (arith, none))

@@ -7,7 +7,7 @@ use Rattle.std.specs.Str.{bytes_eq}
 use Rattle.std.proofs.lemmas.List.{append-nil}
 use Rattle.std.proofs.lemmas.Bool.{cases_Bool}
 use Rattle.jiff_core.proofs.SignedLemmas.{signed_arith}
-use Rattle.irs_base.specs.Lines.{lines_of}
+use Rattle.irs_calendar.specs.EndLines.{seen_lines}
 use Rattle.irs_base.proofs.Orders.{le_true, true_le, lt_true, true_lt, both_true}
 use Rattle.irs_calendar.specs.declared.sections.Section.{Section}
 use Rattle.irs_base.specs.Limits.{most_holidays}
@@ -230,7 +230,7 @@ files_continue k done [] ss e =
     record { parts = []; whole = sym (same_list e) ∙ sym (append-nil done); each = tt; lawful = tt }
 files_continue k done (f ∷ fs) ss e =
     let p = then_file_ok (in_file k (sections_of done f)) (λ d. calendars_in (k + 1) d fs) ss e in
-    let here = reads_continue 1 (record { done = done; part = Between }) (lines_of f) p.0 tt
+    let here = reads_continue 1 (record { done = done; part = Between }) (seen_lines f) p.0 tt
     (file_ok k (sections_of done f) p.0 p.1) in
     let rest = files_continue (k + 1) p.0 fs ss p.2 in
     record {
@@ -567,9 +567,9 @@ files_read k done (f ∷ fs) ss [] whole each lawful distinct = absurd each
 files_read k done (f ∷ fs) ss (p ∷ ps) whole each lawful distinct =
     let behind : ss ≡ (done ++ p) ++ joined ps = whole ∙ sym (append_assoc done p (joined ps)) in
     let apart = distinct_front (done ++ p) (joined ps) (subst AreDistinct behind distinct) in
-    let go : Continues (record { done = done; part = Between }) (said_lines (lines_of f)) (done ++ p) =
+    let go : Continues (record { done = done; part = Between }) (said_lines (seen_lines f)) (done ++ p) =
     record { new = p; is = refl; says = each.0; lawful = lawful_front p (joined ps) lawful } in
-    let here = lines_read 1 (record { done = done; part = Between }) (lines_of f) (done ++ p) go apart in
+    let here = lines_read 1 (record { done = done; part = Between }) (seen_lines f) (done ++ p) go apart in
     rw here (files_read (k + 1) (done ++ p) fs ss ps behind each.1 (lawful_back p (joined ps) lawful) distinct)
 
 -- what is spelt is read

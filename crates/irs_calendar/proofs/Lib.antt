@@ -5,6 +5,7 @@ pub mod GrownLemmas
 pub mod CoverLemmas
 pub mod ClosedLemmas
 pub mod MarkLemmas
+pub mod EndLemmas
 pub mod FileLemmas
 pub mod CalendarLemmas
 pub mod DistinctLemmas

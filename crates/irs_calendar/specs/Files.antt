@@ -8,7 +8,7 @@ use Rattle.irs_calendar.specs.declared.files.FileErr.{FileErr}
 use Rattle.irs_calendar.specs.declared.files.FileErr.TheVariants as errors
 use Rattle.irs_calendar.specs.Machine.{after_line, at_end}
 use Rattle.irs_calendar.specs.Words.{kind_of}
-use Rattle.irs_base.specs.Lines.{lines_of}
+use Rattle.irs_calendar.specs.EndLines.{seen_lines}
 
 -- a fault, and the number of its line
 abbrev pub Place : Type 0
@@ -31,7 +31,7 @@ sections_in n s (l ∷ ls) = then_read (numbered n (after_line s (kind_of l))) (
 
 -- all of a file, after the sections of the files before it
 abbrev pub sections_of : List Section → List ℕ → Result (List Section) Place
-sections_of done bytes = sections_in 1 (record { done = done; part = Between }) (lines_of bytes)
+sections_of done bytes = sections_in 1 (record { done = done; part = Between }) (seen_lines bytes)
 
 -- what was returned is what reading gives, unless memory ran out
 abbrev pub FileFails : {Y : Type 0} → FileErr → Result Y Place → Type 0

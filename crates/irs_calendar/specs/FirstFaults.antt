@@ -1,7 +1,7 @@
 -- The first faulty line of calendar files. The lines before it can go on to lawful files, and with it nothing can.
 use Rattle.std.specs.Prelude.{◌≡◌, ◌⊎◌, ℕ, ◌+◌, true, List, [], ◌∷◌, ◌++◌, length, ℤ}
 use Rattle.irs_base.specs.Limits.{most_holidays}
-use Rattle.irs_base.specs.Lines.{lines_of}
+use Rattle.irs_calendar.specs.EndLines.{seen_lines}
 use Rattle.irs_calendar.specs.declared.sections.Section.{Section}
 use Rattle.irs_calendar.specs.declared.machine.Fault.{Fault}
 use Rattle.irs_calendar.specs.declared.machine.Fault.TheVariants.{Syntax, Repeat, TooMany}
@@ -68,7 +68,7 @@ pub record IsFirstFault (files : List (List ℕ)) (s : Spot) : Type 0 where
   pub lines : List (List ℕ)
   pub rest : List (List ℕ)
   pub files_are : files ≡ before ++ file ∷ after
-  pub lines_are : lines_of file ≡ lines ++ rest
+  pub lines_are : seen_lines file ≡ lines ++ rest
   pub file_number : s.file ≡ 1 + length before
   pub line_number : s.line ≡ 1 + length lines
   pub goes_on : CanGoOn before lines

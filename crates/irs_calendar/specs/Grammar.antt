@@ -1,6 +1,6 @@
 -- How calendar files spell the sections of centres.
 use Rattle.std.specs.Prelude.{◌≡◌, ℕ, ◌≤◌, List, [], ◌∷◌, ◌++◌, map, length, ℤ, pos, ◌+ℤ◌, ◌≤ℤ◌}
-use Rattle.irs_base.specs.Lines.{lines_of}
+use Rattle.irs_calendar.specs.EndLines.{seen_lines}
 use Rattle.irs_calendar.specs.declared.sections.Section.{Section}
 use Rattle.irs_base.specs.Limits.{most_holidays}
 use Rattle.irs_calendar.specs.Machine.{Said, Nothing, Center, Cover, Weekend, Holiday, Wrong}
@@ -45,12 +45,12 @@ abbrev pub AreLawful : List Section → Type 0
 AreLawful [] = Unit {0}
 AreLawful (s ∷ ss) = IsLawful s × AreLawful ss
 
--- each file spells its part of the sections
+-- each file spells its part of the sections, where a false end line spells none
 abbrev pub AreSpelt : List (List ℕ) → List (List Section) → Type 0
 AreSpelt [] [] = Unit {0}
 AreSpelt [] (p ∷ ps) = ⊥
 AreSpelt (f ∷ fs) [] = ⊥
-AreSpelt (f ∷ fs) (p ∷ ps) = (said_lines (lines_of f) ≡ spelt p) × AreSpelt fs ps
+AreSpelt (f ∷ fs) (p ∷ ps) = (said_lines (seen_lines f) ≡ spelt p) × AreSpelt fs ps
 
 -- all parts one after another
 abbrev pub joined : List (List Section) → List Section

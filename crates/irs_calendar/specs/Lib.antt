@@ -6,6 +6,7 @@ pub mod Sections
 pub mod Places
 pub mod Selected
 pub mod Words
+pub mod EndLines
 pub mod Machine
 pub mod Files
 pub mod Calendars

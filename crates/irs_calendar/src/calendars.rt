@@ -2,8 +2,8 @@
 //!
 //! A file is a list of sections, possibly none. Each part of a section is on a line of its
 //! own. They are `center NAME`, `cover DATE DATE`, `weekend` with 0 to 7 different names of MON to
-//! SUN, and then the holidays. The holidays rise strictly inside the cover. The format is
-//! ours.
+//! SUN, and then the holidays. The holidays rise strictly inside the cover. The last line may be an
+//! end line. The format is ours.
 ghost use Rattle.std.specs.Prelude.{◌≡◌, ◌≤◌, List, [], length, map, Some, Ok, All, IsOk, IfOk, IfErr};
 ghost use Rattle.std.specs.Prelude.{IfSome, IsSome, None};
 ghost use Rattle.irs_base.specs.Limits.{most_bytes, most_centers, most_files};

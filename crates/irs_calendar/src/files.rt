@@ -5,11 +5,11 @@ ghost use Rattle.irs_calendar.specs.Machine.{after_line, at_end};
 ghost use Rattle.irs_calendar.specs.Words.{kind_of};
 ghost use Rattle.irs_calendar.specs.Files.{numbered, sections_of, GivesFile};
 
+use crate::end_lines::split_seen;
 use crate::machine::{Fault, StepErr, step};
 use crate::part::{Part, State};
 use crate::section_list::SectionList;
 use crate::words::said;
-use irs_base::split_line;
 use std::alloc::Global;
 
 /// The first faulty line, or out of memory.
@@ -58,12 +58,12 @@ pub fn read_file(alloc: Global, done: SectionList, bytes: &[u8]) -> Result<Secti
         part: Part::Between,
     };
     let mut rest = bytes;
-    let mut number: u32 = 1;
+    let mut before: u32 = 0;
     while !rest.is_empty() {
-        let (line, more) = split_line(rest);
-        state = read_line(alloc, state, line, number)?;
+        let (line, more) = split_seen(rest, before);
+        before += 1;
+        state = read_line(alloc, state, line, before)?;
         rest = more;
-        number += 1;
     }
-    read_end(alloc, state, number)
+    read_end(alloc, state, before + 1)
 }

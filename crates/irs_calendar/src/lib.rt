@@ -3,6 +3,7 @@
 
 mod calendars;
 mod chosen;
+mod end_lines;
 mod files;
 mod good_days;
 mod holidays;
@@ -20,6 +21,7 @@ mod weekends;
 mod words;
 
 pub use calendars::{CalErr, Calendars, SelErr};
+pub use end_lines::split_seen;
 pub use good_days::GoodDays;
 pub use run_set::RunSet;
 pub use steps::Steps;

@@ -1,16 +1,19 @@
 -- The text of derived rates is a fixing file that has exactly their rates.
 use Rattle.std.proofs.Common.{◌≡◌, ◌≢◌, ◌⊎◌, ◌==◌, ℕ, zero, suc, ◌+◌, ◌-◌, ◌^◌, ◌<◌, ◌≤◌, List, [], ◌∷◌, ◌++◌, length}
 use Rattle.std.proofs.Common.{map, All, inl, inr, Bool, true, false, Option, Some, ℤ, refl, sym, subst, ap, ◌∙◌, arith}
-use Rattle.std.proofs.Common.{append_assoc, codes}
+use Rattle.std.proofs.Common.{◌&&◌, append_assoc, codes}
 use Rattle.std.specs.Prelude.{get_or, slice_get}
 use Rattle.std.specs.List.{flat_map}
 use Rattle.std.specs.Fmt.{decimal}
+use Rattle.std.proofs.lemmas.Bool.{cases_Bool}
 use Rattle.std.proofs.lemmas.Bool.Decides.{nat_tests}
 use Rattle.jiff_core.proofs.SignedLemmas.{signed_arith}
 use Rattle.irs_base.proofs.DecimalLemmas.{one_decimal}
 use Rattle.irs_base.specs.Days.{IsDay}
 use Rattle.irs_base.specs.Lines.{lines_of, with_byte}
 use Rattle.irs_base.specs.Texts.{day_text, dec_text}
+use Rattle.irs_calendar.specs.EndLines.{EndsTruly, is_end_line, is_false_end, is_none, seen_from, seen_lines}
+use Rattle.irs_calendar.proofs.EndLemmas.{truly_seen}
 use Rattle.irs_terms.specs.Lawful.{IsRate}
 use Rattle.irs_terms.specs.declared.frequency.Frequency.{Frequency}
 use Rattle.irs_resets.specs.FixingFiles.{Fixes, IsBad, IsFaulty, IsLine, Repeats, line_at}
@@ -143,6 +146,53 @@ at_row tenor index [] k row at = absurd (cc)
 at_row tenor index (x ∷ rows) zero row at = let e : x ≡ row = cc in (omega arith, ap (line_of tenor index) e)
 at_row tenor index (x ∷ rows) (suc k) row at = let rest = at_row tenor index rows k row at in let low = rest.0 in
     (omega (arith, low), rest.1)
+
+-- ---- no line of the file is an end line
+
+-- none of these lines is an end line
+abbrev NoEnds : List (List ℕ) → Type 0
+NoEnds [] = Unit {0}
+NoEnds (l ∷ ls) = (is_end_line l ≡ false) × NoEnds ls
+
+ends_truly : (before : ℕ) (ls : List (List ℕ)) → NoEnds ls → EndsTruly before ls
+ends_truly before [] h = tt
+ends_truly before (l ∷ ls) h = (no_false_end (is_none ls) before l h.0, ends_truly (before + 1) ls h.1)
+  where
+    no_false_end : (last : Bool) (before : ℕ) (line : List ℕ) → is_end_line line ≡ false
+        → (last && is_false_end before line) ≡ false
+    no_false_end true before line e = rw e refl
+    no_false_end false before line e = refl
+
+-- an end line is a comment of a fixing file
+end_passed : (line : List ℕ) → is_end_line line ≡ true → is_passed line ≡ true
+end_passed [] e = absurd (cc)
+end_passed (b ∷ bs) e = hash (b == 35) refl
+  where
+    hash : (h : Bool) → h ≡ (b == 35) → is_passed (b ∷ bs) ≡ true
+    hash true s = rw (sym s) refl
+    hash false s = absurd (let x = rw (sym s) at e in cc)
+
+-- what spells a fixing is no end line
+spelt_no_end : (line name : List ℕ) (slot : Slot) (rate : ℤ) → Spells line name slot rate → is_end_line line ≡ false
+spelt_no_end line name slot rate s = elim (cases_Bool (is_end_line line)) [
+  | inl end ↦ absurd (passed_none line name slot rate (end_passed line end) s)
+  | inr other ↦ other
+]
+
+row_no_end : (row : DerivedRow) (found : Found) (tenor : Option Frequency) (index : List ℕ) → IsDay row.fixing
+    → IsLawfulLine index tenor → IsSmallFound found → is_end_line (fields_of row found tenor index) ≡ false
+row_no_end row (Rate x) tenor index day lawful small =
+    spelt_no_end (fields_of row (Rate x) tenor index) index (record { date = row.fixing; tenor = tenor }) x
+    (reads_as row (Rate x) tenor index day lawful small)
+row_no_end row (Missing d) tenor index day lawful small = refl
+
+rows_no_ends : (tenor : Option Frequency) (index : List ℕ) → IsLawfulLine index tenor → (rows : List DerivedRow)
+    → AreKept rows → NoEnds (map (line_of tenor index) rows)
+rows_no_ends tenor index lawful [] h = tt
+rows_no_ends tenor index lawful (row ∷ rows) h = (
+  row_no_end row row.found tenor index (h.days 0 row refl) lawful (h.rates 0 row refl),
+  rows_no_ends tenor index lawful rows (kept_rest row rows h),
+)
 
 -- a line is the first one, or that of a row
 pub record IsRowLine (tenor : Option Frequency) (index : List ℕ) (rows : List DerivedRow) (n : ℕ) : Type 0 where
@@ -299,13 +349,19 @@ module _ (tenor : Option Frequency) (index : List ℕ) (rows : List DerivedRow) 
       let rest = flat_map (λ (r : DerivedRow). derived_text_of r tenor index) rows in
       head_step rest ∙ ap (λ (ls : List (List ℕ)). head_line ∷ ls) (row_lines tenor index lawful rows kept)
 
+  -- the file holds no false end line, so its lines are read as they are
+  all_seen : seen_lines (file_text rows tenor index) ≡ lines
+  all_seen =
+      ap (seen_from 0) all_lines
+      ∙ truly_seen 0 lines (ends_truly 0 lines (refl, rows_no_ends tenor index lawful rows kept))
+
   -- the rows are those of a fixing file
   pub are_fixings : AreFixings rows tenor index
   are_fixings = record {
-    clean = λ n f. not_faulty n (subst (λ (ls : List (List ℕ)). IsFaulty ls n) all_lines f);
+    clean = λ n f. not_faulty n (subst (λ (ls : List (List ℕ)). IsFaulty ls n) all_seen f);
     holds = λ name slot rate. (
-      λ h. (fixes_row h.0 name slot rate (subst (λ (ls : List (List ℕ)). Fixes ls h.0 name slot rate) all_lines h.1)).0,
+      λ h. (fixes_row h.0 name slot rate (subst (λ (ls : List (List ℕ)). Fixes ls h.0 name slot rate) all_seen h.1)).0,
       λ h. let n = row_fixes name slot rate h in
-          (n.0, subst (λ (ls : List (List ℕ)). Fixes ls n.0 name slot rate) (sym all_lines) n.1),
+          (n.0, subst (λ (ls : List (List ℕ)). Fixes ls n.0 name slot rate) (sym all_seen) n.1),
     );
   }

@@ -2,7 +2,7 @@
 use Rattle.std.specs.Prelude.{◌≡◌, ◌↔◌, ℕ, ◌^◌, ◌<◌, List, ◌++◌, codes, Option, Some, ℤ, ◌<ℤ◌, slice_get}
 use Rattle.std.specs.List.{flat_map}
 use Rattle.irs_base.specs.Days.{IsDay}
-use Rattle.irs_base.specs.Lines.{lines_of}
+use Rattle.irs_calendar.specs.EndLines.{seen_lines}
 use Rattle.irs_terms.specs.Lawful.{IsRate}
 use Rattle.irs_terms.specs.declared.frequency.Frequency.{Frequency}
 use Rattle.irs_resets.specs.FixingFiles.{Fixes, IsFaulty}
@@ -41,9 +41,9 @@ pub record HasRate (rows : List DerivedRow) (tenor : Option Frequency) (index na
 
 -- the text is a fixing file, and its lines give exactly the rates of the rows
 pub record AreFixings (rows : List DerivedRow) (tenor : Option Frequency) (index : List ℕ) : Type 0 where
-  pub clean : (n : ℕ) → IsFaulty (lines_of (file_text rows tenor index)) n → ⊥
+  pub clean : (n : ℕ) → IsFaulty (seen_lines (file_text rows tenor index)) n → ⊥
   pub holds : (name : List ℕ) (slot : Slot) (rate : ℤ)
-      → ((n : ℕ) × Fixes (lines_of (file_text rows tenor index)) n name slot rate)
+      → ((n : ℕ) × Fixes (seen_lines (file_text rows tenor index)) n name slot rate)
       ↔ HasRate rows tenor index name slot rate
 
 -- the fixing date and the rate of a row are in range

@@ -18,6 +18,7 @@ use Rattle.irs_base.proofs.Firsts.{lt_false}
 use Rattle.irs_base.proofs.Orders.{both_true}
 use Rattle.irs_resets.proofs.SlotLemmas.{slot_same, slot_itself}
 use Rattle.irs_base.specs.Lines.{lines_of}
+use Rattle.irs_calendar.specs.EndLines.{seen_from, seen_lines}
 use Rattle.irs_base.specs.Order.{First}
 use Rattle.irs_resets.specs.Rates.{RateTable, rate_at, is_slot}
 use Rattle.irs_resets.specs.FixingLines.{Spells, second_text}
@@ -305,10 +306,10 @@ repeat_first lines k line left more table r e s =
     (fault, first_faulty lines k (inr fault) r.clean)
 
 -- the whole file
-pub whole_file : (bytes rest : List ℕ) (k : ℕ) (table : RateTable) → ReadTo (lines_of bytes) k (lines_of rest) table
-    → length rest ≤ 0 → IsFixingFile bytes table
-whole_file bytes [] k table r none =
-    let lines : List (List ℕ) = lines_of bytes in
+pub whole_file : (bytes rest : List ℕ) (k before : ℕ) (table : RateTable)
+    → ReadTo (seen_lines bytes) k (seen_from before (lines_of rest)) table → length rest ≤ 0 → IsFixingFile bytes table
+whole_file bytes [] k before table r none =
+    let lines : List (List ℕ) = seen_lines bytes in
     let few : length lines ≤ k - 1 = drop_none lines (k - 1) r.rest in
     let below_k : (n : ℕ) → IsLine lines n → n < k = λ n l. omega (arith, l.1, few, r.some) in
     record {
@@ -322,7 +323,7 @@ whole_file bytes [] k table r none =
         λ p. r.complete index slot rate p.0 (below_k p.0 p.1.is_line) p.1,
       );
     }
-whole_file bytes (b ∷ bs) k table r none = absurd (omega (arith, none))
+whole_file bytes (b ∷ bs) k before table r none = absurd (omega (arith, none))
 
 -- there is no rate where none was found
 pub no_rate : (o : Option ℤ) → is_some o ≡ false → o ≡ None

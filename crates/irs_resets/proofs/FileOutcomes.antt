@@ -1,5 +1,5 @@
 -- A file of fixings has one outcome: rates, or a first line at fault.
-use Rattle.std.proofs.Common.{◌≡◌, ◌⊎◌, inl, inr, ℕ, ◌+◌, ◌≤◌, Bool, true, false, List, [], ◌∷◌, length, Option}
+use Rattle.std.proofs.Common.{◌≡◌, ◌⊎◌, inl, inr, ℕ, ◌+◌, ◌≤◌, Bool, true, false, ◌&&◌, List, [], ◌∷◌, length, Option}
 use Rattle.std.proofs.Common.{Some, None, ℤ, IsTrue, Err, refl, sym, ap, ap₂, subst, ◌∙◌, arith, cond, true≢false}
 use Rattle.std.specs.Prelude.{nat_lt, ◌↔◌}
 use Rattle.std.specs.Cmp.Lexicographic.{nat_list_eq_equiv}
@@ -8,6 +8,7 @@ use Rattle.std.specs.Str.{bytes_eq}
 use Rattle.std.proofs.lemmas.Bool.{cases_Bool}
 use Rattle.std.proofs.lemmas.Slice.Eq.{bytes_eq-Decides}
 use Rattle.irs_base.specs.Lines.{lines_of}
+use Rattle.irs_calendar.specs.EndLines.{bad_line, is_false_end, is_none, line_seen, seen_from, seen_lines}
 use Rattle.irs_base.specs.Order.{IsDecided}
 use Rattle.irs_base.proofs.Firsts.{one_first, tied_last}
 use Rattle.irs_resets.specs.FixingFiles.{IsBad, IsFaulty, IsFirstFault, IsFixingFault, IsFixingFile}
@@ -32,16 +33,16 @@ not_both lines n h k = h.bad.spells_none k.index k.slot k.rate k.here.spelt
 
 -- a file has one first line at fault
 pub one_fault : (bytes : List ℕ) (f g : FixErr) → IsFixingFault bytes f → IsFixingFault bytes g → g ≡ f
-one_fault bytes (Syntax m) (Syntax n) h k = let lines = lines_of bytes in
+one_fault bytes (Syntax m) (Syntax n) h k = let lines = seen_lines bytes in
     ap (λ (x : ℕ). Syntax x) (same_line (IsBad lines) (IsBad lines) lines n m k h)
-one_fault bytes (Repeat m) (Repeat n) h k = let lines = lines_of bytes in
+one_fault bytes (Repeat m) (Repeat n) h k = let lines = seen_lines bytes in
     ap (λ (x : ℕ). Repeat x) (same_line (Repeats lines) (Repeats lines) lines n m k h)
 one_fault bytes (Syntax m) (Repeat n) h k =
-    let lines = lines_of bytes in
+    let lines = seen_lines bytes in
     let e : m ≡ n = same_line (IsBad lines) (Repeats lines) lines m n h k in
     absurd (not_both lines n (subst (λ (x : ℕ). IsBad lines x) e h.0) k.0)
 one_fault bytes (Repeat m) (Syntax n) h k =
-    let lines = lines_of bytes in
+    let lines = seen_lines bytes in
     let e : n ≡ m = same_line (IsBad lines) (Repeats lines) lines n m k h in
     absurd (not_both lines m (subst (λ (x : ℕ). IsBad lines x) e k.0) h.0)
 one_fault bytes Memory g h k = absurd h
@@ -118,7 +119,7 @@ FileOutcome bytes = ((f : FixErr) × IsFixingFault bytes f) ⊎ ((table : RateTa
 
 module _ (bytes : List ℕ) where
   -- nothing was read yet
-  begins : ReadTo (lines_of bytes) 1 (lines_of bytes) []
+  begins : ReadTo (seen_lines bytes) 1 (seen_lines bytes) []
   begins = record {
     some = omega arith;
     rest = refl;
@@ -132,18 +133,18 @@ module _ (bytes : List ℕ) where
 
   -- a line that spells a fixing is at fault, or its rate is taken and the next lines are read
   spelt_line : (line : List ℕ) (more : List (List ℕ)) (k : ℕ) (table : RateTable)
-      → ReadTo (lines_of bytes) k (line ∷ more) table → (s : IsSpelt line)
-      → ((grown : RateTable) → ReadTo (lines_of bytes) (k + 1) more grown → FileOutcome bytes) → (old : Option ℤ)
+      → ReadTo (seen_lines bytes) k (line ∷ more) table → (s : IsSpelt line)
+      → ((grown : RateTable) → ReadTo (seen_lines bytes) (k + 1) more grown → FileOutcome bytes) → (old : Option ℤ)
       → rate_at table s.index s.slot ≡ old → FileOutcome bytes
   spelt_line line more k table r s next None e =
       let grown = with_rate table s.index s.slot s.rate in
-      next grown (takes (lines_of bytes) k line more table grown r (record {
+      next grown (takes (seen_lines bytes) k line more table grown r (record {
         more = record { index = s.index; slot = s.slot; rate = s.rate; spelt = s.spelt; absent = e };
         adds = adds_rate table s.index s.slot s.rate;
       }))
   spelt_line line more k table r s next (Some v) e = inl (
     Repeat k,
-    repeat_first (lines_of bytes) k line (line ∷ more) more table r refl (record {
+    repeat_first (seen_lines bytes) k line (line ∷ more) more table r refl (record {
       index = s.index;
       slot = s.slot;
       rate = s.rate;
@@ -152,18 +153,18 @@ module _ (bytes : List ℕ) where
     }),
   )
 
-  read_on : (left : List (List ℕ)) (k : ℕ) (table : RateTable) → ReadTo (lines_of bytes) k left table → EachDecided left
+  read_on : (left : List (List ℕ)) (k : ℕ) (table : RateTable) → ReadTo (seen_lines bytes) k left table → EachDecided left
       → FileOutcome bytes
-  read_on [] k table r d = inr (table, whole_file bytes [] k table r (omega arith))
+  read_on [] k table r d = inr (table, whole_file bytes [] k 0 table r (omega arith))
   read_on (line ∷ more) k table r d = elim (cases_Bool (is_passed line)) [
-    | inl passed ↦ read_on more (k + 1) table (passes (lines_of bytes) k line more table r passed) d.1
+    | inl passed ↦ read_on more (k + 1) table (passes (seen_lines bytes) k line more table r passed) d.1
     | inr not ↦ elim d.0 [
       | inl s ↦
           spelt_line line more k table r s (λ grown next. read_on more (k + 1) grown next d.1)
           (rate_at table s.index s.slot) refl
       | inr none ↦ inl (
         Syntax k,
-        bad_first (lines_of bytes) k line (line ∷ more) more table r refl (record {
+        bad_first (seen_lines bytes) k line (line ∷ more) more table r refl (record {
           not_passed = not;
           spells_none = λ index slot rate spelt.
               none (record { index = index; slot = slot; rate = rate; spelt = spelt });
@@ -173,8 +174,8 @@ module _ (bytes : List ℕ) where
   ]
 
   -- a file gives one set of rates, or one first fault
-  pub file_determined : EachDecided (lines_of bytes) → DeterminedUpTo SameRates (fixings_of bytes)
-  file_determined d = elim (read_on (lines_of bytes) 1 [] begins d) [
+  pub file_determined : EachDecided (seen_lines bytes) → DeterminedUpTo SameRates (fixings_of bytes)
+  file_determined d = elim (read_on (seen_lines bytes) 1 [] begins d) [
     | inl fault ↦
         refused fault.0 (record { is = fault.1; only = λ g h. one_fault bytes fault.0 g fault.1 h })
         (λ table h. no_rates bytes fault.0 table fault.1 h)
@@ -197,14 +198,31 @@ pub none_left : (rest : List ℕ) → length rest ≤ 0 → EachDecided (lines_o
 none_left [] h = tt
 none_left (b ∷ bs) h = absurd (omega (arith, h))
 
+-- a false end line spells no fixing: it has no date
+bad_spells_none : IsSpelt bad_line → ⊥
+bad_spells_none s = let d = s.spelt.date in cc
+
+one_decided : (last : Bool) (before : ℕ) (line : List ℕ) → IsDecided (IsSpelt line)
+    → IsDecided (IsSpelt (line_seen last before line))
+one_decided last before line d = elim (cases_Bool (last && is_false_end before line)) [
+  | inl false_end ↦ rw false_end (inr bad_spells_none)
+  | inr other ↦ rw other d
+]
+
+-- lines that are decided are so as they are read
+pub seen_decided : (before : ℕ) (lines : List (List ℕ)) → EachDecided lines → EachDecided (seen_from before lines)
+seen_decided before [] d = tt
+seen_decided before (line ∷ lines) d =
+    (one_decided (is_none lines) before line d.0, seen_decided (before + 1) lines d.1)
+
 -- the fault of the next line is the first of the file
 pub next_fault : (bytes : List ℕ) (k : ℕ) (line : List ℕ) (left more : List (List ℕ)) (table : RateTable) (e : FixErr)
-    → ReadTo (lines_of bytes) k left table → left ≡ line ∷ more → MeetsFile (line_of table line k) (Err e)
+    → ReadTo (seen_lines bytes) k left table → left ≡ line ∷ more → MeetsFile (line_of table line k) (Err e)
     → MeetsFile (fixings_of bytes) (Err e)
 next_fault bytes k line left more table (Syntax n) r is h =
-    let lines = lines_of bytes in
+    let lines = seen_lines bytes in
     subst (λ (m : ℕ). IsFirstFault (IsBad lines) lines m) (sym h.0) (bad_first lines k line left more table r is h.1)
 next_fault bytes k line left more table (Repeat n) r is h =
-    let lines = lines_of bytes in
+    let lines = seen_lines bytes in
     subst (λ (m : ℕ). IsFirstFault (Repeats lines) lines m) (sym h.0) (repeat_first lines k line left more table r is h.1)
 next_fault bytes k line left more table Memory r is h = tt

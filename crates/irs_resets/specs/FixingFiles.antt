@@ -1,7 +1,8 @@
--- What a fixing file holds, and its first line that is at fault. Lines count from 1.
+-- What a fixing file holds, and its first line that is at fault. Lines count from 1. They are those that are read:
+-- a false end line in the last place is outside the grammar.
 use Rattle.std.specs.Prelude.{◌≡◌, ◌⊎◌, ◌↔◌, ℕ, ◌-◌, ◌<◌, ◌≤◌, false, IsTrue, List, [], length, slice_index_or, Some}
 use Rattle.std.specs.Prelude.{None, IsSome, ℤ, nat_lt}
-use Rattle.irs_base.specs.Lines.{lines_of}
+use Rattle.irs_calendar.specs.EndLines.{seen_lines}
 use Rattle.irs_base.specs.Order.{First}
 use Rattle.irs_resets.specs.declared.fixings.FixErr.{FixErr}
 use Rattle.irs_resets.specs.declared.fixings.FixErr.TheVariants.{Syntax, Repeat, Memory}
@@ -54,14 +55,14 @@ IsFirstFault P lines n = P n × First nat_lt (IsFaulty lines) n
 
 -- no line is at fault, and the rates are exactly those that the lines give
 pub record IsFixingFile (bytes : List ℕ) (table : RateTable) : Type 0 where
-  pub clean : (n : ℕ) → IsFaulty (lines_of bytes) n → ⊥
+  pub clean : (n : ℕ) → IsFaulty (seen_lines bytes) n → ⊥
   pub holds : (index : List ℕ) (slot : Slot) (rate : ℤ)
-      → (rate_at table index slot ≡ Some rate) ↔ ((n : ℕ) × Fixes (lines_of bytes) n index slot rate)
+      → (rate_at table index slot ≡ Some rate) ↔ ((n : ℕ) × Fixes (seen_lines bytes) n index slot rate)
 
 -- the first line at fault, and how it is
 abbrev pub IsFixingFault : List ℕ → FixErr → Type 0
-IsFixingFault bytes (Syntax n) = IsFirstFault (IsBad (lines_of bytes)) (lines_of bytes) n
-IsFixingFault bytes (Repeat n) = IsFirstFault (Repeats (lines_of bytes)) (lines_of bytes) n
+IsFixingFault bytes (Syntax n) = IsFirstFault (IsBad (seen_lines bytes)) (seen_lines bytes) n
+IsFixingFault bytes (Repeat n) = IsFirstFault (Repeats (seen_lines bytes)) (seen_lines bytes) n
 IsFixingFault bytes Memory = ⊥
 
 -- reading may stop at a line that gives a rate, where neither it nor an earlier line is at fault

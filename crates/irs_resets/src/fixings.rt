@@ -1,11 +1,12 @@
 //! Fixings: the rates that were observed, from a file.
 //!
 //! Lines end in LF or CRLF, and the last one may have no end. A line of spaces and tabs alone and a
-//! line whose first byte is `#` are ignored. Each other line gives the rate of an index at a date
-//! and tenor, and no two lines give the same index, date and tenor. The format is our rule.
+//! line whose first byte is `#` are ignored. But a last line `# end N` is at fault if N isn't the
+//! number of lines before it. Each other line gives the rate of an index at a date and tenor, and no
+//! two lines give the same index, date and tenor. The format is our rule.
 ghost use Rattle.std.specs.Prelude.{◌≡◌, ◌≤◌, ◌↔◌, [], length, IfSome, IsErrOf, IsTrue};
 ghost use Rattle.irs_base.specs.Limits.{most_bytes};
-ghost use Rattle.irs_base.specs.Lines.{lines_of};
+ghost use Rattle.irs_calendar.specs.EndLines.{seen_lines};
 ghost use Rattle.irs_terms.specs.Lawful.{IsRate};
 ghost use Rattle.std.specs.Map.{lookup};
 ghost use Rattle.std.specs.Str.{bytes_eq};
@@ -18,6 +19,7 @@ use crate::fixing_line::fixing_line;
 use crate::store::{Rates, Slot, Table};
 use crate::words::is_passed;
 use irs_base::{Day, Memory, Text, split_line};
+use irs_calendar::split_seen;
 use irs_terms::Frequency;
 use std::alloc::Global;
 use std::marker::Model;
@@ -26,7 +28,7 @@ use thiserror::Error;
 /// The first line of a fixing file that is at fault. Lines count from 1.
 #[derive(Clone, Copy, Debug, Error)]
 pub enum FixErr {
-    /// The line isn't ignored and spells no fixing.
+    /// The line isn't ignored and spells no fixing. So it is with a last line `# end N` whose number is false.
     #[error("line {0} spells no fixing")]
     Syntax(u32),
     /// An earlier line has the date, tenor and index of this line.
@@ -96,16 +98,16 @@ impl Fixings {
         requires { length bytes.now ≤ most_bytes }
         ensures meets { MeetsFile (fixings_of bytes.now) result }
         // Running out of memory hides no fault of the lines up to the one that was read.
-        ensures memory { IsErrOf result OfMemory → StopsAt (lines_of bytes.now) }
+        ensures memory { IsErrOf result OfMemory → StopsAt (seen_lines bytes.now) }
     {
         let mut table = Table::new(alloc);
         let mut rest = bytes;
-        let mut number: u32 = 1;
+        let mut before: u32 = 0;
         while !rest.is_empty() {
-            let (line, more) = split_line(rest);
-            table = read_line(alloc, table, line, number)?;
+            let (line, more) = split_seen(rest, before);
+            before += 1;
+            table = read_line(alloc, table, line, before)?;
             rest = more;
-            number += 1;
         }
         Ok(Fixings { table: Some(table) })
     }

@@ -1,14 +1,15 @@
 use Rattle.std.proofs.Common.{◌≡◌, ◌+◌, ◌≤◌, length}
 use Rattle.irs_base.specs.Limits.{most_bytes}
 use Rattle.irs_base.specs.Lines.{lines_of}
+use Rattle.irs_calendar.specs.EndLines.{seen_from}
 use Rattle.irs_calendar.specs.Files.{sections_in, sections_of}
 use Rattle.irs_calendar.proofs.files.read_file.Given as goal
 
 -- reading the remaining lines from here gives what reading the whole file gives
 abbrev pub invariant-loop-rest : goal.invariant-loop-rest
 invariant-loop-rest l =
-    (sections_in l.number l.state (lines_of l.rest) ≡ sections_of l.fn.done l.bytes)
-    × (l.number + length l.rest ≤ most_bytes + 1)
+    (sections_in (l.before + 1) l.state (seen_from l.before (lines_of l.rest)) ≡ sections_of l.fn.done l.bytes)
+    × (l.before + length l.rest ≤ most_bytes)
 
 -- each round takes a line
 abbrev pub decreases-loop-rest : goal.decreases-loop-rest

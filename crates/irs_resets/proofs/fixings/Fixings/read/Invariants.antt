@@ -1,6 +1,7 @@
 use Rattle.std.proofs.Common.{◌+◌, ◌≤◌, length}
 use Rattle.irs_base.specs.Limits.{most_bytes}
 use Rattle.irs_base.specs.Lines.{lines_of}
+use Rattle.irs_calendar.specs.EndLines.{seen_from, seen_lines}
 use Rattle.irs_resets.proofs.FileLemmas.{ReadTo}
 use Rattle.irs_resets.proofs.fixings.Fixings.read.Given as goal
 
@@ -8,8 +9,8 @@ use Rattle.irs_resets.proofs.fixings.Fixings.read.Given as goal
 abbrev pub invariant-loop-rest : goal.invariant-loop-rest
 invariant-loop-rest l =
     record {
-      so_far : ReadTo (lines_of l.bytes) l.number (lines_of l.rest) l.table;
-      room : l.number + length l.rest ≤ most_bytes + 1;
+      so_far : ReadTo (seen_lines l.bytes) (l.before + 1) (seen_from l.before (lines_of l.rest)) l.table;
+      room : l.before + length l.rest ≤ most_bytes;
     }
 
 -- each round takes a line
