@@ -1,24 +1,26 @@
 -- The emitted value has strings for leaves and nests 11 deep.
-use Rattle.irs_emit.proofs.ReadBack.{Built, ItemsBuilt, MembersBuilt, built_depth, built_floatless, line_feed}
-use Rattle.irs_emit.proofs.ReadBack.{put_built}
+use Rattle.irs_emit.proofs.Kept.{emit_kept, kept_reads}
+use Rattle.irs_emit.proofs.ReadBack.{Built, ItemsBuilt, MembersBuilt, line_feed, put_built}
+use Rattle.irs_emit.proofs.Short.{parts_short}
+use Rattle.irs_emit.proofs.Utf8Texts.{clear_utf8, emit_clear}
 use Rattle.irs_emit.specs.Emitted.{array_of, cashflows_value, definition_value, emit_text, emit_value, exchange_value}
 use Rattle.irs_emit.specs.Emitted.{fixed_value, floating_value, forecast_value, known_exchanges, listed_period}
 use Rattle.irs_emit.specs.Emitted.{observation_value, one_period, payment_value, period_members, period_value}
 use Rattle.irs_emit.specs.Emitted.{period_values, put_known, stream_value}
 use Rattle.irs_emit.specs.Leaves.{amount_leaf, currency_leaf, day_leaf, rate_leaf}
 use Rattle.irs_json.specs.Reading.{Reads}
-use Rattle.irs_schedule.specs.Parts.{Part}
+use Rattle.irs_schedule.specs.Parts.{IsWithin, Part}
 use Rattle.irs_schedule.specs.PeriodViews.{period_at}
 use Rattle.irs_schedule.specs.declared.entries.PaymentEntry.{PaymentEntry}
 use Rattle.irs_schedule.specs.declared.views.CalculationPeriod.{CalculationPeriod}
 use Rattle.irs_terms.specs.declared.currency.Currency.{Currency}
 use Rattle.irs_terms.specs.declared.results.Exchange.{Exchange}
 use Rattle.irs_terms.specs.declared.results.Reset.{Reset}
-use Rattle.serde_json.specs.Data.{Data, string, Members, no_members, put, depth}
-use Rattle.serde_json.specs.Read.{max_depth, read}
+use Rattle.serde_json.specs.Data.{Data, string, Members, no_members, put}
+use Rattle.serde_json.specs.Read.{read}
 use Rattle.serde_json.specs.View.{items_of}
-use Rattle.serde_json.specs.Written.{compact_text, has_float}
-use Rattle.std.proofs.Common.{◌≡◌, ℕ, zero, suc, ◌+◌, ◌-◌, ◌≤◌, List, [], ◌∷◌, ◌++◌, map, false, Option, Some, None}
+use Rattle.serde_json.specs.Written.{compact_text}
+use Rattle.std.proofs.Common.{◌≡◌, ℕ, zero, suc, ◌+◌, ◌-◌, List, [], ◌∷◌, ◌++◌, map, Option, Some, None}
 use Rattle.std.proofs.Common.{option_map, codes, sym, ap, ◌∙◌, subst, arith}
 use Rattle.std.proofs.lemmas.Str.{IsUtf8-append, IsUtf8-from_ascii}
 use Rattle.std.proofs.lemmas.Str.Ascii.{IsAscii-nil, IsAscii-cons}
@@ -150,26 +152,15 @@ emit_built s = (omega arith, ((omega arith, ((omega arith, list_built 8 stream_v
 
 -- ---- the text
 
--- the compact text of the value, and a line feed, is the text of the cash flows
-pub text_is : (s : List Part) (v : Data) (bytes new : List ℕ) → v ≡ emit_value s
-    → (has_float v ≡ false → bytes ≡ compact_text v) → new ≡ bytes ++ 10 ∷ [] → new ≡ emit_text s
-unfolding emit_text
-text_is s v bytes new is text e =
-    e ∙ ap (λ t. t ++ 10 ∷ []) (text (ap has_float is ∙ built_floatless 11 (emit_value s) (emit_built s))
-    ∙ ap compact_text is)
-
 feed_utf8 : IsUtf8 (10 ∷ [])
 feed_utf8 = IsUtf8-from_ascii (10 ∷ []) (IsAscii-cons 10 [] (omega arith) IsAscii-nil)
 
--- the emitted text reads as the emitted value
-pub text_reads : (s : List Part) (v : Data) (bytes new : List ℕ) → v ≡ emit_value s
-    → (has_float v ≡ false → bytes ≡ compact_text v) → (depth v ≤ max_depth → read bytes ≡ Some v) → IsUtf8 bytes
-    → new ≡ bytes ++ 10 ∷ [] → Reads new (emit_value s)
-text_reads s v bytes new is text back utf8 e =
-    let built : Built 11 v = subst (Built 11) (sym is) (emit_built s) in
-    let same : bytes ≡ compact_text v = text (built_floatless 11 v built) in
-    let deep = built_depth 11 v built in
-    let reads : read new ≡ Some (emit_value s) =
-    ap read (e ∙ ap (λ t. t ++ 10 ∷ []) same) ∙ line_feed 11 v built ∙ ap read (sym same)
-    ∙ back (omega (arith, deep)) ∙ ap Some is in
-    (subst IsUtf8 (sym e) (IsUtf8-append bytes (10 ∷ []) utf8 feed_utf8), reads)
+-- the text of a schedule reads as its value
+pub text_reads : (s : List Part) (bytes : List ℕ) → IsWithin s → bytes ≡ emit_text s → Reads bytes (emit_value s)
+unfolding emit_text
+text_reads s bytes w e =
+    let d = emit_value s in
+    let utf8 = clear_utf8 d (emit_clear s (parts_short s w.each)) in
+    let reads : read bytes ≡ Some d =
+    ap read e ∙ line_feed 11 d (emit_built s) ∙ kept_reads 11 d (emit_built s) (omega arith) (emit_kept s) in
+    (subst IsUtf8 (sym e) (IsUtf8-append (compact_text d) (10 ∷ []) utf8 feed_utf8), reads)

@@ -14,7 +14,7 @@ use Rattle.irs_elements.specs.declared.table.Row.{Row}
 use Rattle.irs_emit.proofs.Clean.{MemberFree, NoFault, absent_free, leaf_free, object_free, one_value, passed_free}
 use Rattle.irs_emit.proofs.Clean.{present_free}
 use Rattle.irs_elements.specs.Words.{is_currency}
-use Rattle.irs_emit.proofs.LeafTexts.{text_kept}
+use Rattle.irs_emit.proofs.PlainTexts.{text_kept}
 use Rattle.irs_emit.proofs.LeavesRead.{currency_ascii}
 use Rattle.irs_terms.specs.declared.currency.Currency.{Currency}
 use Rattle.irs_base.proofs.VisibleTexts.{Visible, day_visible}

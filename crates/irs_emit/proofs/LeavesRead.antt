@@ -7,7 +7,7 @@ use Rattle.irs_elements.specs.Words.{currency_at, is_currency}
 use Rattle.irs_base.specs.Texts.{day_text, dec_text}
 use Rattle.irs_base.specs.Rounding.{rounded}
 use Rattle.irs_base.specs.declared.rounding.Direction.TheVariants.{Nearest}
-use Rattle.irs_emit.proofs.LeafTexts.{text_kept}
+use Rattle.irs_emit.proofs.PlainTexts.{text_kept}
 use Rattle.irs_base.proofs.VisibleTexts.{Visible, day_visible}
 use Rattle.irs_emit.proofs.LeafTextsRead.{count_back, count_visible, currency_back, currency_visible, day_back}
 use Rattle.irs_emit.proofs.LeafTextsRead.{fraction_back, number_back, number_visible, visible_text}

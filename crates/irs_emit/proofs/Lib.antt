@@ -1,4 +1,8 @@
-pub mod LeafTexts
+pub mod PlainTexts
+pub mod Pieces
+pub mod RowTexts
+pub mod Kept
+pub mod Utf8Texts
 pub mod ReadBack
 pub mod Bounds
 pub mod Values

@@ -1,158 +1,155 @@
-//! The document: the streams of a schedule with their cash flows.
-ghost use Rattle.std.specs.Prelude.{◌≡◌, ◌+◌, ◌-◌, ◌<◌, ◌^◌, ◌++◌, IfOk, OnOk, option_map, map};
-ghost use Rattle.serde_json.specs.View.{view};
+//! The document: the streams of a schedule with their cash flows, appended token by token.
+ghost use Rattle.std.specs.Prelude.{◌≡◌, ◌-◌, ◌≤◌, ◌++◌, IfOk, OnOk, map, false};
+ghost use Rattle.serde_json.specs.Written.{compact_text};
 ghost use Rattle.irs_json.specs.Reading.{Reads};
+ghost use Rattle.irs_schedule.specs.Parts.{IsCode};
 ghost use Rattle.irs_emit.specs.Private.Paid.{IsPaid};
 ghost use Rattle.irs_emit.specs.PartLaws.{StatesFlows};
-ghost use Rattle.irs_emit.specs.Emitted.{array_of, cashflows_value, emit_text, emit_value};
-ghost use Rattle.irs_emit.specs.Emitted.{known_exchanges, object_with, one_period, payment_value, period_values};
-ghost use Rattle.irs_emit.specs.Emitted.{stream_value};
+ghost use Rattle.irs_emit.specs.Emitted.{cashflows_value, emit_text, emit_value, exchange_value, one_period};
+ghost use Rattle.irs_emit.specs.Emitted.{payment_value, period_values, stream_value};
+ghost use Rattle.irs_emit.specs.Private.Texts.{exchanges_text, is_later, listed_text};
 
-use crate::leaves;
-use crate::rows::{exchange, forecast, period, put_known};
+use crate::leaves::day;
+use crate::rows::{exchange, forecast, period};
+use crate::writer::comma;
 use irs_base::Memory;
 use irs_schedule::{PaymentEntry, Schedule, StreamPart};
-use serde_json::{Map, Value, put};
 use std::alloc::Global;
 
-// An object with one member.
-fn object_with(alloc: Global, name: &str, value: Value) -> Result<Value, Memory>
-    ensures { IfOk result (λ v. view v ≡ object_with name.now (view value)) }
-{
-    let mut members = Map::new(alloc);
-    put(&mut members, alloc, name, value)?;
-    Ok(Value::Object(members))
-}
-
-// The principal exchanges, where there are any.
-fn exchanges(alloc: Global, part: &StreamPart) -> Result<Option<Value>, Memory>
-    ensures { IfOk result (λ o. option_map view o ≡ known_exchanges part.now.exchanges) }
+// The principal exchanges, with a comma between them.
+fn listed_exchanges(out: &mut Vec<u8>, part: &StreamPart) -> Result<(), Memory>
+    ensures { OnOk result (out.new.items ≡ out.old.items
+        ++ listed_text false (map exchange_value part.now.exchanges)) }
 {
     let rows = part.exchanges();
-    if rows.is_empty() {
-        return Ok(None);
-    }
-    let mut list = Vec::new(alloc);
+    let mut later = false;
     for j in 0..rows.len() {
-        list.push(exchange(alloc, &rows[j])?)?;
+        comma(out, later)?;
+        exchange(out, &rows[j])?;
+        later = true;
     }
-    Ok(Some(Value::Array(list)))
+    Ok(())
 }
 
-// Appends the calculation period at a place, counted from 0, if there is one.
-#[tactic(auto, using(crate::proofs::Values::listed_here, crate::proofs::Bounds::period_above))]
-fn push_period(
-    alloc: Global,
-    list: &mut Vec<Value>,
+// The member of the principal exchanges, where there are any.
+fn exchanges(out: &mut Vec<u8>, part: &StreamPart) -> Result<(), Memory>
+    ensures { OnOk result (out.new.items ≡ out.old.items ++ exchanges_text part.now.exchanges) }
+{
+    if part.exchanges().is_empty() {
+        return Ok(());
+    }
+    out.extend_from_slice(b",\"principalExchange\":[")?;
+    listed_exchanges(out, part)?;
+    out.extend_from_slice(b"]")?;
+    Ok(())
+}
+
+// The calculation period at a place, counted from 0, if there is one; and whether something stands
+// before the next one.
+#[tactic(auto, using(crate::proofs::Bounds::period_above))]
+fn one_period(
+    out: &mut Vec<u8>,
+    later: bool,
     part: &StreamPart,
     place: usize,
-) -> Result<(), Memory>
-    ensures { OnOk result (map view list.new.items ≡ map view list.old.items ++ one_period part.now place) }
+) -> Result<bool, Memory>
+    ensures text { OnOk result (out.new.items ≡ out.old.items ++ listed_text later (one_period part.now place)) }
+    ensures later { IfOk result (λ b. b ≡ is_later later (one_period part.now place)) }
 {
     match part.period(place) {
-        None => Ok(()),
+        None => Ok(later),
         Some(x) => {
-            let row = period(alloc, &x, part.resets().get(place))?;
-            list.push(row)?;
-            Ok(())
+            comma(out, later)?;
+            period(out, &x, part.resets().get(place))?;
+            Ok(true)
         },
     }
 }
 
-// `count` calculation periods, from that place on, counted from 0.
-#[tactic(auto, using(crate::proofs::Values::next_period, crate::proofs::Values::listed))]
-fn periods(alloc: Global, part: &StreamPart, first: usize, count: usize) -> Result<Value, Memory>
-    requires { first + count < 2 ^ 63 }
-    ensures { IfOk result (λ v. view v ≡ array_of (period_values part.now first count)) }
+// The calculation periods from a place up to another, counted from 0, with a comma between them.
+fn periods(out: &mut Vec<u8>, part: &StreamPart, first: usize, last: usize) -> Result<(), Memory>
+    requires { first ≤ last }
+    ensures { OnOk result (out.new.items ≡ out.old.items
+        ++ listed_text false (period_values part.now first (last - first))) }
 {
-    let mut list = Vec::new(alloc);
-    for j in 0..count {
-        push_period(alloc, &mut list, part, first + j)?;
+    let mut later = false;
+    for place in first..last {
+        later = one_period(out, later, part, place)?;
     }
-    Ok(Value::Array(list))
+    Ok(())
 }
 
 // A payment, with the calculation periods that it pays.
-#[tactic(auto, unfolding(crate::specs::Emitted::payment_value))]
-fn payment(alloc: Global, part: &StreamPart, y: &PaymentEntry) -> Result<Value, Memory>
-    requires { IsPaid y.now }
-    ensures { IfOk result (λ v. view v ≡ payment_value part.now y.now) }
+fn payment(out: &mut Vec<u8>, part: &StreamPart, y: &PaymentEntry) -> Result<(), Memory>
+    requires currency { IsCode part.now.currency }
+    requires paid { IsPaid y.now }
+    ensures { OnOk result (out.new.items ≡ out.old.items ++ compact_text (payment_value part.now y.now)) }
 {
     let first = y.first_period as usize - 1;
     let last = y.last_period as usize;
-    let mut members = Map::new(alloc);
-    put(
-        &mut members,
-        alloc,
-        "unadjustedPaymentDate",
-        leaves::day(alloc, y.unadjusted)?,
-    )?;
-    let forecast = forecast(alloc, part.currency(), y)?;
-    put(&mut members, alloc, "forecastPaymentAmount", forecast)?;
-    let periods = periods(alloc, part, first, last - first)?;
-    put(&mut members, alloc, "calculationPeriod", periods)?;
-    put(
-        &mut members,
-        alloc,
-        "adjustedPaymentDate",
-        leaves::day(alloc, y.adjusted)?,
-    )?;
-    Ok(Value::Object(members))
+    out.extend_from_slice(b"{\"adjustedPaymentDate\":")?;
+    day(out, y.adjusted)?;
+    out.extend_from_slice(b",\"calculationPeriod\":[")?;
+    periods(out, part, first, last)?;
+    out.extend_from_slice(b"],\"forecastPaymentAmount\":")?;
+    forecast(out, part.currency(), y)?;
+    out.extend_from_slice(b",\"unadjustedPaymentDate\":")?;
+    day(out, y.unadjusted)?;
+    out.extend_from_slice(b"}")?;
+    Ok(())
 }
 
-#[tactic(auto, using(crate::proofs::Values::mapped, crate::proofs::Bounds::paid_at))]
-fn payments(alloc: Global, part: &StreamPart) -> Result<Value, Memory>
-    ensures { IfOk result (λ v. view v ≡ array_of (map (payment_value part.now) part.now.payments)) }
+// The payments, with a comma between them.
+#[tactic(auto, using(crate::proofs::Bounds::paid_at))]
+fn payments(out: &mut Vec<u8>, part: &StreamPart) -> Result<(), Memory>
+    ensures { OnOk result (out.new.items ≡ out.old.items
+        ++ listed_text false (map (payment_value part.now) part.now.payments)) }
 {
     let paid = part.payments();
-    let mut list = Vec::new(alloc);
+    let mut later = false;
     for j in 0..paid.len() {
-        list.push(payment(alloc, part, &paid[j])?)?;
+        comma(out, later)?;
+        payment(out, part, &paid[j])?;
+        later = true;
     }
-    Ok(Value::Array(list))
+    Ok(())
 }
 
 // The `cashflows` of a stream.
-#[tactic(auto, unfolding(crate::specs::Emitted::cashflows_value))]
-fn cashflows(alloc: Global, part: &StreamPart) -> Result<Value, Memory>
-    ensures { IfOk result (λ v. view v ≡ cashflows_value part.now) }
+fn cashflows(out: &mut Vec<u8>, part: &StreamPart) -> Result<(), Memory>
+    ensures { OnOk result (out.new.items ≡ out.old.items ++ compact_text (cashflows_value part.now)) }
 {
-    let mut members = Map::new(alloc);
-    put(
-        &mut members,
-        alloc,
-        "paymentCalculationPeriod",
-        payments(alloc, part)?,
+    out.extend_from_slice(
+        b"{\"cashflowsMatchParameters\":\"true\",\"paymentCalculationPeriod\":[",
     )?;
-    let matches = Value::try_from_str(alloc, "true")?;
-    put(&mut members, alloc, "cashflowsMatchParameters", matches)?;
-    put_known(
-        &mut members,
-        alloc,
-        "principalExchange",
-        exchanges(alloc, part)?,
-    )?;
-    Ok(Value::Object(members))
+    payments(out, part)?;
+    out.extend_from_slice(b"]")?;
+    exchanges(out, part)?;
+    out.extend_from_slice(b"}")?;
+    Ok(())
 }
 
-fn streams(alloc: Global, parts: &[StreamPart]) -> Result<Value, Memory>
-    ensures { IfOk result (λ v. view v ≡ array_of (map stream_value parts.now)) }
+// A stream: its cash flows alone.
+fn stream(out: &mut Vec<u8>, part: &StreamPart) -> Result<(), Memory>
+    ensures { OnOk result (out.new.items ≡ out.old.items ++ compact_text (stream_value part.now)) }
 {
-    let mut list = Vec::new(alloc);
+    out.extend_from_slice(b"{\"cashflows\":")?;
+    cashflows(out, part)?;
+    out.extend_from_slice(b"}")?;
+    Ok(())
+}
+
+// The streams, with a comma between them.
+fn streams(out: &mut Vec<u8>, parts: &[StreamPart]) -> Result<(), Memory>
+    ensures { OnOk result (out.new.items ≡ out.old.items ++ listed_text false (map stream_value parts.now)) }
+{
+    let mut later = false;
     for j in 0..parts.len() {
-        let flows = cashflows(alloc, &parts[j])?;
-        list.push(object_with(alloc, "cashflows", flows)?)?;
+        comma(out, later)?;
+        stream(out, &parts[j])?;
+        later = true;
     }
-    Ok(Value::Array(list))
-}
-
-// The document of a schedule.
-#[tactic(auto, unfolding(crate::specs::Emitted::emit_value))]
-fn document(alloc: Global, s: &Schedule) -> Result<Value, Memory>
-    ensures { IfOk result (λ v. view v ≡ emit_value s.now) }
-{
-    let swap = object_with(alloc, "swapStream", streams(alloc, s.streams())?)?;
-    object_with(alloc, "swap", swap)
+    Ok(())
 }
 
 /// The cash flows of a schedule as a JSON document in FpML's elements. It has `swap`, and in it for
@@ -162,14 +159,14 @@ fn document(alloc: Global, s: &Schedule) -> Result<Value, Memory>
 /// 4 decimals, a rate 9 and a fraction 10, rounded to the nearest. The text is the compact one that
 /// `serde_json` writes, members in the byte order of their names, with a line feed at its end.
 /// `Memory` comes where memory runs out. The layout is ours.
-#[tactic(auto, using(crate::proofs::Built::text_is, crate::proofs::Built::text_reads))]
 pub fn emit_flows(alloc: Global, s: &Schedule) -> Result<Vec<u8>, Memory>
     ensures text { IfOk result (λ bytes. bytes.items ≡ emit_text s.now) }
     ensures reads { IfOk result (λ bytes. Reads bytes.items (emit_value s.now)) }
     ensures states { IfOk result (λ bytes. StatesFlows bytes.items s.now) }
 {
-    s.bounds();
-    let mut bytes = document(alloc, s)?.to_vec(alloc)?;
-    bytes.push(b'\n')?;
-    Ok(bytes)
+    let mut out = Vec::new(alloc);
+    out.extend_from_slice(b"{\"swap\":{\"swapStream\":[")?;
+    streams(&mut out, s.streams())?;
+    out.extend_from_slice(b"]}}\n")?;
+    Ok(out)
 }

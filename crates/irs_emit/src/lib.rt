@@ -6,6 +6,7 @@ mod emitting;
 mod laws;
 mod leaves;
 mod rows;
+mod writer;
 
 pub use emitting::emit_flows;
 pub use laws::{leaves_read_back, rows_read_back};

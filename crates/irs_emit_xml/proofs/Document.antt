@@ -8,7 +8,8 @@ use Rattle.irs_emit_xml.specs.Ones.{ones}
 use Rattle.irs_emit_xml.specs.Trees.{close_text, declared_text, root_open_text, written_text, written_value}
 use Rattle.irs_emit_xml.proofs.FlowRules.{root_is}
 use Rattle.irs_emit_xml.proofs.FlowValues.{value_is}
-use Rattle.irs_emit_xml.proofs.Lines.{lines_listed, twice}
+use Rattle.irs_emit.proofs.Pieces.{twice}
+use Rattle.irs_emit_xml.proofs.Lines.{lines_listed}
 use Rattle.irs_emit_xml.proofs.ReadBack.{written_reads}
 
 -- a root's start tag, the streams, and its end tag are the document

@@ -26,7 +26,7 @@ use Rattle.serde_json.specs.View.{items_of}
 use Rattle.irs_emit_xml.specs.Trees.{Node, leaf, node_name, node_value, children_of, written_value}
 use Rattle.irs_emit_xml.specs.Ones.{alone, ones}
 use Rattle.irs_emit_xml.specs.Flows.{element, listed, known, amount_node, rate_node, currency_node, exchange_node, forecast_node, observation_node, definition_node, rate_of, period_front, period_node, listed_period, one_period, period_nodes, payment_node, cashflows_node, stream_node, stream_nodes, day_node, fraction_node}
-use Rattle.irs_emit_xml.proofs.Currencies.{currency_kept}
+use Rattle.irs_emit.proofs.PlainTexts.{code_kept}
 use Rattle.irs_emit_xml.proofs.Joining.{all_named, all_children, children_append, Begins, begins_append, ones_listed}
 
 -- ---- lists
@@ -300,7 +300,7 @@ cashflows_ones p h =
     element_value (codes "cashflows") (match_node ∷ (xs ++ ys))
     ∙ ap (λ cs. members_by (matches ∷ cs)) (map-append child_of xs ys
     ∙ ap (λ cs. map child_of xs ++ cs) (children_map (IsPaymentShort p) (payment_node p) (payment_value p) (codes "paymentCalculationPeriod")
-    p.payments (payment_ones p (currency_kept p.currency h.bounds.currency)) h.payments))
+    p.payments (payment_ones p (code_kept p.currency h.bounds.currency)) h.payments))
     ∙ cash_ones p.exchanges pv (payments_begin_by p p.payments (length p.periods) h.bounds.covers h.bounds.some))
 
 stream_ones : (p : Part) → IsPartShort p → child_of (stream_node p) ≡ (codes "swapStream", ones (stream_value p))

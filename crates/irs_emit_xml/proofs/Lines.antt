@@ -2,16 +2,9 @@
 use Rattle.std.proofs.Common.{◌≡◌, ℕ, zero, suc, ◌+◌, List, [], ◌∷◌, ◌++◌, refl, sym, ap, ◌∙◌, arith, append_assoc}
 use Rattle.std.proofs.lemmas.List.{append-nil}
 use Rattle.std.proofs.lemmas.List.Concat.{flat_map-append}
+use Rattle.irs_emit.proofs.Pieces.{same_piece, twice}
 use Rattle.irs_emit_xml.specs.Flows.{element, lines, listed}
 use Rattle.irs_emit_xml.specs.Trees.{Node, close_text, declared_text, end_text, indent, leaf_text, namespace_text, node_text, nodes_text, open_text, root_open_text}
-
--- a text that grew twice grew by both pieces
-pub twice : (a b c x y : List ℕ) → b ≡ a ++ x → c ≡ b ++ y → c ≡ a ++ (x ++ y)
-twice a b c x y e f = f ∙ ap (λ t. t ++ y) e ∙ append_assoc a x y
-
--- a piece of a text is the same by another word
-same_piece : (a b x y : List ℕ) → x ≡ y → b ≡ a ++ x → b ≡ a ++ y
-same_piece a b x y e f = f ∙ ap (λ t. a ++ t) e
 
 spaces_last : (k : ℕ) → indent k ++ (32 ∷ 32 ∷ []) ≡ 32 ∷ 32 ∷ indent k
 spaces_last zero = refl
@@ -60,10 +53,6 @@ begin_pieces name word a b c d e f w g =
     ∙ ap (λ t. a ++ t) (append_assoc declared_text (60 ∷ []) (name ++ (namespace_text ++ 62 ∷ 10 ∷ [])))
 
 -- ---- elements of a list
-
--- a text that nothing was appended to
-pub nothing_more : (a : List ℕ) → a ≡ a ++ []
-nothing_more a = sym (append-nil a)
 
 -- the last element of a list
 pub one_line : (k : ℕ) (n : Node) (a b : List ℕ) → b ≡ a ++ node_text k n → b ≡ a ++ lines k (n ∷ [])

@@ -1,116 +1,38 @@
--- The texts of leaves are of plain characters.
-use Rattle.std.proofs.Common.{◌≡◌, ℕ, zero, suc, ◌+◌, ◌/◌, ◌%◌, ◌^◌, ◌<◌, ◌≤◌, ◌==◌, Bool, true, false, List, [], ◌∷◌, ◌++◌}
-use Rattle.std.proofs.Common.{if◌then◌else◌, ℤ, pos, negsuc, unsigned_abs, refl, ◌∙◌, arith}
-use Rattle.std.proofs.Math.Nat.{div-le_self}
+-- The texts of leaves are of characters that are plain in XML, since irs_emit says that they are plain in JSON and XML.
+use Rattle.std.proofs.Common.{◌≡◌, ℕ, ◌^◌, ◌<◌, ◌≤◌, true, List, ℤ, unsigned_abs, arith}
 use Rattle.std.proofs.lemmas.Bool.Decides.{nat_tests}
-use Rattle.std.proofs.lemmas.Fmt.{decimal_by_steps_wide}
-use Rattle.std.proofs.lemmas.List.Elements.{All-head, All-tail}
-use Rattle.std.proofs.lemmas.List.Folds.{list_all-append}
-use Rattle.std.specs.Fmt.{decimal, signed_decimal}
+use Rattle.std.specs.Fmt.{signed_decimal}
 use Rattle.std.specs.List.{All, list_all}
-use Rattle.irs_base.proofs.DateWalks.{date_of_day}
-use Rattle.irs_base.proofs.Dates.{year_range}
-use Rattle.irs_base.specs.DateOf.{year_of, month_of, day_of_month}
 use Rattle.irs_base.specs.Days.{IsDay}
-use Rattle.irs_base.specs.Texts.{date_text, day_text, dec_text, digit_row, two_digits, unsigned_dec}
-use Rattle.jiff_core.proofs.CalendarLemmas.{days_in_month_bounds}
-use Rattle.jiff_core.proofs.SignedLemmas.{signed_arith}
+use Rattle.irs_base.specs.Texts.{day_text, dec_text}
+use Rattle.irs_emit.proofs.PlainTexts as plain
+use Rattle.irs_emit.specs.Private.Texts.{is_plain as is_leaf_char}
 use Rattle.irs_emit_xml.specs.Trees.{is_plain}
-use Rattle.irs_emit_xml.proofs.Rules.{true_both}
+use Rattle.irs_emit_xml.proofs.Rules.{all_then}
 
 -- all characters are plain
 abbrev pub ArePlain : List ℕ → Type 0
 ArePlain cs = list_all is_plain cs ≡ true
 
-plain_append : (a b : List ℕ) → ArePlain a → ArePlain b → ArePlain (a ++ b)
-plain_append a b h k = list_all-append is_plain a b ∙ true_both (list_all is_plain a) (list_all is_plain b) h k
+plain_char : (c : ℕ) → is_leaf_char c ≡ true → is_plain c ≡ true
+unfolding is_leaf_char is_plain
+plain_char c h = grind (arith, nat_tests)
 
--- one more plain character in front
-pub plain_cons : (c : ℕ) (cs : List ℕ) → is_plain c ≡ true → ArePlain cs → ArePlain (c ∷ cs)
-plain_cons c cs h k = true_both (is_plain c) (list_all is_plain cs) h k
-
--- a digit is plain
-pub plain_digit : (d : ℕ) → d < 10 → is_plain (48 + d) ≡ true
-unfolding is_plain
-plain_digit d l = grind (arith, nat_tests)
-
-plain_one : (n : ℕ) → n < 10 → ArePlain ((48 + n) ∷ [])
-plain_one n l = plain_cons (48 + n) [] (plain_digit n l) refl
-
--- a whole number's digits are plain
-pub decimal_plain : (n : ℕ) → n < 2 ^ 128 → ArePlain (decimal n)
-decimal_plain n h =
-    decimal_by_steps_wide (λ m ds. ArePlain ds) (λ m l. plain_one m l)
-    (λ m ds l k. plain_append ds ((48 + m % 10) ∷ []) k (plain_one (m % 10) (omega arith))) n (omega arith)
-
--- ---- dates
-
-dash : is_plain 45 ≡ true
-unfolding is_plain
-dash = refl
-
-point : is_plain 46 ≡ true
-unfolding is_plain
-point = refl
-
-two_plain : (n : ℕ) → n < 100 → ArePlain (two_digits n)
-two_plain n l =
-    plain_cons (48 + n / 10) ((48 + n % 10) ∷ []) (plain_digit (n / 10) (omega arith)) (plain_one (n % 10) (omega arith))
-
-date_plain : (y m d : ℕ) → y < 10000 → m < 100 → d < 100 → ArePlain (date_text y m d)
-date_plain y m d a b c =
-    let day = plain_cons 45 (two_digits d) dash (two_plain d c) in
-    let month = plain_cons 45 (two_digits m ++ 45 ∷ two_digits d) dash
-    (plain_append (two_digits m) (45 ∷ two_digits d) (two_plain m b) day) in
-    let rest = 45 ∷ (two_digits m ++ 45 ∷ two_digits d) in
-    let year = plain_append (two_digits (y % 100)) rest (two_plain (y % 100) (omega arith)) month in
-    plain_append (two_digits (y / 100)) (two_digits (y % 100) ++ rest) (two_plain (y / 100) (omega arith)) year
+in_xml : (cs : List ℕ) → list_all is_leaf_char cs ≡ true → ArePlain cs
+in_xml cs h = all_then is_leaf_char is_plain cs plain_char h
 
 -- the text of a day is plain
 pub day_plain : (d : ℤ) → IsDay d → ArePlain (day_text d)
-unfolding day_text
-day_plain d day =
-    let has = date_of_day d day in
-    let range = year_range d (pos (year_of d)) (month_of d) (day_of_month d) day has in
-    let short = days_in_month_bounds (pos (year_of d)) (month_of d) in
-    let is = has.0 in
-    date_plain (year_of d) (month_of d) (day_of_month d) (omega (arith, signed_arith, range)) (omega (arith, is))
-    (omega (arith, is, short))
-
--- ---- numbers
-
-row_plain : (k n : ℕ) → ArePlain (digit_row k n)
-row_plain zero n = refl
-row_plain (suc k) n = plain_append (digit_row k (n / 10)) ((48 + n % 10) ∷ []) (row_plain k (n / 10)) (plain_one (n % 10) (omega arith))
-
-dec_plain_by : (n places : ℕ) (b : Bool) → n < 2 ^ 128
-    → ArePlain (if b then decimal n else decimal (n / 10 ^ places) ++ 46 ∷ digit_row places n)
-dec_plain_by n places true h = decimal_plain n h
-dec_plain_by n places false h =
-    plain_append (decimal (n / 10 ^ places)) (46 ∷ digit_row places n)
-    (decimal_plain (n / 10 ^ places) (omega (arith, div-le_self n (10 ^ places))))
-    (plain_cons 46 (digit_row places n) point (row_plain places n))
+day_plain d h = in_xml (day_text d) (plain.day_plain d h)
 
 -- the text of a number is plain
 pub dec_plain : (z : ℤ) (places : ℕ) → unsigned_abs z < 2 ^ 128 → ArePlain (dec_text z places)
-dec_plain (pos n) places h = dec_plain_by n places (places == 0) h
-dec_plain (negsuc n) places h =
-    plain_cons 45 (unsigned_dec (suc n) places) dash (dec_plain_by (suc n) places (places == 0) h)
+dec_plain z places h = in_xml (dec_text z places) (plain.dec_plain z places h)
 
 -- the text of a whole number is plain
 pub whole_plain : (z : ℤ) → unsigned_abs z < 2 ^ 128 → ArePlain (signed_decimal z)
-whole_plain (pos n) h = decimal_plain n h
-whole_plain (negsuc n) h = plain_cons 45 (decimal (suc n)) dash (decimal_plain (suc n) h)
-
--- ---- currencies
-
-capital_plain : (c : ℕ) → (65 ≤ c) × (c ≤ 90) → is_plain c ≡ true
-unfolding is_plain
-capital_plain c h = grind (arith, nat_tests)
+whole_plain z h = in_xml (signed_decimal z) (plain.whole_plain z h)
 
 -- capital letters are plain
 pub capitals_plain : (s : List ℕ) → All (λ c. (65 ≤ c) × (c ≤ 90)) s → ArePlain s
-capitals_plain [] h = refl
-capitals_plain (c ∷ cs) h =
-    let P : ℕ → Type 0 = λ c. (65 ≤ c) × (c ≤ 90) in
-    plain_cons c cs (capital_plain c (All-head P c cs h)) (capitals_plain cs (All-tail P c cs h))
+capitals_plain s h = in_xml s (plain.capitals_plain s h)

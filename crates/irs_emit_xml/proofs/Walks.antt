@@ -7,7 +7,8 @@ use Rattle.irs_schedule.specs.declared.entries.PaymentEntry.{PaymentEntry}
 use Rattle.irs_terms.specs.declared.currency.Currency.{Currency}
 use Rattle.irs_emit_xml.specs.Flows.{forecast_node, lines, one_period, period_nodes}
 use Rattle.irs_emit_xml.specs.Trees.{Node, node_text}
-use Rattle.irs_emit_xml.proofs.Lines.{lines_append, nothing_more, one_line}
+use Rattle.irs_emit.proofs.Pieces.{nothing_more}
+use Rattle.irs_emit_xml.proofs.Lines.{lines_append, one_line}
 
 -- one more row of a list
 pub mapped_more : {X : Type 0} (k : ℕ) (f : X → Node) (xs : List X) (j : ℕ) (x : X) (old now next : List ℕ) → j < length xs → x ≡ get_or xs j x

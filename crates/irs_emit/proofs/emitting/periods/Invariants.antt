@@ -1,8 +1,10 @@
 use Rattle.irs_emit.proofs.emitting.periods.Given as goal
 use Rattle.irs_emit.specs.Emitted.{period_values}
-use Rattle.serde_json.specs.View.{view}
-use Rattle.std.proofs.Common.{◌≡◌, map}
+use Rattle.irs_emit.specs.Private.Texts.{is_later, listed_text}
+use Rattle.std.proofs.Common.{◌≡◌, ◌-◌, ◌++◌, false}
 
--- the values of the periods so far
-abbrev pub invariant-loop-j : goal.invariant-loop-j
-invariant-loop-j l = map view l.list.items ≡ period_values l.part l.first l.j
+-- the periods so far
+abbrev pub invariant-loop-place : goal.invariant-loop-place
+invariant-loop-place l =
+    (l.out.items ≡ l.fn.out.items ++ listed_text false (period_values l.part l.first (l.place - l.first)))
+    × (l.later ≡ is_later false (period_values l.part l.first (l.place - l.first)))
