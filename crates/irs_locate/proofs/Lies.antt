@@ -1,5 +1,6 @@
 -- What lies at the end of a way, a step further.
-use Rattle.std.proofs.Common.{◌≡◌, ℕ, zero, suc, ◌+◌, ◌-◌, List, [], ◌∷◌, drop, Some, None, refl, sym, ap, subst, arith}
+use Rattle.std.proofs.Common.{◌≡◌, ℕ, zero, suc, ◌+◌, ◌-◌, List, [], ◌∷◌, drop}
+use Rattle.std.proofs.Common.{Some, None, refl, sym, ap, subst, arith, ◌∙◌}
 use Rattle.std.specs.Prelude.{slice_get}
 use Rattle.std.proofs.lemmas.Option.{same_Some}
 use Rattle.irs_elements.specs.Find.{values_in}
@@ -33,3 +34,42 @@ pub a_step_on : (steps : List Step) (k : ℕ) (step : Step) (d x e : Data) → s
 a_step_on steps k step d x e is leads lies =
     subst (λ (left : List Step). LiesAt left d e) (sym (drop_next steps k step is))
     (below step (drop (k + 1) steps) d x e leads lies)
+
+-- ---- nothing else lies there
+
+-- what lies at the end of these steps, by the first of them
+abbrev Leads : List Step → Data → Data → Type 0
+Leads [] d e = d ≡ e
+Leads (step ∷ steps) d e =
+    (x : Data) × ((slice_get (values_in step.name (Some d)) (step.number - 1) ≡ Some x) × LiesAt steps x e)
+
+leads : (steps : List Step) (d e : Data) → LiesAt steps d e → Leads steps d e
+leads _ _ _ (here d) = refl
+leads _ _ _ (below step steps d x e next on) = (x, (next, on))
+
+-- where the way ends, only the value itself lies at its end
+pub only_end : (steps : List Step) (k : ℕ) (d e : Data) → slice_get steps k ≡ None → LiesAt (drop k steps) d e → d ≡ e
+only_end steps k d e none lies =
+    leads [] d e (subst (λ (left : List Step). LiesAt left d e) (drop_none steps k none) lies)
+
+-- what lies further on lies below the value that the next step leads to
+pub only_below : (steps : List Step) (k : ℕ) (step : Step) (d e : Data) → slice_get steps k ≡ Some step
+    → LiesAt (drop k steps) d e
+    → (x : Data) × ((slice_get (values_in step.name (Some d)) (step.number - 1) ≡ Some x)
+    × LiesAt (drop (k + 1) steps) x e)
+only_below steps k step d e is lies =
+    leads (step ∷ drop (k + 1) steps) d e
+    (subst (λ (left : List Step). LiesAt left d e) (drop_next steps k step is) lies)
+
+-- nothing is no value
+pub none_is_value : (x : Data) → None ≡ Some x → ⊥
+none_is_value x e = cc
+
+-- at most one value lies at the end of a way
+pub one_value : (steps : List Step) (d a b : Data) → LiesAt steps d a → LiesAt steps d b → a ≡ b
+one_value [] d a b to_a to_b = sym (leads [] d a to_a) ∙ leads [] d b to_b
+one_value (step ∷ steps) d a b to_a to_b =
+    let by_a = leads (step ∷ steps) d a to_a in
+    let by_b = leads (step ∷ steps) d b to_b in
+    let same = same_Some by_a.0 by_b.0 (sym by_a.1.0 ∙ by_b.1.0) in
+    one_value steps by_b.0 a b (subst (λ (x : Data). LiesAt steps x a) same by_a.1.1) by_b.1.1

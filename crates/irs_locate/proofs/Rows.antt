@@ -1,9 +1,42 @@
--- Rows that are out of the profile.
-use Rattle.std.proofs.Common.{ℕ, ◌&&◌, ◌==◌, List}
+-- The row of an element, and rows that are out of the profile.
+use Rattle.std.proofs.Common.{◌≡◌, ℕ, ◌+◌, ◌≤◌, Bool, true, false, ◌&&◌, ◌==◌, List, Some, length, slice_get}
+use Rattle.std.proofs.Common.{refl, sym, ap, arith, ◌∙◌}
+use Rattle.std.proofs.lemmas.Bool.Decides.{nat_tests}
+use Rattle.std.proofs.lemmas.Option.{same_Some, slice_get_within}
+use Rattle.std.specs.Prelude.{nat_lt}
 use Rattle.std.specs.Str.{bytes_eq}
 use Rattle.irs_elements.proofs.KnownNames.{Test}
 use Rattle.irs_elements.specs.Elements.{is_refused, name_at}
+use Rattle.irs_elements.specs.declared.table.Row.{Row}
+use Rattle.irs_locate.specs.Members.{IsRowOf, is_row_of}
 
 -- whether a row below the object at row r has the name, and is out of the profile
 abbrev pub IsOutAt : List (List ℕ) → ℕ → List ℕ → Test
 IsOutAt names r name = λ (c, row). is_refused row.kind && (row.parent == r && bytes_eq (name_at names c) name)
+
+-- nothing is both
+true_is_false : true ≡ false → ⊥
+true_is_false e = cc
+
+later_by : (b : Bool) (rows : List Row) (e r s : ℕ) (row found : Row) → nat_lt r s ≡ b → r ≤ s
+    → slice_get rows r ≡ Some row → is_row_of e row ≡ false → slice_get rows s ≡ Some found
+    → is_row_of e found ≡ true → r + 1 ≤ s
+later_by true rows e r s row found less least at other there is = grind (arith, nat_tests, less)
+later_by false rows e r s row found more least at other there is =
+    let same : s ≡ r = grind (arith, nat_tests, more, least) in
+    let one : found ≡ row = same_Some found row (sym there ∙ ap (slice_get rows) same ∙ at) in
+    absurd (true_is_false (sym is ∙ ap (is_row_of e) one ∙ other))
+
+-- where this row isn't that of the element, its row is a later one
+pub row_later : (rows : List Row) (e r : ℕ) (row : Row) → slice_get rows r ≡ Some row → is_row_of e row ≡ false
+    → ((s : ℕ) → IsRowOf rows e s → r ≤ s) → (s : ℕ) → IsRowOf rows e s → r + 1 ≤ s
+row_later rows e r row at other so_far s (found, (there, is)) =
+    later_by (nat_lt r s) rows e r s row found refl (so_far s (found, (there, is))) at other there is
+
+-- where all rows come before, none is left
+pub no_row : (rows : List Row) (e r : ℕ) → length rows ≤ r → ((s : ℕ) → IsRowOf rows e s → r ≤ s)
+    → (s : ℕ) → IsRowOf rows e s → ⊥
+no_row rows e r end so_far s (found, (there, is)) =
+    let least = so_far s (found, (there, is)) in
+    let within = slice_get_within rows s found there in
+    omega (arith, least, within, end)

@@ -2,19 +2,27 @@
 use Rattle.irs_base.specs.Elements.{swap}
 use Rattle.irs_base.specs.Rules.{rule_number}
 use Rattle.irs_base.specs.declared.places.Broken.{Broken}
+use Rattle.irs_base.specs.declared.places.Place.{Place}
 use Rattle.irs_elements.specs.Elements.{is_element, is_refused, is_unknown, name_at}
 use Rattle.irs_elements.specs.Find.{values_in}
 use Rattle.irs_elements.specs.declared.table.Row.{Row}
 use Rattle.irs_json.specs.Names.{names_of}
 use Rattle.irs_locate.specs.Ways.{Step, way}
+use Rattle.irs_read.specs.Documents.{has}
 use Rattle.irs_read.specs.StreamLines.{stream_names, stream_rows, swap_names, swap_rows}
 use Rattle.serde_json.specs.Data.{Data}
 use Rattle.std.specs.List.{enumerate_from, find, list_any}
 use Rattle.std.specs.Prelude.{◌≡◌, ℕ, ◌-◌, ◌==◌, Bool, true, ◌&&◌, List, [], ◌∷◌, Option, Some, None, slice_get}
-use Rattle.std.specs.Prelude.{if◌then◌else◌}
+use Rattle.std.specs.Prelude.{codes, if◌then◌else◌}
 use Rattle.std.specs.Str.{bytes_eq}
 
 -- ---- the object at a place
+
+-- the name of the root of a document: the first of `swap` and `trade` that it has, or else `dataDocument`
+abbrev pub root_in : Data → List ℕ
+root_in d =
+    if has (codes "swap") d then codes "swap" else
+    (if has (codes "trade") d then codes "trade" else codes "dataDocument")
 
 -- the value e lies in d at the end of these steps: each leads to the value with its number among those of its name,
 -- which are the items of an array, or a single value
@@ -23,6 +31,10 @@ pub data LiesAt : List Step → Data → Data → Type 0 where
   below : (step : Step) (steps : List Step) (d x e : Data)
       → slice_get (values_in step.name (Some d)) (step.number - 1) ≡ Some x → LiesAt steps x e
       → LiesAt (step ∷ steps) d e
+
+-- e is the value at the place in the document d
+abbrev pub IsValueAt : Data → Place → Data → Type 0
+IsValueAt d place e = LiesAt (way (root_in d) place) d e
 
 -- ---- the tables
 
@@ -61,11 +73,10 @@ first_odd k t r names =
 
 -- the member of that name breaks the rule in the object at the place
 pub record IsMember (d : Data) (broken : Broken) (name : List ℕ) : Type 0 where
-  -- the name of the root; the object at the place, and the names of its members
-  pub root : List ℕ
+  -- the object at the place, and the names of its members
   pub object : Data
   pub names : List (List ℕ)
-  pub lies : LiesAt (way root broken.place) d object
+  pub lies : IsValueAt d broken.place object
   pub members : names_of object ≡ Some names
   -- its row in the table, and the first name that breaks the rule
   pub row : ℕ
@@ -75,3 +86,7 @@ pub record IsMember (d : Data) (broken : Broken) (name : List ℕ) : Type 0 wher
 -- the name is that of the first member by which the document breaks K4 or K5 at the place
 abbrev pub IsMemberOf : Data → Broken → List ℕ → Type 0
 IsMemberOf d broken name = IsMember d broken name
+
+-- at most one name is that of the member
+abbrev pub HasOneMember : Data → Broken → Type 0
+HasOneMember d broken = (a b : List ℕ) → IsMemberOf d broken a → IsMemberOf d broken b → a ≡ b

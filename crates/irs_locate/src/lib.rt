@@ -8,4 +8,4 @@ mod members;
 mod ways;
 
 pub use lines::line_of;
-pub use members::member_of;
+pub use members::{member_is_determined, member_of};

@@ -1,17 +1,21 @@
 //! The name of the member by which an object breaks K4 or K5.
 ghost use Rattle.irs_base.specs.Rules.{rule_number};
+ghost use Rattle.irs_base.specs.declared.places.Broken.{Broken as BrokenRule};
 ghost use Rattle.irs_elements.specs.Elements.{is_element as is_element_of, is_known as is_known_in};
 ghost use Rattle.irs_elements.specs.Elements.{is_refused as is_refused_of};
 ghost use Rattle.irs_elements.specs.Elements.{is_unknown, name_at, texts};
-ghost use Rattle.irs_elements.specs.Find.{values_in};
-ghost use Rattle.irs_locate.specs.Members.{IsMemberOf, IsRowOf, LiesAt, first_odd as first_odd_of, is_out as is_out_of};
-ghost use Rattle.irs_locate.specs.Members.{is_row_of as is_row_of_elem, table_of as table_of_elem};
+ghost use Rattle.irs_elements.specs.Find.{seen, values_in};
+ghost use Rattle.irs_locate.specs.Members.{HasOneMember, IsMemberOf, IsRowOf, IsValueAt, first_odd as first_odd_of};
+ghost use Rattle.irs_locate.specs.Members.{is_out as is_out_of, is_row_of as is_row_of_elem, root_in};
+ghost use Rattle.irs_locate.specs.Members.{table_of as table_of_elem};
 ghost use Rattle.irs_locate.specs.Private.Seen.{known_seen};
-ghost use Rattle.irs_locate.specs.Ways.{way};
+ghost use Rattle.irs_read.specs.Documents.{has as has_of};
+ghost use Rattle.serde_json.specs.Data.{Data};
 ghost use Rattle.serde_json.specs.View.{view};
 ghost use Rattle.std.specs.List.{find};
-ghost use Rattle.std.specs.Prelude.{◌≡◌, ◌-◌, ◌<◌, ◌==◌, ◌&&◌, IfSome, Some, nat_lt, option_map, slice_get};
-ghost use Rattle.std.specs.Str.{bytes_eq};
+ghost use Rattle.std.specs.Prelude.{◌≡◌, ◌-◌, ◌<◌, ◌==◌, ◌&&◌, IfNone, IfSome, List, None, Some, nat_lt, option_map};
+ghost use Rattle.std.specs.Prelude.{slice_get, ℕ};
+ghost use Rattle.std.specs.Str.{IsUtf8, bytes_eq};
 
 use crate::ways::step_at;
 use irs_base::{Broken, Elem, Place, Rule};
@@ -84,7 +88,8 @@ fn is_row_of(elem: Elem, row: &Row) -> bool
 
 // The row of the element, if it has one.
 fn row_of(rows: &[Row], elem: Elem) -> Option<usize>
-    ensures { IfSome result (IsRowOf rows.now elem) }
+    ensures some { IfSome result (IsRowOf rows.now elem) }
+    ensures none { IfNone result ((r : ℕ) → ¬ (IsRowOf rows.now elem r)) }
 {
     for r in 0..rows.len() {
         if is_row_of(elem, &rows[r]) {
@@ -176,11 +181,20 @@ fn first_odd<'a>(rule: Rule, table: Known, r: usize, listed: MemberIter<'a>) -> 
 
 // ---- the object at a place
 
+// Whether the document has an element of that name.
+fn has(document: &Value, name: &str) -> bool
+    ensures { result ≡ has_of name.now (view document.now) }
+{
+    child(document, name).is_some()
+}
+
 // The name of the document's root.
-fn root_of(document: &Value) -> &'static str {
-    if child(document, "swap").is_some() {
+fn root_of(document: &Value) -> &'static str
+    ensures { result.now ≡ root_in (view document.now) }
+{
+    if has(document, "swap") {
         "swap"
-    } else if child(document, "trade").is_some() {
+    } else if has(document, "trade") {
         "trade"
     } else {
         "dataDocument"
@@ -190,7 +204,10 @@ fn root_of(document: &Value) -> &'static str {
 // The value with that number, from 1, among those of a name in v.
 fn value_below<'a>(v: &'a Value, name: &[u8], number: u32) -> Option<&'a Value>
     requires { 0 < number }
-    ensures { IfSome result (λ x. slice_get (values_in name.now (Some (view v.now))) (number - 1) ≡ Some (view x.now)) }
+    ensures some { IfSome result (λ x. slice_get (values_in name.now (Some (view v.now))) (number - 1)
+        ≡ Some (view x.now)) }
+    ensures none { IsUtf8 name.now
+        → IfNone result (slice_get (values_in name.now (Some (view v.now))) (number - 1) ≡ None) }
 {
     match str::from_utf8(name) {
         Err(_) => None,
@@ -198,10 +215,12 @@ fn value_below<'a>(v: &'a Value, name: &[u8], number: u32) -> Option<&'a Value>
     }
 }
 
-// The value at a place, by a root of that name.
-fn value_at<'a>(document: &'a Value, root: &[u8], place: &Place) -> Option<&'a Value>
-    ensures { IfSome result (λ v. LiesAt (way root.now place.now) (view document.now) (view v.now)) }
+// The value at a place.
+fn value_at<'a>(document: &'a Value, place: &Place) -> Option<&'a Value>
+    ensures some { IfSome result (λ v. IsValueAt (view document.now) place.now (view v.now)) }
+    ensures only { (e : Data) → IsValueAt (view document.now) place.now e → seen result ≡ Some e }
 {
+    let root = root_of(document).as_bytes();
     let mut v = document;
     for k in 0..MOST_STEPS {
         match step_at(root, place, k) {
@@ -216,16 +235,23 @@ fn value_at<'a>(document: &'a Value, root: &[u8], place: &Place) -> Option<&'a V
 }
 
 /// For K4 the name of the first member of the object at the place that the table doesn't know, for K5 that
-/// of the first one that is out of the profile, in the order of `irs_json::members`. `None` for every
-/// other rule.
+/// of the first one that is out of the profile, in the order of `irs_json::members`. `None` exactly where
+/// no member breaks the rule so, and thus for every other rule.
 pub fn member_of<'a>(document: &'a Value, broken: Broken) -> Option<&'a str>
-    ensures { IfSome result (λ m. IsMemberOf (view document.now) broken m.now) }
+    ensures is { IfSome result (λ m. IsMemberOf (view document.now) broken m.now) }
+    ensures found { (name : List ℕ) → IsMemberOf (view document.now) broken name
+        → option_map (λ m. m.now) result ≡ Some name }
 {
     let Broken { rule, place } = broken;
-    let object = value_at(document, root_of(document).as_bytes(), &place)?;
+    let object = value_at(document, &place)?;
     let listed = members(object)?;
     let elem = place.elem;
     let table = table_of(elem);
     let r = row_of(table.rows, elem)?;
     first_odd(rule, table, r, listed)
 }
+
+/// A law: a document and a broken rule have at most one name of a member.
+pub fn member_is_determined()
+    ensures { (d : Data) (broken : BrokenRule) → HasOneMember d broken }
+{}
