@@ -2,4 +2,5 @@ pub mod Ways
 pub mod Markup
 pub mod Lines
 pub mod Members
+pub mod Texts
 pub mod Private

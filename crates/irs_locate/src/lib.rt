@@ -1,11 +1,13 @@
-//! Where in a document a rule is broken: the line of an element in FpML XML, and the name of the member
-//! that K4 or K5 means. That a sentence says so is our rule.
+//! Where in a document a rule is broken: the line of an element in FpML XML, the name of the member that K4
+//! or K5 means, and the text of a leaf (K6). That a sentence says so is our rule.
 #![tactic(auto)]
 
 mod lines;
 mod markup;
 mod members;
+mod texts;
 mod ways;
 
 pub use lines::line_of;
 pub use members::{member_is_determined, member_of};
+pub use texts::text_of;

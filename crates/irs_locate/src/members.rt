@@ -215,8 +215,8 @@ fn value_below<'a>(v: &'a Value, name: &[u8], number: u32) -> Option<&'a Value>
     }
 }
 
-// The value at a place.
-fn value_at<'a>(document: &'a Value, place: &Place) -> Option<&'a Value>
+/// The value at a place.
+pub(crate) fn value_at<'a>(document: &'a Value, place: &Place) -> Option<&'a Value>
     ensures some { IfSome result (λ v. IsValueAt (view document.now) place.now (view v.now)) }
     ensures only { (e : Data) → IsValueAt (view document.now) place.now e → seen result ≡ Some e }
 {
