@@ -353,7 +353,7 @@ class Files(InAFolder):
             "--weekend",
             "FRI SAT",
         )
-        self.assertTrue(ended.out.endswith("weekend FRI SAT\n2024-01-01\n2024-12-25\n2024-12-26\n"), ended)
+        self.assertTrue(ended.out.endswith("weekend FRI SAT\n2024-01-01\n2024-12-25\n2024-12-26\n# end 8\n"), ended)
         self.write("days.ics", self.ICS.replace("DTEND;VALUE=DATE:20241227", "DURATION:P2D"))
         self.assertEqual(
             ran(
