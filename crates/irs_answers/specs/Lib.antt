@@ -17,4 +17,7 @@ pub mod Outcomes
 pub mod Unread
 pub mod Common
 pub mod Found
+pub mod Fronts
+pub mod Centers
+pub mod Spots
 pub mod Notes

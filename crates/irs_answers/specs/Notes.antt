@@ -1,30 +1,26 @@
 -- What a sentence adds to what a reply says, and when that is so.
-use Rattle.std.specs.Prelude.{◌≡◌, ℕ, ◌==◌, ◌||◌, Bool, true, false, List, Option, None, IfSome, IsSomeAnd}
-use Rattle.serde_json.specs.Data.{Data}
-use Rattle.irs_base.specs.Rules.{rule_number}
+use Rattle.std.specs.Prelude.{◌≡◌, Bool, true, false, List, Option, Some, None}
 use Rattle.irs_base.specs.declared.places.Broken.{Broken}
-use Rattle.irs_base.specs.declared.places.Place.{Place}
-use Rattle.irs_base.specs.declared.places.Rule.{Rule}
 use Rattle.irs_audit.specs.Verdicts.{unfixed_count}
 use Rattle.irs_schedule.specs.Parts.{Part}
-use Rattle.irs_locate.specs.Lines.{IsLineOf}
-use Rattle.irs_locate.specs.Members.{IsMemberOf}
 use Rattle.irs_unfixed.specs.Counts.{payment_count}
 use Rattle.irs_unfixed.specs.Fixings.{Fixing}
 use Rattle.irs_unfixed.specs.Missing.{IsFirstLacking, MadeFrom, made_from}
 use Rattle.irs_unfixed.specs.Unfixed.{EachHasAmount}
 use Rattle.irs_unfixed.specs.declared.places.PaymentPlace.{PaymentPlace}
 use Rattle.irs_answers.specs.Due.{Facts, Passes, rates_for}
-use Rattle.irs_answers.specs.Forms.{SourceText, TextReads}
+use Rattle.irs_answers.specs.Forms.{SourceText}
+use Rattle.irs_answers.specs.Fronts.{front_of}
 use Rattle.irs_answers.specs.Given.{Given}
+use Rattle.irs_answers.specs.Spots.{IsSpot}
 use Rattle.irs_answers.specs.Tasks.{states_amounts}
 use Rattle.irs_answers.specs.declared.causes.Cause.{Cause}
 use Rattle.irs_answers.specs.declared.causes.Cause.TheVariants.{Done, Uncompared, NotAgreed, Breaks, Refused}
-use Rattle.irs_answers.specs.declared.forms.Form.{Form}
-use Rattle.irs_answers.specs.declared.forms.Form.TheVariants.{Json, Xml}
+use Rattle.irs_answers.specs.declared.forms.Unread.{Unread}
+use Rattle.irs_answers.specs.declared.forms.Unread.TheVariants as unread
+use Rattle.irs_answers.specs.declared.fronts.Front.{Front}
 use Rattle.irs_answers.specs.declared.notes.Note.{Note}
 use Rattle.irs_answers.specs.declared.notes.Note.TheVariants as note
-use Rattle.irs_answers.specs.declared.notes.Spot.{Spot}
 use Rattle.irs_answers.specs.declared.notes.Unfixed.{Unfixed}
 use Rattle.irs_answers.specs.declared.refusals.Refusal.{Refusal}
 use Rattle.irs_answers.specs.declared.refusals.Refusal.TheVariants as refusal
@@ -51,6 +47,7 @@ abbrev pub IsAmountsNote : MadeFrom → List Part → Note → Type 0
 IsAmountsNote x parts note.Nothing = EachHasAmount parts
 IsAmountsNote x parts (note.Unfixed u) = IsUnfixed x parts u
 IsAmountsNote x parts (note.Spot s) = ⊥
+IsAmountsNote x parts (note.Front f) = ⊥
 
 -- what the schedule of these facts is made from
 abbrev pub made_by : Task → Facts → MadeFrom
@@ -71,40 +68,28 @@ pub record IsPassedNote (t : Task) (g : Given) (n : Note) : Type 0 where
   pub passes : Passes t g facts
   pub note : IsFixedNote t facts n
 
--- ---- a broken rule
-
--- FpML XML has the line of the element at a place, and JSON has none
-abbrev pub IsLineIn : Form → List ℕ → Place → Option ℕ → Type 0
-IsLineIn Json bytes place line = line ≡ None
-IsLineIn Xml bytes place line = IsSomeAnd line (IsLineOf bytes place)
-
--- the name is that of the member by which the document breaks the rule
-abbrev pub IsMemberIn : SourceText → Broken → List ℕ → Type 0
-IsMemberIn w b name = (v : Data) × TextReads w v × IsMemberOf v b name
-
--- whether the rule is about the name of a member: K4 and K5 are
-abbrev pub is_of_member : Rule → Bool
-is_of_member r = (rule_number r == 4) || (rule_number r == 5)
-
--- the name of the member, for a rule that is about one; none where it has no name, or memory ran out
-abbrev pub IsMemberIf : Bool → SourceText → Broken → Option (List ℕ) → Type 0
-IsMemberIf true w b name = IfSome name (IsMemberIn w b)
-IsMemberIf false w b name = name ≡ None
-
--- where the document breaks a rule
-pub record IsSpot (w : SourceText) (b : Broken) (s : Spot) : Type 0 where
-  pub member : IsMemberIf (is_of_member b.rule) w b s.member
-  pub line : IsLineIn w.form w.bytes b.place s.line
+-- ---- a refusal
 
 -- where the document breaks this rule
 abbrev pub IsRuleNote : SourceText → Broken → Note → Type 0
 IsRuleNote w b note.Nothing = ⊥
 IsRuleNote w b (note.Unfixed u) = ⊥
 IsRuleNote w b (note.Spot s) = IsSpot w b s
+IsRuleNote w b (note.Front f) = ⊥
 
--- what is added to a refusal: where the document breaks a rule
+-- how a text begins, where that tells why it isn't JSON
+abbrev pub front_note : Option Front → Note
+front_note None = note.Nothing
+front_note (Some f) = note.Front f
+
+-- what is added where the document has no reading
+abbrev pub IsUnreadNote : SourceText → Unread → Note → Type 0
+IsUnreadNote w unread.Json n = n ≡ front_note (front_of w.bytes)
+IsUnreadNote w (unread.Xml line column) n = n ≡ note.Nothing
+
+-- what is added to a refusal: where the document breaks a rule, or how its text begins
 abbrev pub IsRefusalNote : SourceText → Refusal → Note → Type 0
-IsRefusalNote w (refusal.Unreadable u) n = n ≡ note.Nothing
+IsRefusalNote w (refusal.Unreadable u) n = IsUnreadNote w u n
 IsRefusalNote w (refusal.Rule b) n = IsRuleNote w b n
 IsRefusalNote w (refusal.Calendars e) n = n ≡ note.Nothing
 IsRefusalNote w (refusal.Fixings e) n = n ≡ note.Nothing

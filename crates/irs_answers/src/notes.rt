@@ -1,22 +1,23 @@
-//! What a sentence adds to what a reply says: which payments have no amount, and where in its text a document
-//! breaks a rule. That it is said is our rule.
-ghost use Rattle.std.specs.Prelude.{◌≡◌, IfOk, IfSome};
+//! What a sentence adds to what a reply says: which payments have no amount, where in its text a document breaks a
+//! rule, and how a text begins that isn't JSON. That it is said is our rule.
+ghost use Rattle.std.specs.Prelude.{◌≡◌, IfOk};
 ghost use Rattle.irs_audit.specs.Verdicts.{unfixed_count};
 ghost use Rattle.irs_unfixed.specs.Counts.{payment_count};
 ghost use Rattle.irs_unfixed.specs.Missing.{IsMadeFrom, made_from};
 ghost use Rattle.irs_unfixed.specs.Missing.{fixing_of as missing_fixing, place_of as missing_place};
 ghost use Rattle.irs_answers.specs.Forms.{source_by};
 ghost use Rattle.irs_answers.specs.Found.{facts_by};
-ghost use Rattle.irs_answers.specs.Notes.{IsAmountsNote, IsFixedNote, fixing_of, made_by, place_of};
-ghost use Rattle.irs_answers.specs.Notes.{IsLineIn, IsMemberIf, IsMemberIn, IsRefusalNote, IsSpot, is_of_member};
+ghost use Rattle.irs_answers.specs.Notes.{IsAmountsNote, IsFixedNote, IsRefusalNote, IsUnreadNote, fixing_of};
+ghost use Rattle.irs_answers.specs.Notes.{front_note as front_note_of, made_by, place_of};
 
 use crate::due::Found;
-use crate::forms::{Form, Source, read_document};
+use crate::forms::{Source, Unread};
+use crate::fronts::{Front, front_of};
 use crate::refusals::Refusal;
 use crate::replies::Reply;
+use crate::spots::{Spot, spot_of};
 use crate::tasks::Task;
-use irs_base::{Broken, Day, Memory, Place, Rule, Text};
-use irs_locate::{line_of, member_of};
+use irs_base::{Day, Memory, Text};
 use irs_schedule::Schedule;
 use irs_terms::Frequency;
 use irs_unfixed::{Missing, first_missing, payment_count, unfixed_count};
@@ -41,15 +42,6 @@ pub struct Unfixed {
     pub day: Day,
 }
 
-/// Where in the text of a document a rule is broken, beyond the place in the line.
-#[derive(Drop)]
-pub struct Spot {
-    /// The name of the member, for K4 and K5.
-    pub member: Option<Text>,
-    /// The line of the element in FpML XML, from 1.
-    pub line: Option<u32>,
-}
-
 /// What a sentence adds to what a reply says.
 #[derive(Drop)]
 pub enum Note {
@@ -59,6 +51,8 @@ pub enum Note {
     Unfixed(Unfixed),
     /// Where the document breaks a rule.
     Spot(Spot),
+    /// How the text of a document that isn't JSON begins.
+    Front(Front),
 }
 
 /// What a task comes to, and what a sentence adds to it.
@@ -121,13 +115,13 @@ fn counted(alloc: Global, schedule: &Schedule, missing: &Missing<'_>) -> Result<
 
 // ---- a broken rule
 
-/// What a sentence adds to a refusal: where the document breaks a rule.
+/// What a sentence adds to a refusal: where the document breaks a rule, or how its text begins.
 pub(crate) fn refusal_note(alloc: Global, document: &Source, refusal: &Refusal) -> Note
     ensures { IsRefusalNote (source_by document.now) refusal.now result }
 {
     match refusal {
-        Refusal::Unreadable(_) => Note::Nothing,
-        Refusal::Rule(broken) => Note::Spot(spot_of(alloc, document, *broken)),
+        Refusal::Unreadable(unread) => unread_note(document, *unread),
+        Refusal::Rule(broken) => Note::Spot(spot_of(alloc, document, broken)),
         Refusal::Calendars(_) => Note::Nothing,
         Refusal::Fixings(_) => Note::Nothing,
         Refusal::UnreadableFlows(_) => Note::Nothing,
@@ -136,56 +130,22 @@ pub(crate) fn refusal_note(alloc: Global, document: &Source, refusal: &Refusal) 
     }
 }
 
-// Where the document breaks a rule.
-fn spot_of(alloc: Global, document: &Source, broken: Broken) -> Spot
-    ensures { IsSpot (source_by document.now) broken result }
+// What is added where the document has no reading.
+fn unread_note(document: &Source, unread: Unread) -> Note
+    ensures { IsUnreadNote (source_by document.now) unread result }
 {
-    let line = line_in(document, broken.place);
-    let member = member_in(alloc, document, broken);
-    Spot { member, line }
-}
-
-// The line of the element in FpML XML.
-fn line_in(document: &Source, place: Place) -> Option<u32>
-    ensures { IsLineIn document.now.form document.now.bytes.items place result }
-{
-    match document.form {
-        Form::Json => None,
-        Form::Xml => Some(line_of(&document.bytes, place)),
+    match unread {
+        Unread::Json => front_note(front_of(&document.bytes)),
+        Unread::Xml { .. } => Note::Nothing,
     }
 }
 
-// The name of the member that K4 or K5 means. The document is read again for these two rules alone.
-fn member_in(alloc: Global, document: &Source, broken: Broken) -> Option<Text>
-    ensures { IsMemberIf (is_of_member broken.rule) (source_by document.now) broken result }
+// How a text begins, where that tells why it isn't JSON.
+fn front_note(front: Option<Front>) -> Note
+    ensures { result ≡ front_note_of front }
 {
-    if is_of_member(broken.rule) {
-        named_member(alloc, document, broken)
-    } else {
-        None
-    }
-}
-
-// Whether the rule is about the name of a member.
-fn is_of_member(rule: Rule) -> bool
-    ensures { result ≡ is_of_member rule }
-{
-    let number = rule.number();
-    number == 4 || number == 5
-}
-
-// The name of the member by which the document breaks the rule. None where it has no name, or memory ran out.
-fn named_member(alloc: Global, document: &Source, broken: Broken) -> Option<Text>
-    ensures { IfSome result (IsMemberIn (source_by document.now) broken) }
-{
-    let Ok(value) = read_document(alloc, document) else {
-        return None;
-    };
-    let Some(name) = member_of(&value, broken) else {
-        return None;
-    };
-    match Text::from_bytes(alloc, name.as_bytes()) {
-        Ok(text) => Some(text),
-        Err(Memory) => None,
+    match front {
+        None => Note::Nothing,
+        Some(front) => Note::Front(front),
     }
 }

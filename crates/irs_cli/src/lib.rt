@@ -16,7 +16,7 @@ mod sharing;
 
 pub use causes::{RunCause, RunReply};
 pub use commands::Role;
-pub use irs_answers::{Cause, Common, Note, Spot, Unfixed};
+pub use irs_answers::{Cause, Common, Front, Note, Spot, Unfixed};
 pub use irs_base::Status;
 pub use irs_bulk::{bulk_calendar, bulk_doc};
 pub use irs_outside::{

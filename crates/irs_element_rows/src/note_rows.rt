@@ -1,18 +1,20 @@
 //! The rows of what a sentence adds to what a reply says. Some have the payments that have no amount,
-//! or where a document breaks a rule, and say the sentence. The others have a document and a broken
-//! rule. They say the line of its element in FpML XML, or the name of the member that K4 or K5 means.
+//! where a document breaks a rule, or how its text begins, and say the sentence. The others have a
+//! document and a broken rule. They say the line of its element in FpML XML, the name of the member that
+//! K4 or K5 means, or the text of the leaf.
 use crate::order_rows::broken_of;
 use crate::told::Told;
 use crate::words::words_of;
 use crate::xml_texts::bytes_of;
-use irs_answers::{Note, Refusal, Spot, Unfixed};
+use irs_answers::{Front, Note, Refusal, Spot, Unfixed, Unread};
 use irs_base::{Broken, Text, read_date};
 use irs_cli::{Cause, RunCause};
 use irs_json::parse;
-use irs_locate::{line_of, member_of};
+use irs_locate::{line_of, member_of, text_of};
 use irs_outside::MemSink;
 use irs_plain::put_sentence;
 use irs_resets::tenor;
+use itoa::Buffer;
 use std::alloc::Global;
 
 /// The most bytes of a sentence of the rows.
@@ -37,7 +39,7 @@ fn tell_said(told: &mut Told, alloc: Global, cause: &RunCause) -> Option<()> {
 // ---- payments without an amount
 
 // A text, by the bytes that it has in the row.
-fn text_of(alloc: Global, text: &str) -> Option<Text> {
+fn index_of(alloc: Global, text: &str) -> Option<Text> {
     let bytes = bytes_of(alloc, text)?;
     Text::from_bytes(alloc, &bytes).ok()
 }
@@ -55,7 +57,7 @@ fn unfixed_of(alloc: Global, text: &str) -> Option<Unfixed> {
         payments: payments.parse::<u32>().ok()?,
         stream: stream.parse::<u8>().ok()?,
         payment: payment.parse::<u32>().ok()?,
-        index: text_of(alloc, index)?,
+        index: index_of(alloc, index)?,
         tenor: tenor(tenor_text.as_bytes())?,
         day: read_date(day.as_bytes())?,
     })
@@ -78,8 +80,8 @@ fn line_in(text: &str) -> Option<Option<u32>> {
     Some(Some(text.parse::<u32>().ok()?))
 }
 
-// `-` for no member, or its name as a JSON string.
-fn member_in(alloc: Global, text: &str) -> Option<Option<Text>> {
+// `-` for no name, or the name of a member, a text or a centre as a JSON string.
+fn name_in(alloc: Global, text: &str) -> Option<Option<Text>> {
     if text == "-" {
         return Some(None);
     }
@@ -88,13 +90,27 @@ fn member_in(alloc: Global, text: &str) -> Option<Option<Text>> {
     Some(Some(Text::from_bytes(alloc, name.as_bytes()).ok()?))
 }
 
-// Reports the sentence on a broken rule with `LINE MEMBER`.
+// The spot with that line and that name: the text of a leaf for K6, a centre for K12, else a member.
+fn spot_with(broken: Broken, line: Option<u32>, name: Option<Text>) -> Spot {
+    let (member, text, center) = match broken.rule.number() {
+        6 => (None, name, None),
+        12 => (None, None, name),
+        _ => (name, None, None),
+    };
+    Spot {
+        member,
+        text,
+        center,
+        line,
+    }
+}
+
+// Reports the sentence on a broken rule with `LINE NAME`.
 fn tell_spot(told: &mut Told, alloc: Global, broken: Broken, text: &str) -> Option<()> {
-    let (line, member) = text.split_once(' ')?;
-    let line = line_in(line)?;
-    let member = member_in(alloc, member)?;
+    let (line, name) = text.split_once(' ')?;
+    let spot = spot_with(broken, line_in(line)?, name_in(alloc, name)?);
     let cause = Cause::Refused(Refusal::Rule(broken));
-    let cause = RunCause::Replied(cause, Note::Spot(Spot { member, line }));
+    let cause = RunCause::Replied(cause, Note::Spot(spot));
     tell_said(told, alloc, &cause)
 }
 
@@ -115,6 +131,17 @@ fn tell_member(told: &mut Told, alloc: Global, broken: Broken, text: &str) -> Op
     Some(())
 }
 
+// Reports the text of the leaf at the place of a broken rule in a JSON text, or `none`.
+fn tell_text(told: &mut Told, alloc: Global, broken: Broken, text: &str) -> Option<()> {
+    let document = parse(alloc, text.as_bytes()).ok()?;
+    let mut digits = Buffer::new();
+    match text_of(&document, broken.place, &mut digits) {
+        Some(text) => told.debug(&text),
+        None => told.text("none"),
+    }
+    Some(())
+}
+
 // What is asked of a broken rule: `QUESTION of RULE STREAM PATH INDEX`.
 fn tell_of_rule(told: &mut Told, alloc: Global, question: &str, text: &str) -> Option<()> {
     let (question, broken) = question.split_once(" of ")?;
@@ -123,16 +150,33 @@ fn tell_of_rule(told: &mut Told, alloc: Global, question: &str, text: &str) -> O
         "sentence" => tell_spot(told, alloc, broken, text),
         "line" => tell_line(told, alloc, broken, text),
         "member" => tell_member(told, alloc, broken, text),
+        "text" => tell_text(told, alloc, broken, text),
         _ => None,
     }
 }
 
-/// Reports the sentence with what is added to it, the line of an element, or the name of a member.
+// ---- a document that isn't JSON
+
+// Reports the sentence on a document that isn't JSON, with how its text begins: `mark` or `markup`.
+fn tell_front(told: &mut Told, alloc: Global, text: &str) -> Option<()> {
+    let front = match text {
+        "mark" => Front::Mark,
+        "markup" => Front::Markup,
+        _ => return None,
+    };
+    let cause = Cause::Refused(Refusal::Unreadable(Unread::Json));
+    let cause = RunCause::Replied(cause, Note::Front(front));
+    tell_said(told, alloc, &cause)
+}
+
+/// Reports the sentence with what is added to it, the line of an element, the name of a member or the text
+/// of a leaf.
 pub fn tell_note(told: &mut Told, alloc: Global, question: &str, text: &str) -> Option<()> {
     match question {
         "done" => tell_amounts(told, alloc, Cause::Done, text),
         "uncompared" => tell_amounts(told, alloc, Cause::Uncompared(1), text),
         "breaks" => tell_amounts(told, alloc, Cause::Breaks, text),
+        "begins" => tell_front(told, alloc, text),
         _ => tell_of_rule(told, alloc, question, text),
     }
 }

@@ -4,7 +4,7 @@ use Rattle.std.proofs.Common.{length, Some, None, nat_lt, refl, if◌then◌else
 use Rattle.irs_answers.specs.declared.causes.Cause.{Cause}
 use Rattle.irs_answers.specs.declared.causes.Cause.TheVariants as reply
 use Rattle.irs_answers.specs.declared.notes.Note.{Note}
-use Rattle.irs_answers.specs.declared.notes.Note.TheVariants.{Nothing, Unfixed, Spot}
+use Rattle.irs_answers.specs.declared.notes.Note.TheVariants.{Nothing, Unfixed, Spot, Front}
 use Rattle.irs_answers.specs.declared.refusals.Refusal.{Refusal}
 use Rattle.irs_answers.specs.declared.refusals.Refusal.TheVariants as refusal
 use Rattle.irs_audit.specs.declared.error.FlowErr.TheVariants as flowing
@@ -96,6 +96,7 @@ replied_byte : (words : List (List ℕ)) (c : Cause) (n : Note) → is_silent_re
 replied_byte words reply.Done Nothing h = absurd (cc h)
 replied_byte words reply.Done (Unfixed u) h = tt
 replied_byte words reply.Done (Spot s) h = absurd (cc h)
+replied_byte words reply.Done (Front f) h = absurd (cc h)
 replied_byte words (reply.Uncompared unfixed) n h = tt
 replied_byte words (reply.NotAgreed d) n h = tt
 replied_byte words reply.Breaks n h = tt

@@ -1,10 +1,13 @@
 -- What a sentence adds to what a reply says, as texts that are joined.
 use Rattle.irs_answers.specs.declared.causes.Cause.{Cause}
 use Rattle.irs_answers.specs.declared.causes.Cause.TheVariants as reply
+use Rattle.irs_answers.specs.declared.fronts.Front.{Front}
+use Rattle.irs_answers.specs.declared.fronts.Front.TheVariants.{Mark, Markup}
 use Rattle.irs_answers.specs.declared.notes.Note.{Note}
 use Rattle.irs_answers.specs.declared.notes.Note.TheVariants.{Nothing, Unfixed as OfPayments, Spot as OfRule}
-use Rattle.irs_answers.specs.declared.notes.Spot.{Spot}
+use Rattle.irs_answers.specs.declared.notes.Note.TheVariants.{Front as OfText}
 use Rattle.irs_answers.specs.declared.notes.Unfixed.{Unfixed}
+use Rattle.irs_answers.specs.declared.spots.Spot.{Spot}
 use Rattle.irs_base.specs.Texts.{day_text}
 use Rattle.irs_cli.specs.declared.causes.RunCause.{RunCause}
 use Rattle.irs_cli.specs.declared.causes.RunCause.TheVariants as cause
@@ -61,7 +64,18 @@ member_words None = []
 member_words (Some []) = codes "; the name of the member is empty"
 member_words (Some (b ∷ bs)) = codes "; the member is "
 
--- the name, empty where there is none
+-- what comes before the text of a leaf, where there is one
+abbrev pub text_words : Option (List ℕ) → List ℕ
+text_words None = []
+text_words (Some []) = codes "; the text is empty"
+text_words (Some (b ∷ bs)) = codes "; the text is "
+
+-- what comes before the name of a centre, where there is one
+abbrev pub center_words : Option (List ℕ) → List ℕ
+center_words None = []
+center_words (Some name) = codes "; the centre is "
+
+-- the name or the text, empty where there is none
 abbrev pub name_in : Option (List ℕ) → List ℕ
 name_in None = []
 name_in (Some name) = name
@@ -76,11 +90,24 @@ abbrev pub line_number : Option ℕ → List ℕ
 line_number None = []
 line_number (Some line) = decimal line
 
--- the member and the line
+-- the member, the text, the centre and the line
 abbrev pub spot_texts : Spot → List (List ℕ)
 spot_texts s =
     member_words s.member ∷ shown_front (name_in s.member) ∷ dots (name_in s.member)
+    ∷ text_words s.text ∷ shown_front (name_in s.text) ∷ dots (name_in s.text)
+    ∷ center_words s.center ∷ shown_front (name_in s.center) ∷ dots (name_in s.center)
     ∷ line_words s.line ∷ line_number s.line ∷ []
+
+-- ---- how a text begins that isn't JSON
+
+-- what is said of that
+abbrev pub front_words : Front → List ℕ
+front_words Mark = codes "; its text begins with a byte order mark"
+front_words Markup = codes "; its text is XML, and a file of XML has a name that ends in .xml"
+
+-- the same as texts
+abbrev pub front_texts : Front → List (List ℕ)
+front_texts f = front_words f ∷ []
 
 -- ---- what is added
 
@@ -89,18 +116,21 @@ abbrev pub added : Note → List (List ℕ)
 added Nothing = []
 added (OfPayments u) = codes "; " ∷ unfixed_texts u
 added (OfRule s) = spot_texts s
+added (OfText f) = front_texts f
 
 -- what is said where there is no sentence before it
 abbrev pub alone : Note → List (List ℕ)
 alone Nothing = []
 alone (OfPayments u) = unfixed_texts u
 alone (OfRule s) = []
+alone (OfText f) = []
 
 -- no payment lacks an amount
 abbrev pub is_fixed : Note → Bool
 is_fixed Nothing = true
 is_fixed (OfPayments u) = false
 is_fixed (OfRule s) = true
+is_fixed (OfText f) = true
 
 -- a reply says nothing without its note
 abbrev pub is_done : Cause → Bool

@@ -1,19 +1,20 @@
 //! What a sentence adds to what a reply says: how many payments have no amount, with the fixing that the first of
-//! them lacks; and where in its text a document breaks a rule.
+//! them lacks; where in its text a document breaks a rule; and how a text begins that isn't JSON.
 ghost use Rattle.irs_outside.specs.Outside.{Grew, GrewByFront, Rose};
-ghost use Rattle.irs_plain.specs.Notes.{added as added_of, alone as alone_of, is_done as is_done_of};
-ghost use Rattle.irs_plain.specs.Notes.{is_fixed as is_fixed_of, is_silent_reply as is_silent_reply_of};
+ghost use Rattle.irs_plain.specs.Notes.{added as added_of, alone as alone_of, center_words as center_words_of};
+ghost use Rattle.irs_plain.specs.Notes.{front_texts, front_words as front_words_of, is_fixed as is_fixed_of};
+ghost use Rattle.irs_plain.specs.Notes.{is_done as is_done_of, is_silent_reply as is_silent_reply_of};
 ghost use Rattle.irs_plain.specs.Notes.{line_number as line_number_of, line_words as line_words_of};
 ghost use Rattle.irs_plain.specs.Notes.{member_words as member_words_of, name_in as name_in_of, note_of, noted};
 ghost use Rattle.irs_plain.specs.Notes.{spot_texts, tenor_count as tenor_count_of, tenor_gap as tenor_gap_of};
-ghost use Rattle.irs_plain.specs.Notes.{tenor_letter as tenor_letter_of, unfixed_on, unfixed_texts};
-ghost use Rattle.irs_plain.specs.Notes.{unit_letter as unit_letter_of};
+ghost use Rattle.irs_plain.specs.Notes.{tenor_letter as tenor_letter_of, text_words as text_words_of};
+ghost use Rattle.irs_plain.specs.Notes.{unfixed_on, unfixed_texts, unit_letter as unit_letter_of};
 ghost use Rattle.irs_plain.specs.Parts.{joined, part_text, said_by};
 ghost use Rattle.std.specs.Prelude.{◌≡◌, ◌∷◌, OnOk, OnErr};
 
 use crate::parts::{Part, put_parts};
 use crate::visible::dots;
-use irs_answers::{Cause, Note, Spot, Unfixed};
+use irs_answers::{Cause, Front, Note, Spot, Unfixed};
 use irs_base::{Text, day_digits};
 use irs_cli::RunCause;
 use irs_outside::{PutFailed, Sink};
@@ -120,11 +121,34 @@ fn member_words<'a>(member: &Option<Text>) -> &'a [u8]
     }
 }
 
-// The name, empty where there is none.
-fn name_in(member: &Option<Text>) -> &[u8]
-    ensures { result.now ≡ name_in_of member.now }
+// What comes before the text of a leaf, where there is one.
+fn text_words<'a>(text: &Option<Text>) -> &'a [u8]
+    ensures { result.now ≡ text_words_of text.now }
 {
-    match member {
+    match text {
+        None => b"",
+        Some(text) => match text.as_slice() {
+            [] => b"; the text is empty",
+            [_, ..] => b"; the text is ",
+        },
+    }
+}
+
+// What comes before the name of a centre, where there is one.
+fn center_words<'a>(center: &Option<Text>) -> &'a [u8]
+    ensures { result.now ≡ center_words_of center.now }
+{
+    match center {
+        None => b"",
+        Some(_) => b"; the centre is ",
+    }
+}
+
+// The name or the text, empty where there is none.
+fn name_in(name: &Option<Text>) -> &[u8]
+    ensures { result.now ≡ name_in_of name.now }
+{
+    match name {
         None => b"",
         Some(name) => name.as_slice(),
     }
@@ -150,15 +174,23 @@ fn line_number<'a>(line: Option<u32>) -> Part<'a>
     }
 }
 
-// The member and the line.
-fn spot_parts(spot: &Spot) -> [Part<'_>; 5]
+// The member, the text, the centre and the line.
+fn spot_parts(spot: &Spot) -> [Part<'_>; 11]
     ensures { said_by result ≡ joined (spot_texts spot.now) }
 {
-    let name = name_in(&spot.member);
+    let member = name_in(&spot.member);
+    let text = name_in(&spot.text);
+    let center = name_in(&spot.center);
     [
         Part::Text(member_words(&spot.member)),
-        Part::Shown(name),
-        Part::Text(dots(name)),
+        Part::Shown(member),
+        Part::Text(dots(member)),
+        Part::Text(text_words(&spot.text)),
+        Part::Shown(text),
+        Part::Text(dots(text)),
+        Part::Text(center_words(&spot.center)),
+        Part::Shown(center),
+        Part::Text(dots(center)),
         Part::Text(line_words(spot.line)),
         line_number(spot.line),
     ]
@@ -172,6 +204,35 @@ fn put_spot<S: Sink>(out: &mut S, spot: &Spot) -> Result<(), PutFailed>
     ensures rose { OnErr result (Rose (S.faults out.old) (S.faults out.new)) }
 {
     put_parts(out, &spot_parts(spot))
+}
+
+// ---- how a text begins that isn't JSON
+
+// What is said of that.
+fn front_words<'a>(front: Front) -> &'a [u8]
+    ensures { result.now ≡ front_words_of front }
+{
+    match front {
+        Front::Mark => b"; its text begins with a byte order mark",
+        Front::Markup => b"; its text is XML, and a file of XML has a name that ends in .xml",
+    }
+}
+
+// The same as parts.
+fn front_parts<'a>(front: Front) -> [Part<'a>; 1]
+    ensures { said_by result ≡ joined (front_texts front) }
+{
+    [Part::Text(front_words(front))]
+}
+
+// Writes that.
+fn put_front<S: Sink>(out: &mut S, front: Front) -> Result<(), PutFailed>
+    ensures ok { OnOk result (Grew (S.written out.old) (S.written out.new) (joined (front_texts front))) }
+    ensures quiet { OnOk result (S.faults out.new ≡ S.faults out.old) }
+    ensures err { OnErr result (GrewByFront (S.written out.old) (S.written out.new) (joined (front_texts front))) }
+    ensures rose { OnErr result (Rose (S.faults out.old) (S.faults out.new)) }
+{
+    put_parts(out, &front_parts(front))
 }
 
 // ---- what is added
@@ -204,6 +265,7 @@ fn is_fixed(note: &Note) -> bool
         Note::Nothing => true,
         Note::Unfixed(_) => false,
         Note::Spot(_) => true,
+        Note::Front(_) => true,
     }
 }
 
@@ -250,6 +312,7 @@ fn put_added<S: Sink>(out: &mut S, note: &Note) -> Result<(), PutFailed>
         Note::Nothing => put_parts(out, &[]),
         Note::Unfixed(unfixed) => put_unfixed(out, b"; ", unfixed),
         Note::Spot(spot) => put_spot(out, spot),
+        Note::Front(front) => put_front(out, *front),
     }
 }
 
@@ -264,5 +327,6 @@ fn put_alone<S: Sink>(out: &mut S, note: &Note) -> Result<(), PutFailed>
         Note::Nothing => put_parts(out, &[]),
         Note::Unfixed(unfixed) => put_unfixed(out, b"", unfixed),
         Note::Spot(_) => put_parts(out, &[]),
+        Note::Front(_) => put_parts(out, &[]),
     }
 }
