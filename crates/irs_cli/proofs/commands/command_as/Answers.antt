@@ -1,4 +1,4 @@
-use Rattle.std.proofs.Common.{◌≡◌, ℕ, ◌+◌, ◌-◌, ◌≤◌, List, String, string_bytes, map, ap, sym, ◌∙◌, drop, take, length, arith}
+use Rattle.std.proofs.Common.{◌≡◌, ℕ, ◌+◌, ◌-◌, ◌≤◌, List, String, string_bytes, ap, sym, ◌∙◌, drop, take, length, arith}
 use Rattle.std.proofs.lemmas.List.{length-map, length-drop, drop-map, take_all}
 use Rattle.std.specs.declared.alloc.Global.{Global}
 use Rattle.irs_cli.specs.Commands.{counts, files_from, params_of, roles_of, texts}

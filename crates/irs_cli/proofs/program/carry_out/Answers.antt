@@ -1,4 +1,4 @@
-use Rattle.std.proofs.Common.{List, map, Option, Some, Bor, true, subst}
+use Rattle.std.proofs.Common.{List, map, Option, Bor, true, subst}
 use Rattle.std.specs.Prelude.{IfSome}
 use Rattle.irs_cli.specs.declared.commands.Named.{Named}
 use Rattle.irs_cli.specs.Commands.{Wanted, texts, Asks, asked_by, wanted_by}
