@@ -14,7 +14,7 @@
 #   make try-dist     the packages, each in an empty root; make try-tools tries the tools
 #   make faults       each allocation and each call on a file fails in turn
 #   make fuzz         libFuzzer over the unproved library for a minute, or SECONDS=N
-#   make hostile      the program on the largest and the worst inputs, and beside another reader of XML
+#   make hostile      the program on the largest and the worst inputs, and beside other readers of JSON and XML
 #   make bench        counts what it takes
 #
 # Proving wants the kit's command `rt` and nothing else. The look, the tools and the bindings want Python and a
@@ -61,6 +61,7 @@ fuzz:
 
 hostile: irs
 	tools/hostile
+	tools/json_beside
 	tools/xml_beside
 
 bench: irs

@@ -431,7 +431,8 @@ class Shown(InRoom):
     """The commands of pages, and what they print there."""
 
     def test_what_is_shown(self) -> None:
-        page = "    $ ./irs a b\n    one\n    ..\n    $ ./irs c\n    two\n\ntext\n\n    make\n    ./irs d\n\n    three\n"
+        page = "    $ ./irs a b\n    one\n    ..\n    $ ./irs c\n    two\n\ntext\n\n"
+        page += "    make\n    ./irs d\n\n    three\n"
         page += "\n    make try DOC=e\n\n    four\n"
         found = list(tool("shown").shown(page))
         self.assertEqual(found, [("a b", ["one", ".."]), ("c", ["two"]), ("d", ["three"]), ("schedule e -", ["four"])])
@@ -553,7 +554,8 @@ class Fuzz(InRoom):
             memcpy(out, text, *needed < room ? *needed : room);
         }
         uint8_t irs_run(const struct irs_bytes *words, size_t n_words, const struct irs_file *files, size_t n_files,
-                        uint8_t *out, size_t room, size_t *needed, uint8_t *said, size_t said_room, size_t *said_needed) {
+                        uint8_t *out, size_t room, size_t *needed,
+                        uint8_t *said, size_t said_room, size_t *said_needed) {
             int audit = words[0].len == 5 && words[0].at[0] == 'a', emit = words[0].at[0] == 'e';
             uint8_t status = 4;
             const char *text = "bad words\n";
@@ -688,6 +690,139 @@ class XmlBeside(unittest.TestCase):
         ):
             self.assertIsNotNone(beside.compared(document, (status, text.encode()))[1], text)
         self.assertIsNotNone(beside.compared(b"<swap>", (0, b'{"swap":""}\n'))[1])
+
+
+class JsonBeside(InRoom):
+    """What tools/json_beside reads itself, and which answers of the program it finds wrong."""
+
+    #: Each document, and its value; `...` for what has no reading.
+    ROWS: List[Tuple[str, Any]] = [
+        ('{"swap":{"@id":"s","a":[1,true,null,""]}}', {"swap": {"@id": "s", "a": [1, True, None, ""]}}),
+        (' \t\r\n"\\u00e9\\ud834\\udd1e\\/\x7f" ', "\xe9\U0001d11e/\x7f"),
+        ('{"a":1,"b":0,"a":2}', {"a": 2, "b": 0}),
+        ("18446744073709551615", 18446744073709551615),
+        ("18446744073709551616", 18446744073709551616.0),
+        ("-9223372036854775808", -9223372036854775808),
+        ("-9223372036854775809", -9223372036854775809.0),
+        ("-0", -0.0),
+        ("1e400", ...),
+        ("1" + "0" * 308, 1e308),
+        ("1" + "0" * 309, ...),
+        ("7" * 5_000, ...),
+        ("NaN", ...),
+        ("-Infinity", ...),
+        ('"\\ud834"', ...),
+        ('{"a":"\\udd1e\\ud834","a":1}', ...),
+        ('{"\\udd1e":1}', ...),
+        ("\ufeff{}", ...),
+        ("\xa0{}", ...),
+        ("{} x", ...),
+        ("", ...),
+        ('"\t"', ...),
+        ("01", ...),
+        ("[1,]", ...),
+        ("[" * 127 + '"]["' + "]" * 127, None),
+        ("[" * 128 + "]" * 128, ...),
+        ('{"a":1,"a":' + "[" * 127 + "]" * 127 + ',"a":2}', ...),
+        ("[" * 50_000, ...),
+    ]
+
+    #: What a reader does to a document that reads as it should otherwise.
+    MISTAKES: List[Tuple[bytes, bytes]] = [
+        (b"^\xef\xbb\xbf", b""),
+        (b"NaN|-?Infinity", b"0"),
+        (b"[0-9.]*[0-9][eE]\\+?[0-9]{3,}", b"1e3"),
+        (rb"\\ud834(?!\\u)", b""),
+        (b"[\xc0-\xc1].|\xed[\xa0-\xbf].|\xff", b"x"),
+        (b"[\x01-\x08\x0b\x0c]", b" "),
+        (rb"(?i)\\u00e9", b"e"),
+        (rb"\\/", rb"\\\\/"),
+        (rb"(?i)\\ud834\\udd1e", rb"\\ufffd"),
+        ("\U0001d11e".encode(), b"?"),
+        (b'(?<!")18446744073709551615(?!")', b"18446744073709551614"),
+        (b"(?<![0-9.eE])-0(?![0-9.eE])", b"0"),
+        (b"1.7976931348623158079e308", b"1e309"),
+        (b"\\[{64}", b"[" * 63),
+        (b"\\]\\s*\\]", b"]"),
+        (rb",(\s*[\]}])", rb"\1"),
+    ]
+
+    beside: Any
+
+    @classmethod
+    def setUpClass(cls) -> None:
+        cls.beside = tool("json_beside")
+
+    def answered(self, document: bytes, *mistake: bytes) -> Any:
+        """What a program says of a document that prints its value, with such a mistake."""
+        try:
+            value = self.beside.read_beside(re.sub(mistake[0], mistake[1], document) if mistake else document)
+        except self.beside.NoReading:
+            return self.beside.Answer(*self.beside.REFUSED[0], b"")
+        return self.beside.Answer(0, self.beside.respelled(b"", value), b"")
+
+    def test_values(self) -> None:
+        for text, value in self.ROWS:
+            try:
+                found = self.beside.read_beside(text.encode())
+            except self.beside.NoReading:
+                found = ...
+            if value is None:
+                self.assertNotEqual(found, ..., text[:40])
+            else:
+                self.assertEqual((repr(found), type(found)), (repr(value), type(value)), text[:40])
+        for wrong in (b'"\xff"', b'"\xed\xa0\x80"', b'"\xc0\x80"', "{}".encode("utf-16"), b"{}\0"):
+            with self.assertRaises(self.beside.NoReading):
+                self.beside.read_beside(wrong)
+
+    def test_mistakes(self) -> None:
+        made = [document for _, document in self.beside.documents(TOP / "examples", 1_500, 1)]
+        self.assertEqual(made, [document for _, document in self.beside.documents(TOP / "examples", 1_500, 1)])
+        for mistake in [(), *self.MISTAKES]:
+            found = (
+                self.beside.compared(it, self.answered(it, *mistake), lambda other: self.answered(other, *mistake))[1]
+                for it in (made if mistake else made[:300])
+            )
+            self.assertEqual(any(why is not None for why in found), mistake != (), mistake)
+
+    def test_answers(self) -> None:
+        fixing = b"payments without an amount: 1 of 1; the first, .., lacks a fixing for %s on 2024-01-15\n"
+        member = b"K4: swap has a member that isn't known; the member is %s\n"
+        index = '{"swap":{"floatingRateIndex":[{"#text":" a\\\\é 3M\\n"}],"\\u0000":%s}}'
+        for text, said, is_right in (
+            (index % 1, fixing % rb"a\x5c\xc3\xa9 3M", True),
+            (index % 1, fixing % rb"a\x5c\xc3\xa9 3M 6M", True),
+            (index % 1, fixing % rb"a\x5c\xe9 3M", False),
+            (index % 1, fixing % rb"a\x5c\xc3\xa9", False),
+            (index % 1, member % rb"\x00", True),
+            (index % 1, member % b"", False),
+            ('{"%s":1}' % ("x" * 129), member % (b"x" * 128 + b"..."), True),
+            ('{"%s":1}' % ("x" * 129), member % (b"x" * 129), False),
+            ('{"":1}', b"K4: swap has a member that isn't known; the name of the member is empty\n", True),
+            ('{"a":1}', b"K4: swap has a member that isn't known; the name of the member is empty\n", False),
+        ):
+            answer = self.beside.Answer(2, b"refused K4 0 swap 0\n", said)
+            found = self.beside.compared(text.encode(), answer, lambda _: answer)
+            self.assertEqual((found[0], found[1] is None), (True, is_right), said)
+        for status, out in (
+            (2, b"refused K1 0 document 0\n"),
+            (3, b"bad flows notjson 0 document 0\n"),
+            (7, b""),
+            (-11, b""),
+        ):
+            answer = self.beside.Answer(status, out, b"")
+            self.assertIsNotNone(self.beside.compared(b"{}", answer, lambda _: answer)[1], status)
+            self.assertEqual(self.beside.compared(b"{", answer, self.fail)[1] is None, status in (2, 3), status)
+
+    def test_a_program_that_reads_nothing(self) -> None:
+        top = self.copy("tools", "examples")
+        program = self.program("irs", "#!/bin/sh\necho 'refused K1 0 document 0'\nexit 2\n")
+        status, out, _ = self.run_tool(["tools/json_beside", "--count", "70"], top, IRS=str(program))
+        self.assertEqual(status, 1)
+        self.assertRegex(out, r"\n70 documents, 0 accepted by both, \d+ refused by both, [1-9]\d* differences\n$")
+        self.assertTrue(list((top / "build" / "json_beside").glob("*.json")))
+        status, out, _ = self.run_tool(["tools/json_beside", "--program", "nowhere"], top)
+        self.assertEqual((status, out), (1, f"there is no {top}/nowhere: run make\n"))
 
 
 class Unproved(unittest.TestCase):

@@ -7,6 +7,8 @@ from pathlib import Path
 from typing import Any, Dict, Iterator, List, Optional, Sequence, Set, Tuple
 from xml.sax.saxutils import escape, quoteattr
 
+from beside import changed
+
 FPML = "http://www.fpml.org/FpML-5/"
 XML = "http://www.w3.org/XML/1998/namespace"
 XMLNS = "http://www.w3.org/2000/xmlns/"
@@ -212,27 +214,6 @@ class Maker:
         return "".join(parts)
 
 
-def changed(document: bytes, chance: random.Random) -> bytes:
-    """A document with some bytes left out, added, doubled or in another place."""
-    for _ in range(chance.choice([1, 1, 1, 2, 3])):
-        at = chance.randrange(len(document) + 1)
-        length = chance.choice([0, 0, 1, 1, 2, 5, 20])
-        kind = chance.randrange(5)
-        if kind == 0:
-            new = b""
-        elif kind == 1:
-            new = document[at : at + length] * 2
-        elif kind == 2:
-            other = chance.randrange(len(document) + 1)
-            new = document[other : other + chance.randrange(40)]
-        elif kind == 3:
-            new = bytes([chance.randrange(256)])
-        else:
-            new = chance.choice(TOKENS).encode("utf-8", "surrogatepass")
-        document = document[:at] + new + document[at + length :]
-    return document
-
-
 def xml_of(name: str, value: Any) -> str:
     """A value of the carrier as an element, or elements; `null` is none."""
     if value is None:
@@ -264,10 +245,11 @@ def documents(folder: Path, count: int, start: int) -> Iterator[bytes]:
     """That many documents: small ones, the same changed, and those of the examples changed."""
     chance = random.Random(start)
     maker, seeds = Maker(chance), list(dict.fromkeys(of_examples(folder)))
+    tokens = [it.encode("utf-8", "surrogatepass") for it in TOKENS]
     yield from seeds[:count]
     for number in range(count - len(seeds)):
         if number % 4 == 3:
-            yield changed(chance.choice(seeds), chance)
+            yield changed(chance.choice(seeds), chance, tokens)
         else:
             made = maker.document()
-            yield made if number % 4 else changed(made, chance)
+            yield made if number % 4 else changed(made, chance, tokens)
