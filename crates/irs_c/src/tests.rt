@@ -51,7 +51,9 @@ fn a_document_that_is_no_json(rt: HostRuntime) {
         (2, 24, 65)
     );
     assert!(rt; out.starts_with(b"refused K1 0 document 0\n#"));
-    assert!(rt; said.starts_with(b"K1: the document isn't JSON (reading stopped at line 1, column 2)#"));
+    assert!(rt;
+        said.starts_with(b"K1: the document isn't JSON (reading stopped at line 1, column 2)#")
+    );
     assert_eq!(rt;
         run(&rt, &words(), &[], &mut out[..3], &mut said[..2]),
         (5, 10, 19)
@@ -149,8 +151,14 @@ fn a_command_over_two_trades(rt: HostRuntime) {
     assert_eq!(rt; answers[2].status, 99);
     assert_eq!(rt; needed, 118);
     assert_eq!(rt; &out[..24], b"refused K1 0 document 0\n".as_slice());
-    assert_eq!(rt; &out[24..89], b"K1: the document isn't JSON (reading stopped at line 1, column 2)".as_slice());
-    assert_eq!(rt; &out[89..119], b"no file 1\ncouldn't be read: D#".as_slice());
+    assert_eq!(rt;
+        &out[24..89],
+        b"K1: the document isn't JSON (reading stopped at line 1, column 2)".as_slice()
+    );
+    assert_eq!(rt;
+        &out[89..119],
+        b"no file 1\ncouldn't be read: D#".as_slice()
+    );
 }
 
 const NO_ANSWER: Answer = Answer {
