@@ -81,14 +81,14 @@ refused words b =
 -- ---- a text without a reading
 
 -- the line where the reading stopped
-abbrev pub line_stopped : Unread → ℕ
-line_stopped (unread.Json line column) = line
-line_stopped (unread.Xml line column) = line
+abbrev pub line_stopped : Unread → List ℕ
+line_stopped (unread.Json line column) = decimal line
+line_stopped (unread.Xml line column) = decimal line
 
 -- the column where it stopped
-abbrev pub column_stopped : Unread → ℕ
-column_stopped (unread.Json line column) = column
-column_stopped (unread.Xml line column) = column
+abbrev pub column_stopped : Unread → List ℕ
+column_stopped (unread.Json line column) = decimal column
+column_stopped (unread.Xml line column) = decimal column
 
 -- what a row of the table says of a text without a reading in the file of this name, after three opening texts; and where
 -- the reading stopped
@@ -96,8 +96,8 @@ abbrev pub unread_as : List ℕ → List ℕ → List ℕ → List ℕ → ℕ �
 unread_as one two three file row u =
     one ∷ two ∷ three
     ∷ before row ∷ name_words (path_of document) ∷ after_in file row
-    ∷ codes " (reading stopped at line " ∷ decimal (line_stopped u)
-    ∷ codes ", column " ∷ decimal (column_stopped u) ∷ codes ")"
+    ∷ codes " (reading stopped at line " ∷ line_stopped u
+    ∷ codes ", column " ∷ column_stopped u ∷ codes ")"
     ∷ []
 
 -- a document without a reading

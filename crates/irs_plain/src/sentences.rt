@@ -158,22 +158,22 @@ fn refused(words: &[String], broken: Broken) -> Sentence<'_>
 // ---- a text without a reading
 
 // The line where the reading stopped.
-fn line_stopped(unread: Unread) -> u32
-    ensures { result ≡ line_stopped_of unread }
+fn line_stopped<'a>(unread: Unread) -> Part<'a>
+    ensures { part_text result ≡ line_stopped_of unread }
 {
     match unread {
-        Unread::Json { line, .. } => line,
-        Unread::Xml { line, .. } => line,
+        Unread::Json { line, .. } => Part::Number(line),
+        Unread::Xml { line, .. } => Part::Number(line),
     }
 }
 
 // The column where it stopped.
-fn column_stopped(unread: Unread) -> u32
-    ensures { result ≡ column_stopped_of unread }
+fn column_stopped<'a>(unread: Unread) -> Part<'a>
+    ensures { part_text result ≡ column_stopped_of unread }
 {
     match unread {
-        Unread::Json { column, .. } => column,
-        Unread::Xml { column, .. } => column,
+        Unread::Json { column, .. } => Part::Number(column),
+        Unread::Xml { column, .. } => Part::Number(column),
     }
 }
 
@@ -192,9 +192,9 @@ fn unread_as<'a>(opening: Opening<'a>, row: usize, unread: Unread) -> Sentence<'
         Part::Text(name_words(path_in(Elem::DOCUMENT))),
         Part::Text(after_in(opening.file, row)),
         Part::Text(b" (reading stopped at line "),
-        Part::Number(line_stopped(unread)),
+        line_stopped(unread),
         Part::Text(b", column "),
-        Part::Number(column_stopped(unread)),
+        column_stopped(unread),
         Part::Text(b")"),
     ])
 }
