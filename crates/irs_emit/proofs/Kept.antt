@@ -66,7 +66,7 @@ mutual
   members_numberless n no_members h = tt
   members_numberless n (member k d ms) h = (numberless n d h.0, members_numberless n ms h.1)
 
--- a value that is the value of its outline: in each object a name stands once, and names are in order
+-- a value that is the value of its outline: in each object a name is there once, and names are in order
 abbrev pub Kept : Data → Type 0
 Kept d = of_json (outline d) ≡ Some d
 

@@ -53,7 +53,7 @@ listed_append later (d ∷ a) b =
     (listed_append true a b ∙ ap (λ l. listed_text true a ++ listed_text l b) (later_true a))
     ∙ regroup (comma_if later) (compact_text d) (listed_text true a) (listed_text true b)
 
--- whether something stands before what comes after values and others
+-- whether something is before what comes after values and others
 pub later_append : (later : Bool) (a b : List Data) → is_later later (a ++ b) ≡ is_later (is_later later a) b
 later_append later [] b = refl
 later_append later (d ∷ a) b = sym (later_true b)
@@ -108,7 +108,7 @@ period_listed p place x later a b c is e f =
     subst (λ o. c ≡ a ++ listed_text later (listed_period (slice_get p.resets place) o)) is
     (one_listed later (period_value x (slice_get p.resets place)) a b c e f)
 
--- something stands before what comes after a period
+-- something is before what comes after a period
 pub later_there : (p : Part) (place : ℕ) (x : CalculationPeriod) (later : Bool) → Some x ≡ period_at p place
     → true ≡ is_later later (one_period p place)
 later_there p place x later is =
