@@ -10,8 +10,8 @@ int main(void) {
     struct irs_file files[] = { { S("C"), S("") }, { S("D"), S("[") }, { S("D"), S("third") } };
     const char *refused = "refused K1 0 document 0\n";
     size_t length = strlen(refused), needed = 99, told = 99;
-    const char *sentence = "K1: the document isn't JSON";
-    uint8_t out[64], said[64];
+    const char *sentence = "K1: the document isn't JSON (reading stopped at line 1, column 2)";
+    uint8_t out[64], said[96];
     memset(out, '#', sizeof out);
     memset(said, '#', sizeof said);
     CHECK(irs_run(words, 2, files, 3, out, sizeof out, &needed, said, sizeof said, &told) == 2);

@@ -120,8 +120,11 @@ def run(words: Sequence[Text], files: Optional[Mapping[str, Text]] = None) -> An
     file that isn't in `files` is one that can't be read: status 5. Where memory runs out the status is 7, without text
     and sentence.
 
-    >>> run(["check", "document"], {"document": b"["})
-    Answer(status=2, text=b'refused K1 0 document 0\\n', sentence="K1: the document isn't JSON")
+    >>> answer = run(["check", "document"], {"document": b"["})
+    >>> answer.status, answer.text
+    (2, b'refused K1 0 document 0\\n')
+    >>> answer.sentence
+    "K1: the document isn't JSON (reading stopped at line 1, column 2)"
     """
     lent_words, lent_files = _lent_words(words), _lent_files(files or {})
     needed, said_needed = ctypes.c_size_t(), ctypes.c_size_t()
@@ -155,8 +158,9 @@ def run_each(words: Sequence[Text], common: Mapping[str, Text], trades: Sequence
     The fixings and the calendars that the words name are read once, where all of them are common. Where memory runs
     out for a trade its status is 7, without text and sentence. The texts of all trades are in memory at once.
 
-    >>> run_each(["check", "document"], {}, [{"document": b"["}])
-    [Answer(status=2, text=b'refused K1 0 document 0\\n', sentence="K1: the document isn't JSON")]
+    >>> [answer] = run_each(["check", "document"], {}, [{"document": b"["}])
+    >>> answer.sentence
+    "K1: the document isn't JSON (reading stopped at line 1, column 2)"
     """
     lent_words, lent_common = _lent_words(words), _lent_files(common)
     lent = [_lent_files(files) for files in trades]

@@ -11,16 +11,19 @@ use Rattle.serde_json.specs.Data.{Data, depth}
 use Rattle.serde_json.specs.Read.{max_depth, read}
 use Rattle.serde_json.specs.Written.{compact_text, has_float}
 use Rattle.irs_emit.proofs.ReadBack.{Built, built_depth, built_floatless, line_feed}
+use Rattle.irs_json.specs.Places.{PlaceIn as PlaceInJson, ReadsNone as JsonReadsNone}
 use Rattle.irs_json.specs.Reading.{Reads}
+use Rattle.irs_json.specs.declared.reading.JsonErr.{JsonErr}
+use Rattle.irs_json.specs.declared.reading.JsonErr.TheVariants as json
 use Rattle.irs_xml.proofs.TextLaws.{reads_one}
 use Rattle.irs_xml.specs.Document.{XmlReads}
 use Rattle.irs_xml.specs.Places.{PlaceIn, ReadsNone}
 use Rattle.irs_xml.specs.declared.reading.XmlErr.{XmlErr}
 use Rattle.irs_xml.specs.declared.reading.XmlErr.TheVariants as xml
 use Rattle.irs_answers.specs.Carried.{DueCarrier, MeansXml, ReadsBack, carrier_text}
-use Rattle.irs_answers.specs.Forms.{xml_text}
+use Rattle.irs_answers.specs.Forms.{json_text, xml_text}
 use Rattle.irs_answers.specs.Messages.{refused, unreadable}
-use Rattle.irs_answers.specs.Outcomes.{Ends, IfRefused, ReadFails, answer_of, of_read, of_xml}
+use Rattle.irs_answers.specs.Outcomes.{Ends, IfRefused, ReadFails, answer_of, of_json, of_read, of_xml}
 use Rattle.irs_answers.specs.Steps.{Is}
 use Rattle.irs_answers.specs.declared.forms.ReadErr.{ReadErr}
 use Rattle.irs_answers.specs.declared.forms.ReadErr.TheVariants as reading
@@ -73,6 +76,20 @@ pub no_reading : {A : Type 0} (r : Result A ReadErr) (e : XmlErr) (bytes : List 
 no_reading (Ok x) e bytes h k none place = tt
 no_reading (Err x) e bytes h k none place =
     subst (λ (y : ReadErr). ReadFails (xml_text bytes) y) (sym k) (xml_fails e bytes none place)
+
+json_fails : (e : JsonErr) (bytes : List ℕ) → JsonReadsNone bytes e → (length bytes < 2 ^ 32 - 1 → PlaceInJson bytes e)
+    → ReadFails (json_text bytes) (of_json e)
+json_fails (json.NotJson line column) bytes none place =
+    record { none = λ r. none r.0 r.1; stops = (refl, place) }
+json_fails json.Memory bytes none place = tt
+
+-- so does an error of the reader of JSON
+pub no_json : {A : Type 0} (r : Result A ReadErr) (e : JsonErr) (bytes : List ℕ) → IsErr r
+    → IsErrAnd r (λ x. x ≡ of_json e) → JsonReadsNone bytes e → (length bytes < 2 ^ 32 - 1 → PlaceInJson bytes e)
+    → IfErr r (λ x. ReadFails (json_text bytes) x)
+no_json (Ok x) e bytes h k none place = tt
+no_json (Err x) e bytes h k none place =
+    subst (λ (y : ReadErr). ReadFails (json_text bytes) y) (sym k) (json_fails e bytes none place)
 
 -- ---- what a carrier comes to
 

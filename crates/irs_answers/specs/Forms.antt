@@ -1,6 +1,7 @@
 -- The two forms of a document's text, and the value that it means in each.
 use Rattle.std.specs.Prelude.{◌≡◌, ℕ, ◌-◌, ◌^◌, ◌<◌, List, [], length}
 use Rattle.serde_json.specs.Data.{Data}
+use Rattle.irs_json.specs.Places.{LiesIn as LiesInJson}
 use Rattle.irs_json.specs.Reading.{Reads}
 use Rattle.irs_xml.specs.Document.{XmlReads}
 use Rattle.irs_xml.specs.Places.{LiesIn}
@@ -47,7 +48,7 @@ IsReadable w = (v : Data) × TextReads w v
 -- how a text has no reading is said in its form; the line and the column are those of a byte of the text, or of its end,
 -- where the text has fewer than 2^32 - 1 bytes
 abbrev pub StopsIn : SourceText → Unread → Type 0
-StopsIn w unread.Json = w.form ≡ Json
+StopsIn w (unread.Json line column) = (w.form ≡ Json) × (length w.bytes < 2 ^ 32 - 1 → LiesInJson w.bytes line column)
 StopsIn w (unread.Xml line column) = (w.form ≡ Xml) × (length w.bytes < 2 ^ 32 - 1 → LiesIn w.bytes line column)
 
 -- the text has no reading, and this says how

@@ -84,7 +84,7 @@ front_note (Some f) = note.Front f
 
 -- what is added where the document has no reading
 abbrev pub IsUnreadNote : SourceText → Unread → Note → Type 0
-IsUnreadNote w unread.Json n = n ≡ front_note (front_of w.bytes)
+IsUnreadNote w (unread.Json line column) n = n ≡ front_note (front_of w.bytes)
 IsUnreadNote w (unread.Xml line column) n = n ≡ note.Nothing
 
 -- what is added to a refusal: where the document breaks a rule, or how its text begins

@@ -39,9 +39,9 @@ use Rattle.irs_answers.specs.Replying.{reply_status, reply_text}
 use Rattle.irs_answers.specs.Due.{KeepsTerms, IsFixingsFault}
 use Rattle.irs_answers.specs.Steps.{Is}
 
--- the error of the JSON reader as an error of reading a document
+-- the error of the JSON reader as an error of reading a document, with its line and column
 abbrev pub of_json : JsonErr → ReadErr
-of_json json.NotJson = reading.Unreadable unread.Json
+of_json (json.NotJson line column) = reading.Unreadable (unread.Json line column)
 of_json json.Memory = reading.Memory
 
 -- the error of the XML reader, with its line and column

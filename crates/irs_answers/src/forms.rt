@@ -43,10 +43,9 @@ impl Source {
 /// How a text has no reading.
 #[derive(Clone, Copy)]
 pub enum Unread {
-    /// It isn't JSON.
-    Json,
-    /// It isn't XML that is read here. The line and the column, from 1 and in bytes, are where the reader
-    /// stopped.
+    /// It isn't JSON. The line and the column, from 1 and in bytes, are where the reader stopped.
+    Json { line: u32, column: u32 },
+    /// It isn't XML that is read here. The line and the column are the same.
     Xml { line: u32, column: u32 },
 }
 
@@ -64,7 +63,7 @@ impl From<JsonErr> for ReadErr {
 
     fn from(e: JsonErr) -> ReadErr {
         match e {
-            JsonErr::NotJson => ReadErr::Unreadable(Unread::Json),
+            JsonErr::NotJson(line, column) => ReadErr::Unreadable(Unread::Json { line, column }),
             JsonErr::Memory => ReadErr::Memory,
         }
     }
@@ -82,7 +81,7 @@ impl From<XmlErr> for ReadErr {
 }
 
 /// The value that a text means in its form. `Unreadable` comes only where it means none, and says where the
-/// reading of XML stopped.
+/// reading stopped.
 pub fn read_document(alloc: Global, source: &Source) -> Result<Value, ReadErr>
     ensures reads { IfOk result (λ v. TextReads (source_by source.now) (view v)) }
     ensures fails { IfErr result (λ e. ReadFails (source_by source.now) e) }

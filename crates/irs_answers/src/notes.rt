@@ -135,7 +135,7 @@ fn unread_note(document: &Source, unread: Unread) -> Note
     ensures { IsUnreadNote (source_by document.now) unread result }
 {
     match unread {
-        Unread::Json => front_note(front_of(&document.bytes)),
+        Unread::Json { .. } => front_note(front_of(&document.bytes)),
         Unread::Xml { .. } => Note::Nothing,
     }
 }

@@ -45,13 +45,15 @@ fn a_document_that_is_no_json(rt: HostRuntime) {
         name: lent(b"D"),
         bytes: lent(b"["),
     }];
-    let (mut out, mut said) = ([b'#'; 32], [b'#'; 32]);
+    let (mut out, mut said) = ([b'#'; 32], [b'#'; 96]);
     assert_eq!(rt;
         run(&rt, &words(), &files, &mut out, &mut said),
-        (2, 24, 27)
+        (2, 24, 65)
     );
     assert!(rt; out.starts_with(b"refused K1 0 document 0\n#"));
-    assert!(rt; said.starts_with(b"K1: the document isn't JSON#"));
+    assert!(rt;
+        said.starts_with(b"K1: the document isn't JSON (reading stopped at line 1, column 2)#")
+    );
     assert_eq!(rt;
         run(&rt, &words(), &[], &mut out[..3], &mut said[..2]),
         (5, 10, 19)
@@ -127,7 +129,7 @@ fn a_command_over_two_trades(rt: HostRuntime) {
         text: 99,
         sentence: 99,
     }; 3];
-    let mut out = [b'#'; 96];
+    let mut out = [b'#'; 160];
     let mut needed = 0;
     irs_run_each(
         rt.alloc(),
@@ -140,17 +142,23 @@ fn a_command_over_two_trades(rt: HostRuntime) {
     );
     assert_eq!(rt;
         (answers[0].status, answers[0].text, answers[0].sentence),
-        (2, 24, 27)
+        (2, 24, 65)
     );
     assert_eq!(rt;
         (answers[1].status, answers[1].text, answers[1].sentence),
         (5, 10, 19)
     );
     assert_eq!(rt; answers[2].status, 99);
-    assert_eq!(rt; needed, 80);
+    assert_eq!(rt; needed, 118);
     assert_eq!(rt; &out[..24], b"refused K1 0 document 0\n".as_slice());
-    assert_eq!(rt; &out[24..51], b"K1: the document isn't JSON".as_slice());
-    assert_eq!(rt; &out[51..81], b"no file 1\ncouldn't be read: D#".as_slice());
+    assert_eq!(rt;
+        &out[24..89],
+        b"K1: the document isn't JSON (reading stopped at line 1, column 2)".as_slice()
+    );
+    assert_eq!(rt;
+        &out[89..119],
+        b"no file 1\ncouldn't be read: D#".as_slice()
+    );
 }
 
 const NO_ANSWER: Answer = Answer {

@@ -83,7 +83,7 @@ fn field_of(name: &str) -> Option<Field> {
     }
 }
 
-// `refused RULE STREAM PATH INDEX`; K1 may have the place where the reading of XML stopped after it.
+// `refused RULE STREAM PATH INDEX`; K1 has the place where the reading stopped after it.
 fn refused(line: &str) -> Option<Refusal> {
     match line.strip_prefix("refused K1 0 document 0") {
         Some(rest) => Some(Refusal::Unreadable(unread(rest)?)),
@@ -91,14 +91,20 @@ fn refused(line: &str) -> Option<Refusal> {
     }
 }
 
-// Nothing, or ` at LINE COLUMN`.
+// ` at LINE COLUMN` for JSON, and ` in XML at LINE COLUMN`.
 fn unread(rest: &str) -> Option<Unread> {
-    if rest.is_empty() {
-        return Some(Unread::Json);
+    if let Some(place) = rest.strip_prefix(" in XML at ") {
+        let (line, column) = line_and_column(place)?;
+        return Some(Unread::Xml { line, column });
     }
-    let (line, column) = rest.strip_prefix(" at ")?.split_once(' ')?;
-    let (line, column) = (number_of(line)?, number_of(column)?);
-    Some(Unread::Xml { line, column })
+    let (line, column) = line_and_column(rest.strip_prefix(" at ")?)?;
+    Some(Unread::Json { line, column })
+}
+
+// `LINE COLUMN`.
+fn line_and_column(place: &str) -> Option<(u32, u32)> {
+    let (line, column) = place.split_once(' ')?;
+    Some((number_of(line)?, number_of(column)?))
 }
 
 // A calendar, fixing or flow file that is at fault.
@@ -136,7 +142,7 @@ fn bad_fixings(text: &str) -> Option<FixErr> {
     }
 }
 
-// `KIND STREAM PATH INDEX`; `notjson` may have the place where the reading of XML stopped after it.
+// `KIND STREAM PATH INDEX`; `notjson` has the place where the reading stopped after it.
 fn flows_at_fault(text: &str) -> Option<Refusal> {
     match text.strip_prefix("notjson 0 document 0") {
         Some(rest) => Some(Refusal::UnreadableFlows(unread(rest)?)),

@@ -10,7 +10,12 @@ use std::alloc::Global;
 fn tell_parsed(told: &mut Told, alloc: Global, bytes: &[u8]) -> Option<()> {
     match parse(alloc, bytes) {
         Ok(_) => told.text("JSON"),
-        Err(JsonErr::NotJson) => told.text("NotJson"),
+        Err(JsonErr::NotJson(line, column)) => {
+            told.text("NotJson ");
+            told.number(line);
+            told.text(" ");
+            told.number(column);
+        }
         Err(JsonErr::Memory) => return None,
     }
     Some(())

@@ -157,14 +157,15 @@ fn tell_of_rule(told: &mut Told, alloc: Global, question: &str, text: &str) -> O
 
 // ---- a document that isn't JSON
 
-// Reports the sentence on a document that isn't JSON, with how its text begins: `mark` or `markup`.
+// Reports the sentence on a document that isn't JSON from its first byte on, with how its text begins: `mark` or
+// `markup`.
 fn tell_front(told: &mut Told, alloc: Global, text: &str) -> Option<()> {
     let front = match text {
         "mark" => Front::Mark,
         "markup" => Front::Markup,
         _ => return None,
     };
-    let cause = Cause::Refused(Refusal::Unreadable(Unread::Json));
+    let cause = Cause::Refused(Refusal::Unreadable(Unread::Json { line: 1, column: 1 }));
     let cause = RunCause::Replied(cause, Note::Front(front));
     tell_said(told, alloc, &cause)
 }

@@ -1,4 +1,5 @@
 pub mod Reading
+pub mod Places
 pub mod Carrier
 pub mod Values
 pub mod Names

@@ -9,6 +9,7 @@
 mod carrier;
 mod leaves;
 mod names;
+mod places;
 mod reading;
 mod trim;
 mod values;

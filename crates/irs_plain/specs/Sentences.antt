@@ -80,29 +80,24 @@ refused words b =
 
 -- ---- a text without a reading
 
--- a text, where it is said where the reading of XML stopped
-abbrev pub if_stopped : Unread → List ℕ → List ℕ
-if_stopped unread.Json text = []
-if_stopped (unread.Xml line column) text = text
-
--- the line where the reading of XML stopped
-abbrev pub line_stopped : Unread → List ℕ
-line_stopped unread.Json = []
-line_stopped (unread.Xml line column) = decimal line
+-- the line where the reading stopped
+abbrev pub line_stopped : Unread → ℕ
+line_stopped (unread.Json line column) = line
+line_stopped (unread.Xml line column) = line
 
 -- the column where it stopped
-abbrev pub column_stopped : Unread → List ℕ
-column_stopped unread.Json = []
-column_stopped (unread.Xml line column) = decimal column
+abbrev pub column_stopped : Unread → ℕ
+column_stopped (unread.Json line column) = column
+column_stopped (unread.Xml line column) = column
 
 -- what a row of the table says of a text without a reading in the file of this name, after three opening texts; and where
--- the reading of XML stopped
+-- the reading stopped
 abbrev pub unread_as : List ℕ → List ℕ → List ℕ → List ℕ → ℕ → Unread → List (List ℕ)
 unread_as one two three file row u =
     one ∷ two ∷ three
     ∷ before row ∷ name_words (path_of document) ∷ after_in file row
-    ∷ if_stopped u (codes " (reading stopped at line ") ∷ line_stopped u
-    ∷ if_stopped u (codes ", column ") ∷ column_stopped u ∷ if_stopped u (codes ")")
+    ∷ codes " (reading stopped at line " ∷ decimal (line_stopped u)
+    ∷ codes ", column " ∷ decimal (column_stopped u) ∷ codes ")"
     ∷ []
 
 -- a document without a reading

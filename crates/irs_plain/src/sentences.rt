@@ -8,7 +8,7 @@ ghost use Rattle.irs_plain.specs.Sentences.{about as about_of, after_in as after
 ghost use Rattle.irs_plain.specs.Sentences.{bad_calendar as bad_calendar_of, bad_calendars as bad_calendars_of};
 ghost use Rattle.irs_plain.specs.Sentences.{bad_fixing as bad_fixing_of, bad_fixings as bad_fixings_of};
 ghost use Rattle.irs_plain.specs.Sentences.{bad_flows as bad_flows_of, bad_shape as bad_shape_of, some_break as some_break_of};
-ghost use Rattle.irs_plain.specs.Sentences.{column_stopped as column_stopped_of, if_stopped as if_stopped_of};
+ghost use Rattle.irs_plain.specs.Sentences.{column_stopped as column_stopped_of};
 ghost use Rattle.irs_plain.specs.Sentences.{departs as departs_of, ending as ending_of, help_hint as help_hint_of};
 ghost use Rattle.irs_plain.specs.Sentences.{is_of_field as is_of_field_of, is_silent as is_silent_of, is_unread as is_unread_of};
 ghost use Rattle.irs_plain.specs.Sentences.{line_stopped as line_stopped_of, no_document as no_document_of};
@@ -157,38 +157,28 @@ fn refused(words: &[String], broken: Broken) -> Sentence<'_>
 
 // ---- a text without a reading
 
-// The text, where it is said where the reading of XML stopped.
-fn if_stopped<'a>(unread: Unread, text: &'a [u8]) -> &'a [u8]
-    ensures { result.now ≡ if_stopped_of unread text.now }
+// The line where the reading stopped.
+fn line_stopped(unread: Unread) -> u32
+    ensures { result ≡ line_stopped_of unread }
 {
     match unread {
-        Unread::Json => b"",
-        Unread::Xml { .. } => text,
-    }
-}
-
-// The line where the reading of XML stopped.
-fn line_stopped<'a>(unread: Unread) -> Part<'a>
-    ensures { part_text result ≡ line_stopped_of unread }
-{
-    match unread {
-        Unread::Json => Part::Text(b""),
-        Unread::Xml { line, .. } => Part::Number(line),
+        Unread::Json { line, .. } => line,
+        Unread::Xml { line, .. } => line,
     }
 }
 
 // The column where it stopped.
-fn column_stopped<'a>(unread: Unread) -> Part<'a>
-    ensures { part_text result ≡ column_stopped_of unread }
+fn column_stopped(unread: Unread) -> u32
+    ensures { result ≡ column_stopped_of unread }
 {
     match unread {
-        Unread::Json => Part::Text(b""),
-        Unread::Xml { column, .. } => Part::Number(column),
+        Unread::Json { column, .. } => column,
+        Unread::Xml { column, .. } => column,
     }
 }
 
 // What a row of the table says of a text without a reading, after an opening of three parts; and where the
-// reading of XML stopped.
+// reading stopped.
 fn unread_as<'a>(opening: Opening<'a>, row: usize, unread: Unread) -> Sentence<'a>
     ensures { said result
         ≡ joined (unread_as_of opening.entry.first.now (part_text opening.entry.second) opening.entry.third.now
@@ -201,11 +191,11 @@ fn unread_as<'a>(opening: Opening<'a>, row: usize, unread: Unread) -> Sentence<'
         Part::Text(before(row)),
         Part::Text(name_words(path_in(Elem::DOCUMENT))),
         Part::Text(after_in(opening.file, row)),
-        Part::Text(if_stopped(unread, b" (reading stopped at line ")),
-        line_stopped(unread),
-        Part::Text(if_stopped(unread, b", column ")),
-        column_stopped(unread),
-        Part::Text(if_stopped(unread, b")")),
+        Part::Text(b" (reading stopped at line "),
+        Part::Number(line_stopped(unread)),
+        Part::Text(b", column "),
+        Part::Number(column_stopped(unread)),
+        Part::Text(b")"),
     ])
 }
 
