@@ -8,6 +8,9 @@ pub schedule_by-requires-clause-kept : goal.schedule_by-requires-clause-kept
 schedule_by-requires-clause-kept c =
     terms_kept c.args.swap.now c.args.table.now.sections c.requires.lawful c.requires.terms
 
+pub make_schedule-requires-clause-terms : goal.make_schedule-requires-clause-terms
+make_schedule-requires-clause-terms c = rw c.calendars.ensures c.requires.terms
+
 pub returns-then-has_swap-clause-ok : goal.returns-then-has_swap-clause-ok
 returns-then-has_swap-clause-ok c =
     let swap = c.args.swap.now in
