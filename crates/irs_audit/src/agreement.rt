@@ -34,7 +34,7 @@ fn first_of_stream(
     ours: Option<&StreamPart>,
     theirs: Option<StatedRows<'_>>,
 ) -> Option<Departure>
-    ensures { IsFirst departs_before (OfStream stream (option_copied ours.entry) (option_map rows_in theirs)) result }
+    ensures { IsFirst departs_before (OfStream stream (option_copied ours.entry) (option_map rows_in theirs.entry)) result }
 {
     match (ours, theirs) {
         (Some(x), Some(y)) => first_of_rows(stream, x, &y),
@@ -48,7 +48,7 @@ fn first_of_stream(
 // one departs too.
 fn first_departure(ours: &[StreamPart], theirs: StatedStreams<'_>) -> Option<Departure>
     requires { length ours.now ≤ 8 }
-    ensures { IsFirst departs_before (Departs (streams_in theirs) ours.now) result }
+    ensures { IsFirst departs_before (Departs (streams_in theirs.entry) ours.now) result }
 {
     for place in 0..ours.len() + 1 {
         let stream = place as u8 + 1;
@@ -60,7 +60,7 @@ fn first_departure(ours: &[StreamPart], theirs: StatedStreams<'_>) -> Option<Dep
 }
 
 fn verdict(s: &Schedule, theirs: StatedStreams<'_>) -> Verdict
-    ensures { IsVerdict (streams_in theirs) s.now result }
+    ensures { IsVerdict (streams_in theirs.entry) s.now result }
 {
     let parts = s.streams();
     match first_departure(parts, theirs) {

@@ -3,6 +3,7 @@
 ghost use Rattle.std.specs.Prelude.{◌≡◌, option_map, slice_get};
 ghost use Rattle.irs_audit.specs.Agreement.{stated_reset};
 ghost use Rattle.irs_audit.specs.Private.StatedRows.{rows_in, streams_in};
+ghost use Rattle.irs_audit.specs.StatedFlows.{stated_part};
 
 use crate::rows::item;
 use crate::stating::{exchange_at, payment_at, period_at, reset_at};
@@ -79,14 +80,28 @@ impl<'a> StatedStreams<'a> {
         ensures { option_map rows_in result ≡ slice_get (streams_in self.now) place }
     {
         match self {
-            StatedStreams::Flows(flows) => match item(flows, place) {
-                Some(stream) => Some(StatedRows::Flows(stream)),
-                None => None,
-            },
-            StatedStreams::Schedule(parts) => match item(parts, place) {
-                Some(part) => Some(StatedRows::Schedule(part)),
-                None => None,
-            },
+            StatedStreams::Flows(flows) => flows_at(flows, place),
+            StatedStreams::Schedule(parts) => part_at(parts, place),
         }
+    }
+}
+
+// The rows of the stream of flows at a place.
+fn flows_at<'a>(flows: &'a [FlowStream], place: usize) -> Option<StatedRows<'a>>
+    ensures { option_map rows_in result ≡ slice_get flows.now place }
+{
+    match item(flows, place) {
+        Some(stream) => Some(StatedRows::Flows(stream)),
+        None => None,
+    }
+}
+
+// The rows that state the stream of a schedule at a place.
+fn part_at<'a>(parts: &'a [StreamPart], place: usize) -> Option<StatedRows<'a>>
+    ensures { option_map rows_in result ≡ option_map stated_part (slice_get parts.now place) }
+{
+    match item(parts, place) {
+        Some(part) => Some(StatedRows::Schedule(part)),
+        None => None,
     }
 }

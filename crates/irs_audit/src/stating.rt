@@ -183,7 +183,14 @@ fn exchanges(alloc: Global, part: &StreamPart) -> Result<Vec<FlowExchange>, Memo
 {
     let mut list = Vec::new(alloc);
     for x in part.exchanges() {
-        list.push(exchange(x))?;
+        let unadjusted = Some(x.unadjusted);
+        let adjusted = Some(x.adjusted);
+        let amount = Some(amount(x.amount));
+        list.push(FlowExchange {
+            unadjusted,
+            adjusted,
+            amount,
+        })?;
     }
     Ok(list)
 }

@@ -5,4 +5,5 @@ use Rattle.irs_audit.proofs.stated_rows.StatedRows.exchange.Goals as goal
 
 pub returns-in-Schedule : goal.returns-in-Schedule
 returns-in-Schedule c =
-    c.exchange_at.ensures ∙ sym (slice_get-map stated_exchange c.in-Schedule.part.now.exchanges c.args.place)
+    rw c.in-Schedule.is (c.exchange_at.ensures
+    ∙ sym (slice_get-map stated_exchange c.in-Schedule.part.now.exchanges c.args.place))

@@ -4,4 +4,5 @@ use Rattle.irs_audit.proofs.stated_rows.StatedRows.reset.Goals as goal
 
 pub returns-in-Schedule : goal.returns-in-Schedule
 returns-in-Schedule c =
-    c.reset_at.ensures ∙ reset_stated c.in-Schedule.part.now c.args.place c.periods-periods.ensures.bounds
+    rw c.in-Schedule.is
+    (c.reset_at.ensures ∙ reset_stated c.in-Schedule.part.now c.args.place c.periods-periods.ensures.bounds)
