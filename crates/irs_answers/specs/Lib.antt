@@ -19,5 +19,6 @@ pub mod Common
 pub mod Found
 pub mod Fronts
 pub mod Centers
+pub mod Misfits
 pub mod Spots
 pub mod Notes

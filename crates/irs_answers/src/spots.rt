@@ -2,13 +2,15 @@
 //! is said is our rule.
 ghost use Rattle.std.specs.Prelude.{◌≡◌, IfSome};
 ghost use Rattle.irs_answers.specs.Forms.{source_by};
-ghost use Rattle.irs_answers.specs.Spots.{IsCenterIf, IsLineIn, IsMemberIf, IsMemberIn, IsSpot, IsTextIf, IsTextIn};
-ghost use Rattle.irs_answers.specs.Spots.{is_of_center, is_of_member, is_of_text};
+ghost use Rattle.irs_answers.specs.Spots.{IsCenterIf, IsKindAt, IsKindIf, IsLineIn, IsMemberIf, IsMemberIn, IsMisfitIf};
+ghost use Rattle.irs_answers.specs.Spots.{IsShapeIf, IsShapeIn, IsSpot, IsTextIf, IsTextIn, is_of_center, is_of_member};
+ghost use Rattle.irs_answers.specs.Spots.{is_of_roll, is_of_shape, is_of_text};
 
 use crate::centers::center_at;
 use crate::forms::{Form, Source, read_document};
-use irs_base::{Broken, Memory, Place, Rule, Text};
-use irs_locate::{line_of, member_of, text_of};
+use crate::misfits::{Misfit, misfit_at};
+use irs_base::{Broken, Elem, Memory, Place, Rule, Text};
+use irs_locate::{Leaf, Shape, kind_of, line_of, member_of, shape_at, text_of};
 use itoa::Buffer;
 use std::alloc::Global;
 
@@ -17,10 +19,16 @@ use std::alloc::Global;
 pub struct Spot {
     /// The name of the member, for K4 and K5.
     pub member: Option<Text>,
+    /// The kind of the value that is there, for K3.
+    pub shape: Option<Shape>,
     /// The text of the leaf, for K6.
     pub text: Option<Text>,
+    /// The kind of leaf that it has to be, for K6.
+    pub kind: Option<Leaf>,
     /// The name of the centre, for K12.
     pub center: Option<Text>,
+    /// The roll and the day that it doesn't fit, for K30.
+    pub misfit: Option<Misfit>,
     /// The line of the element in FpML XML, from 1.
     pub line: Option<u32>,
 }
@@ -31,8 +39,11 @@ pub(crate) fn spot_of(alloc: Global, document: &Source, broken: &Broken) -> Spot
 {
     Spot {
         member: member_in(alloc, document, broken),
+        shape: shape_in(alloc, document, broken),
         text: text_in(alloc, document, broken),
+        kind: kind_in(broken),
         center: center_in(alloc, document, broken),
+        misfit: misfit_in(alloc, document, broken),
         line: line_in(document, &broken.place),
     }
 }
@@ -109,6 +120,71 @@ fn leaf_text(alloc: Global, document: &Source, place: Place) -> Option<Text>
         return None;
     };
     kept(alloc, text.as_bytes())
+}
+
+// The kind of leaf that K6 means.
+fn kind_in(broken: &Broken) -> Option<Leaf>
+    ensures { IsKindIf (is_of_text broken.now.rule) broken.now.place.elem result }
+{
+    if is_of_text(broken.rule) {
+        leaf_kind(broken.place.elem)
+    } else {
+        None
+    }
+}
+
+// The kind of leaf that the table of elements has for an element.
+fn leaf_kind(elem: Elem) -> Option<Leaf>
+    ensures { IsKindAt elem result }
+{
+    kind_of(elem)
+}
+
+// The kind of the value that K3 means. The document is read again for this rule alone.
+fn shape_in(alloc: Global, document: &Source, broken: &Broken) -> Option<Shape>
+    ensures { IsShapeIf (is_of_shape broken.now.rule) (source_by document.now) broken.now.place result }
+{
+    if is_of_shape(broken.rule) {
+        value_shape(alloc, document, broken.place)
+    } else {
+        None
+    }
+}
+
+// Whether the rule is about the kind of a value.
+fn is_of_shape(rule: Rule) -> bool
+    ensures { result ≡ is_of_shape rule }
+{
+    rule.number() == 3
+}
+
+// The kind of the value at the place. None where none lies there, or memory ran out.
+fn value_shape(alloc: Global, document: &Source, place: Place) -> Option<Shape>
+    ensures { IfSome result (IsShapeIn (source_by document.now) place) }
+{
+    let Ok(value) = read_document(alloc, document) else {
+        return None;
+    };
+    let shape = shape_at(&value, place)?;
+    Some(shape)
+}
+
+// The roll that K30 is about, and the day. The document is read again for this rule alone.
+fn misfit_in(alloc: Global, document: &Source, broken: &Broken) -> Option<Misfit>
+    ensures { IsMisfitIf (is_of_roll broken.now.rule) (source_by document.now) broken.now.place result }
+{
+    if is_of_roll(broken.rule) {
+        misfit_at(alloc, document, broken.place)
+    } else {
+        None
+    }
+}
+
+// Whether the rule is about a roll.
+fn is_of_roll(rule: Rule) -> bool
+    ensures { result ≡ is_of_roll rule }
+{
+    rule.number() == 30
 }
 
 // The name of the centre that K12 means. The document is read again for this rule alone.

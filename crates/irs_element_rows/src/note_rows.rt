@@ -1,16 +1,18 @@
 //! The rows of what a sentence adds to what a reply says. Some have the payments that have no amount,
 //! where a document breaks a rule, or how its text begins, and say the sentence. The others have a
 //! document and a broken rule. They say the line of its element in FpML XML. Or they say the name of the
-//! member that K4 or K5 means, or the text of the leaf.
+//! member that K4 or K5 means, or the text of the leaf. Or they say the sentence with the kind of the value (K3),
+//! or with a roll and a day (K30).
 use crate::order_rows::broken_of;
 use crate::told::Told;
 use crate::words::words_of;
 use crate::xml_texts::bytes_of;
-use irs_answers::{Front, Note, Refusal, Spot, Unfixed, Unread};
+use irs_answers::{Front, Misfit, Note, Refusal, Spot, Unfixed, Unread};
 use irs_base::{Broken, Text, read_date};
 use irs_cli::{Cause, RunCause};
+use irs_elements::codes::roll;
 use irs_json::parse;
-use irs_locate::{line_of, member_of, text_of};
+use irs_locate::{kind_of, line_of, member_of, shape_at, text_of};
 use irs_outside::MemSink;
 use irs_plain::put_sentence;
 use irs_resets::tenor;
@@ -90,28 +92,58 @@ fn name_in(alloc: Global, text: &str) -> Option<Option<Text>> {
     Some(Some(Text::from_bytes(alloc, name.as_bytes()).ok()?))
 }
 
-// The spot with that line and that name: the text of a leaf for K6, a centre for K12, else a member.
+// The spot with that line and that name: the text of a leaf for K6, a centre for K12, else a member. For K6
+// it has the kind of the leaf too.
 fn spot_with(broken: Broken, line: Option<u32>, name: Option<Text>) -> Spot {
     let (member, text, center) = match broken.rule.number() {
         6 => (None, name, None),
         12 => (None, None, name),
         _ => (name, None, None),
     };
+    let kind = match broken.rule.number() {
+        6 => kind_of(broken.place.elem),
+        _ => None,
+    };
     Spot {
         member,
+        shape: None,
         text,
+        kind,
         center,
+        misfit: None,
         line,
     }
+}
+
+// Reports the sentence on a broken rule with this spot.
+fn tell_with(told: &mut Told, alloc: Global, broken: Broken, spot: Spot) -> Option<()> {
+    let cause = Cause::Refused(Refusal::Rule(broken));
+    let cause = RunCause::Replied(cause, Note::Spot(spot));
+    tell_said(told, alloc, &cause)
+}
+
+// Reports the sentence with the kind of the value at the place in a JSON text.
+fn tell_shape(told: &mut Told, alloc: Global, broken: Broken, text: &str) -> Option<()> {
+    let document = parse(alloc, text.as_bytes()).ok()?;
+    let shape = shape_at(&document, broken.place);
+    let spot = spot_with(broken, None, None);
+    tell_with(told, alloc, broken, Spot { shape, ..spot })
+}
+
+// Reports the sentence with `ROLL DAY`.
+fn tell_roll(told: &mut Told, alloc: Global, broken: Broken, text: &str) -> Option<()> {
+    let (code, day) = text.split_once(' ')?;
+    let (roll, day) = (roll(code)?, read_date(day.as_bytes())?);
+    let misfit = Some(Misfit { roll, day });
+    let spot = spot_with(broken, None, None);
+    tell_with(told, alloc, broken, Spot { misfit, ..spot })
 }
 
 // Reports the sentence on a broken rule with `LINE NAME`.
 fn tell_spot(told: &mut Told, alloc: Global, broken: Broken, text: &str) -> Option<()> {
     let (line, name) = text.split_once(' ')?;
     let spot = spot_with(broken, line_in(line)?, name_in(alloc, name)?);
-    let cause = Cause::Refused(Refusal::Rule(broken));
-    let cause = RunCause::Replied(cause, Note::Spot(spot));
-    tell_said(told, alloc, &cause)
+    tell_with(told, alloc, broken, spot)
 }
 
 // Reports the line of the element of a broken rule in a document in XML.
@@ -151,6 +183,8 @@ fn tell_of_rule(told: &mut Told, alloc: Global, question: &str, text: &str) -> O
         "line" => tell_line(told, alloc, broken, text),
         "member" => tell_member(told, alloc, broken, text),
         "text" => tell_text(told, alloc, broken, text),
+        "shape" => tell_shape(told, alloc, broken, text),
+        "roll" => tell_roll(told, alloc, broken, text),
         _ => None,
     }
 }

@@ -4,4 +4,5 @@ pub mod Rows
 pub mod Lies
 pub mod ShortWays
 pub mod OneRow
+pub mod OneKind
 pub mod OneMember

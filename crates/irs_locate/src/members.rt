@@ -29,16 +29,16 @@ const MOST_STEPS: usize = 16;
 
 /// A table of elements: a row for each, and its name.
 #[derive(Clone, Copy)]
-struct Known {
+pub(crate) struct Known {
     /// The rows.
-    rows: &'static [Row],
+    pub(crate) rows: &'static [Row],
     /// The name at each row.
-    names: &'static [&'static str],
+    pub(crate) names: &'static [&'static str],
 }
 
-// The table that has the members of the element: that of the swap, or of a stream.
+/// The table that has the members of the element: that of the swap, or of a stream.
 #[tactic(auto, unfolding(crate::specs::Members::table_of))]
-fn table_of(elem: Elem) -> Known
+pub(crate) fn table_of(elem: Elem) -> Known
     ensures { known_seen result ≡ table_of_elem elem }
 {
     irs_read::tables_listed();
@@ -86,8 +86,8 @@ fn is_row_of(elem: Elem, row: &Row) -> bool
     row.place == elem.place() && is_element(row.kind)
 }
 
-// The row of the element, if it has one.
-fn row_of(rows: &[Row], elem: Elem) -> Option<usize>
+/// The row of the element, if it has one.
+pub(crate) fn row_of(rows: &[Row], elem: Elem) -> Option<usize>
     ensures some { IfSome result (IsRowOf rows.now elem) }
     ensures none { IfNone result ((r : ℕ) → ¬ (IsRowOf rows.now elem r)) }
 {

@@ -7,3 +7,4 @@ pub mod ShownLaws
 pub mod VisibleLaws
 pub mod SlipLemmas
 pub mod SilenceLaws
+pub mod CodeLaws

@@ -4,6 +4,7 @@ pub mod Rules
 pub mod Lookup
 pub mod Words
 pub mod Parts
+pub mod Values
 pub mod Notes
 pub mod Sentences
 pub mod Shown

@@ -3,17 +3,27 @@ use Rattle.irs_answers.specs.declared.causes.Cause.{Cause}
 use Rattle.irs_answers.specs.declared.causes.Cause.TheVariants as reply
 use Rattle.irs_answers.specs.declared.fronts.Front.{Front}
 use Rattle.irs_answers.specs.declared.fronts.Front.TheVariants.{Mark, Markup}
+use Rattle.irs_answers.specs.declared.misfits.Misfit.{Misfit}
 use Rattle.irs_answers.specs.declared.notes.Note.{Note}
 use Rattle.irs_answers.specs.declared.notes.Note.TheVariants.{Nothing, Unfixed as OfPayments, Spot as OfRule}
 use Rattle.irs_answers.specs.declared.notes.Note.TheVariants.{Front as OfText}
 use Rattle.irs_answers.specs.declared.notes.Unfixed.{Unfixed}
 use Rattle.irs_answers.specs.declared.spots.Spot.{Spot}
 use Rattle.irs_base.specs.Texts.{day_text}
+use Rattle.irs_base.specs.declared.day.DayName.{DayName}
+use Rattle.irs_base.specs.declared.day.DayName.TheVariants.{Mon, Tue, Wed, Thu, Fri, Sat, Sun}
 use Rattle.irs_cli.specs.declared.causes.RunCause.{RunCause}
 use Rattle.irs_cli.specs.declared.causes.RunCause.TheVariants as cause
+use Rattle.irs_elements.specs.declared.table.Leaf.{Leaf as LeafKind}
+use Rattle.irs_locate.specs.declared.kinds.Shape.{Shape}
+use Rattle.irs_locate.specs.declared.kinds.Shape.TheVariants.{Null, Truth, Whole, Fraction, Text, Object}
+use Rattle.irs_locate.specs.declared.kinds.Shape.TheVariants.{List as OfItems}
+use Rattle.irs_terms.specs.declared.codes.RollCode.{RollCode}
+use Rattle.irs_terms.specs.declared.codes.RollCode.TheVariants.{Eom, Dom, Imm, OnWeekday, NoRoll}
 use Rattle.irs_terms.specs.declared.frequency.Frequency.{Frequency}
 use Rattle.irs_terms.specs.declared.frequency.Unit.{Unit as FrequencyUnit}
 use Rattle.irs_terms.specs.declared.frequency.Unit.TheVariants.{D, W, M, Y, T}
+use Rattle.irs_plain.specs.Values.{value_words}
 use Rattle.irs_plain.specs.Visible.{dots, shown_front}
 use Rattle.std.specs.Prelude.{ℕ, ◌&&◌, Bool, true, false, List, [], ◌∷◌, Option, Some, None, codes, decimal}
 use Rattle.std.specs.Prelude.{if◌then◌else◌}
@@ -70,10 +80,74 @@ text_words None = []
 text_words (Some []) = codes "; the text is empty"
 text_words (Some (b ∷ bs)) = codes "; the text is "
 
+-- what comes before the words for what a leaf has to be, where they are said
+abbrev pub value_intro : Option LeafKind → List ℕ
+value_intro None = []
+value_intro (Some kind) = codes "; it has to be "
+
+-- what a leaf has to be
+abbrev pub value_in : Option LeafKind → List ℕ
+value_in None = []
+value_in (Some kind) = value_words kind
+
+-- the kind of a value
+abbrev pub shape_of : Shape → List ℕ
+shape_of Null = codes "; it is null"
+shape_of Truth = codes "; it is true or false"
+shape_of Whole = codes "; it is a whole number"
+shape_of Fraction =
+    codes "; it is a number with a point, an exponent or too many digits: write it as a text, in quotes: \"0.05\""
+shape_of Text = codes "; it is a text"
+shape_of OfItems = codes "; it is a list"
+shape_of Object = codes "; it is an object"
+
+-- the kind of the value, where there is one
+abbrev pub shape_words : Option Shape → List ℕ
+shape_words None = []
+shape_words (Some shape) = shape_of shape
+
 -- what comes before the name of a centre, where there is one
 abbrev pub center_words : Option (List ℕ) → List ℕ
 center_words None = []
 center_words (Some name) = codes "; the centre is "
+
+-- a weekday in a roll
+abbrev pub weekday_name : DayName → List ℕ
+weekday_name Mon = codes "MON"
+weekday_name Tue = codes "TUE"
+weekday_name Wed = codes "WED"
+weekday_name Thu = codes "THU"
+weekday_name Fri = codes "FRI"
+weekday_name Sat = codes "SAT"
+weekday_name Sun = codes "SUN"
+
+-- the code of a roll
+abbrev pub roll_code : RollCode → List ℕ
+roll_code Eom = codes "EOM"
+roll_code (Dom day) = decimal day
+roll_code Imm = codes "IMM"
+roll_code (OnWeekday name) = weekday_name name
+roll_code NoRoll = codes "NONE"
+
+-- what comes before the roll, where there is one
+abbrev pub roll_intro : Option Misfit → List ℕ
+roll_intro None = []
+roll_intro (Some m) = codes "; roll "
+
+-- the roll
+abbrev pub roll_in : Option Misfit → List ℕ
+roll_in None = []
+roll_in (Some m) = roll_code m.roll
+
+-- what comes before the day that the roll doesn't fit
+abbrev pub day_intro : Option Misfit → List ℕ
+day_intro None = []
+day_intro (Some m) = codes ", day "
+
+-- the day, YYYY-MM-DD
+abbrev pub day_in : Option Misfit → List ℕ
+day_in None = []
+day_in (Some m) = day_text m.day
 
 -- the name or the text, empty where there is none
 abbrev pub name_in : Option (List ℕ) → List ℕ
@@ -90,13 +164,21 @@ abbrev pub line_number : Option ℕ → List ℕ
 line_number None = []
 line_number (Some line) = decimal line
 
--- the member, the text, the centre and the line
-abbrev pub spot_texts : Spot → List (List ℕ)
-spot_texts s =
+-- the member, the kind of the value, the text and what it has to be, the centre, the roll with the day of this text,
+-- and the line
+abbrev pub spot_on : Spot → List ℕ → List (List ℕ)
+spot_on s day =
     member_words s.member ∷ shown_front (name_in s.member) ∷ dots (name_in s.member)
+    ∷ shape_words s.shape
     ∷ text_words s.text ∷ shown_front (name_in s.text) ∷ dots (name_in s.text)
+    ∷ value_intro s.kind ∷ value_in s.kind
     ∷ center_words s.center ∷ shown_front (name_in s.center) ∷ dots (name_in s.center)
+    ∷ roll_intro s.misfit ∷ roll_in s.misfit ∷ day_intro s.misfit ∷ day
     ∷ line_words s.line ∷ line_number s.line ∷ []
+
+-- the same, with its day as YYYY-MM-DD
+abbrev pub spot_texts : Spot → List (List ℕ)
+spot_texts s = spot_on s (day_in s.misfit)
 
 -- ---- how a text begins that isn't JSON
 

@@ -1,24 +1,31 @@
 //! What a sentence adds to what a reply says: how many payments have no amount, with the fixing that the first of
 //! them lacks; where in its text a document breaks a rule; and how a text begins that isn't JSON.
+ghost use Rattle.irs_base.specs.Texts.{day_text};
 ghost use Rattle.irs_outside.specs.Outside.{Grew, GrewByFront, Rose};
 ghost use Rattle.irs_plain.specs.Notes.{added as added_of, alone as alone_of, center_words as center_words_of};
+ghost use Rattle.irs_plain.specs.Notes.{day_intro as day_intro_of};
 ghost use Rattle.irs_plain.specs.Notes.{front_texts, front_words as front_words_of, is_fixed as is_fixed_of};
 ghost use Rattle.irs_plain.specs.Notes.{is_done as is_done_of, is_silent_reply as is_silent_reply_of};
 ghost use Rattle.irs_plain.specs.Notes.{line_number as line_number_of, line_words as line_words_of};
 ghost use Rattle.irs_plain.specs.Notes.{member_words as member_words_of, name_in as name_in_of, note_of, noted};
+ghost use Rattle.irs_plain.specs.Notes.{roll_code as roll_code_of, roll_in as roll_in_of, roll_intro as roll_intro_of};
+ghost use Rattle.irs_plain.specs.Notes.{shape_of as shape_of_value, shape_words as shape_words_of, spot_on};
 ghost use Rattle.irs_plain.specs.Notes.{spot_texts, tenor_count as tenor_count_of, tenor_gap as tenor_gap_of};
 ghost use Rattle.irs_plain.specs.Notes.{tenor_letter as tenor_letter_of, text_words as text_words_of};
 ghost use Rattle.irs_plain.specs.Notes.{unfixed_on, unfixed_texts, unit_letter as unit_letter_of};
+ghost use Rattle.irs_plain.specs.Notes.{value_in as value_in_of, value_intro as value_intro_of};
+ghost use Rattle.irs_plain.specs.Notes.{weekday_name as weekday_name_of};
 ghost use Rattle.irs_plain.specs.Parts.{joined, part_text, said_by};
 ghost use Rattle.std.specs.Prelude.{◌≡◌, ◌∷◌, OnOk, OnErr};
 
 use crate::parts::{Part, put_parts};
+use crate::values::value_words;
 use crate::visible::dots;
-use irs_answers::{Cause, Front, Note, Spot, Unfixed};
-use irs_base::{Text, day_digits};
+use irs_answers::{Cause, Front, Leaf, Misfit, Note, Shape, Spot, Unfixed};
+use irs_base::{Day, DayName, Text, day_digits};
 use irs_cli::RunCause;
 use irs_outside::{PutFailed, Sink};
-use irs_terms::{Frequency, Unit};
+use irs_terms::{Frequency, RollCode, Unit};
 
 // ---- payments without an amount
 
@@ -134,6 +141,52 @@ fn text_words<'a>(text: &Option<Text>) -> &'a [u8]
     }
 }
 
+// What comes before the words for what a leaf has to be, where they are said.
+fn value_intro<'a>(kind: Option<Leaf>) -> &'a [u8]
+    ensures { result.now ≡ value_intro_of kind }
+{
+    match kind {
+        None => b"",
+        Some(_) => b"; it has to be ",
+    }
+}
+
+// What a leaf has to be.
+fn value_in<'a>(kind: Option<Leaf>) -> &'a [u8]
+    ensures { result.now ≡ value_in_of kind }
+{
+    match kind {
+        None => b"",
+        Some(kind) => value_words(kind),
+    }
+}
+
+// The kind of a value.
+fn shape_of<'a>(shape: Shape) -> &'a [u8]
+    ensures { result.now ≡ shape_of_value shape }
+{
+    match shape {
+        Shape::Null => b"; it is null",
+        Shape::Truth => b"; it is true or false",
+        Shape::Whole => b"; it is a whole number",
+        Shape::Fraction =>
+            b"; it is a number with a point, an exponent or too many digits: write it as a text, in quotes: \"0.05\"",
+        Shape::Text => b"; it is a text",
+        Shape::List => b"; it is a list",
+        Shape::Object => b"; it is an object",
+    }
+}
+
+// The kind of the value, where there is one.
+fn shape_words<'a>(shape: Option<Shape>) -> &'a [u8]
+    ensures { result.now ≡ shape_words_of shape }
+{
+    match shape {
+        None => b"",
+        Some(shape) => shape_of(shape),
+    }
+}
+
 // What comes before the name of a centre, where there is one.
 fn center_words<'a>(center: &Option<Text>) -> &'a [u8]
     ensures { result.now ≡ center_words_of center.now }
@@ -141,6 +194,64 @@ fn center_words<'a>(center: &Option<Text>) -> &'a [u8]
     match center {
         None => b"",
         Some(_) => b"; the centre is ",
+    }
+}
+
+// A weekday in a roll.
+fn weekday_name<'a>(name: DayName) -> &'a [u8]
+    ensures { result.now ≡ weekday_name_of name }
+{
+    match name {
+        DayName::Mon => b"MON",
+        DayName::Tue => b"TUE",
+        DayName::Wed => b"WED",
+        DayName::Thu => b"THU",
+        DayName::Fri => b"FRI",
+        DayName::Sat => b"SAT",
+        DayName::Sun => b"SUN",
+    }
+}
+
+// The code of a roll.
+fn roll_code<'a>(roll: RollCode) -> Part<'a>
+    ensures { part_text result ≡ roll_code_of roll }
+{
+    match roll {
+        RollCode::Eom => Part::Text(b"EOM"),
+        RollCode::Dom(day) => Part::Number(u32::from(day)),
+        RollCode::Imm => Part::Text(b"IMM"),
+        RollCode::OnWeekday(name) => Part::Text(weekday_name(name)),
+        RollCode::NoRoll => Part::Text(b"NONE"),
+    }
+}
+
+// What comes before the roll, where there is one.
+fn roll_intro<'a>(misfit: Option<Misfit>) -> &'a [u8]
+    ensures { result.now ≡ roll_intro_of misfit }
+{
+    match misfit {
+        None => b"",
+        Some(_) => b"; roll ",
+    }
+}
+
+// The roll.
+fn roll_in<'a>(misfit: Option<Misfit>) -> Part<'a>
+    ensures { part_text result ≡ roll_in_of misfit }
+{
+    match misfit {
+        None => Part::Text(b""),
+        Some(misfit) => roll_code(misfit.roll),
+    }
+}
+
+// What comes before the day that the roll doesn't fit.
+fn day_intro<'a>(misfit: Option<Misfit>) -> &'a [u8]
+    ensures { result.now ≡ day_intro_of misfit }
+{
+    match misfit {
+        None => b"",
+        Some(_) => b", day ",
     }
 }
 
@@ -174,9 +285,10 @@ fn line_number<'a>(line: Option<u32>) -> Part<'a>
     }
 }
 
-// The member, the text, the centre and the line.
-fn spot_parts(spot: &Spot) -> [Part<'_>; 11]
-    ensures { said_by result ≡ joined (spot_texts spot.now) }
+// The member, the kind of the value, the text and what it has to be, the centre, the roll with the day of this
+// text, and the line.
+fn spot_parts<'a>(spot: &'a Spot, day: &'a [u8]) -> [Part<'a>; 18]
+    ensures { said_by result ≡ joined (spot_on spot.now day.now) }
 {
     let member = name_in(&spot.member);
     let text = name_in(&spot.text);
@@ -185,12 +297,19 @@ fn spot_parts(spot: &Spot) -> [Part<'_>; 11]
         Part::Text(member_words(&spot.member)),
         Part::Shown(member),
         Part::Text(dots(member)),
+        Part::Text(shape_words(spot.shape)),
         Part::Text(text_words(&spot.text)),
         Part::Shown(text),
         Part::Text(dots(text)),
+        Part::Text(value_intro(spot.kind)),
+        Part::Text(value_in(spot.kind)),
         Part::Text(center_words(&spot.center)),
         Part::Shown(center),
         Part::Text(dots(center)),
+        Part::Text(roll_intro(spot.misfit)),
+        roll_in(spot.misfit),
+        Part::Text(day_intro(spot.misfit)),
+        Part::Text(day),
         Part::Text(line_words(spot.line)),
         line_number(spot.line),
     ]
@@ -203,7 +322,23 @@ fn put_spot<S: Sink>(out: &mut S, spot: &Spot) -> Result<(), PutFailed>
     ensures err { OnErr result (GrewByFront (S.written out.old) (S.written out.new) (joined (spot_texts spot.now))) }
     ensures rose { OnErr result (Rose (S.faults out.old) (S.faults out.new)) }
 {
-    put_parts(out, &spot_parts(spot))
+    match spot.misfit {
+        None => put_parts(out, &spot_parts(spot, b"")),
+        Some(misfit) => put_dated(out, spot, misfit.day),
+    }
+}
+
+// The same with a day.
+fn put_dated<S: Sink>(out: &mut S, spot: &Spot, day: Day) -> Result<(), PutFailed>
+    ensures ok { OnOk result
+        (Grew (S.written out.old) (S.written out.new) (joined (spot_on spot.now (day_text day)))) }
+    ensures quiet { OnOk result (S.faults out.new ≡ S.faults out.old) }
+    ensures err { OnErr result
+        (GrewByFront (S.written out.old) (S.written out.new) (joined (spot_on spot.now (day_text day)))) }
+    ensures rose { OnErr result (Rose (S.faults out.old) (S.faults out.new)) }
+{
+    let day = day_digits(day);
+    put_parts(out, &spot_parts(spot, &day))
 }
 
 // ---- how a text begins that isn't JSON
