@@ -125,18 +125,18 @@ fn tell_with(told: &mut Told, alloc: Global, broken: Broken, spot: Spot) -> Opti
 // Reports the sentence with the kind of the value at the place in a JSON text.
 fn tell_shape(told: &mut Told, alloc: Global, broken: Broken, text: &str) -> Option<()> {
     let document = parse(alloc, text.as_bytes()).ok()?;
-    let shape = shape_at(&document, broken.place);
-    let spot = spot_with(broken, None, None);
-    tell_with(told, alloc, broken, Spot { shape, ..spot })
+    let mut spot = spot_with(broken, None, None);
+    spot.shape = shape_at(&document, broken.place);
+    tell_with(told, alloc, broken, spot)
 }
 
 // Reports the sentence with `ROLL DAY`.
 fn tell_roll(told: &mut Told, alloc: Global, broken: Broken, text: &str) -> Option<()> {
     let (code, day) = text.split_once(' ')?;
     let (roll, day) = (roll(code)?, read_date(day.as_bytes())?);
-    let misfit = Some(Misfit { roll, day });
-    let spot = spot_with(broken, None, None);
-    tell_with(told, alloc, broken, Spot { misfit, ..spot })
+    let mut spot = spot_with(broken, None, None);
+    spot.misfit = Some(Misfit { roll, day });
+    tell_with(told, alloc, broken, spot)
 }
 
 // Reports the sentence on a broken rule with `LINE NAME`.

@@ -18,6 +18,7 @@ fn rule_of(name: &str) -> Option<Rule> {
         "K10" => Some(Rule::K10),
         "K12" => Some(Rule::K12),
         "K13" => Some(Rule::K13),
+        "K30" => Some(Rule::K30),
         "K38" => Some(Rule::K38),
         "K39" => Some(Rule::K39),
         "K46" => Some(Rule::K46),
