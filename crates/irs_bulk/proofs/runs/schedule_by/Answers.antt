@@ -8,8 +8,8 @@ use Rattle.irs_answers.proofs.FirstLemmas.{one_first}
 use Rattle.irs_answers.proofs.StepLemmas.{refused_by}
 use Rattle.irs_bulk.proofs.runs.schedule_by.Goals as goal
 
-pub make_schedule_by-requires-clause-terms-in-None : goal.make_schedule_by-requires-clause-terms-in-None
-make_schedule_by-requires-clause-terms-in-None c = rw c.calendars.ensures at c.in-None.ensures.meets
+pub make_schedule_by-requires-clause-terms : goal.make_schedule_by-requires-clause-terms
+make_schedule_by-requires-clause-terms c = rw c.calendars.ensures at c.in-None.ensures.meets
 
 pub returns-in_ok-make_schedule_by-in-None-clause-schedule : goal.returns-in_ok-make_schedule_by-in-None-clause-schedule
 returns-in_ok-make_schedule_by-in-None-clause-schedule c =
