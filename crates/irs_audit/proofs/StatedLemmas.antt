@@ -224,6 +224,39 @@ one_period_more p j x before h = elim (slice_get_cases p.periods j).1 [
   | inr w ↦ absurd (let none = w.1 in let bad = rw none at h in cc)
 ]
 
+-- what states the period at a place
+pub period_stated : (p : Part) (j : ℕ) (x : CalculationPeriod) → period_at p j ≡ Some x
+    → Some (period_with x (option_map stated_reset (slice_get p.resets j)))
+    ≡ slice_get (stated_periods_from p 0 p.periods) j
+period_stated p j x h = elim (slice_get_cases p.periods j).1 [
+  | inl w ↦
+      let there = w.2 in
+      let same : Some (dated_period p (j + 1) w.0) ≡ Some x = rw there at h in
+      let is : dated_period p (j + 1) w.0 ≡ x = ap (λ (o : Option CalculationPeriod). unwrap_or o x) same in
+      let Q : CalculationPeriod → Type 0 =
+      λ y. Some (period_with y (option_map stated_reset (slice_get p.resets j)))
+      ≡ slice_get (stated_periods_from p 0 p.periods) j in
+      subst Q is (rw (stated_get p j, there) refl)
+  | inr w ↦ absurd (let none = w.1 in let bad = rw none at h in cc)
+]
+
+-- past the last period none is stated
+pub period_unstated : (p : Part) (j : ℕ) → period_at p j ≡ None
+    → None ≡ slice_get (stated_periods_from p 0 p.periods) j
+period_unstated p j h = elim (slice_get_cases p.periods j).1 [
+  | inl w ↦ absurd (let there = w.2 in let bad = rw there at h in cc)
+  | inr w ↦ let none = w.1 in rw (stated_get p j, none) refl
+]
+
+-- what states the reset of the period at a place
+pub reset_stated : (p : Part) (j : ℕ) → KeepsBounds p
+    → option_map stated_reset (slice_get p.resets j)
+    ≡ option_and_then (λ (y : FlowPeriod). y.reset) (slice_get (stated_periods_from p 0 p.periods) j)
+reset_stated p j h = elim (slice_get_cases p.periods j).1 [
+  | inl w ↦ let there = w.2 in rw (stated_get p j, there) refl
+  | inr w ↦ let none = w.1 in let without = no_reset p j h none in rw (stated_get p j, none, without) refl
+]
+
 -- each place below the number of periods has a period
 pub period_there : (p : Part) (j : ℕ) → j < length p.periods → period_at p j ≡ None → ⊥
 period_there p j low h = elim (slice_get_cases p.periods j).1 [

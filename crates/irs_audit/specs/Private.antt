@@ -1,3 +1,4 @@
 pub mod FieldTables
 pub mod RowSets
 pub mod StreamSets
+pub mod StatedRows

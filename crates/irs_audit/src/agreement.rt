@@ -1,8 +1,10 @@
 //! The audit: whether cash flows agree with a schedule, row by row and field by field.
-ghost use Rattle.std.specs.Prelude.{◌≡◌, ◌↔◌, ◌≤◌, length, option_copied};
+ghost use Rattle.std.specs.Prelude.{◌≡◌, ◌↔◌, ◌≤◌, length, option_copied, option_map};
 ghost use Rattle.irs_audit.specs.Agreement.{Departs};
 ghost use Rattle.irs_audit.specs.DepartureOrder.{departs_before};
+ghost use Rattle.irs_audit.specs.Private.StatedRows.{rows_in, streams_in};
 ghost use Rattle.irs_audit.specs.Private.StreamSets.{OfStream};
+ghost use Rattle.irs_audit.specs.StatedFlows.{stated_flows};
 ghost use Rattle.irs_audit.specs.Verdicts.{IsNo, IsVerdict};
 ghost use Rattle.irs_audit.specs.declared.departures.Departure.{Departure};
 ghost use Rattle.irs_audit.specs.declared.departures.Verdict.{Verdict};
@@ -10,7 +12,8 @@ ghost use Rattle.irs_base.specs.Order.{IsFirst};
 
 use crate::counts::{row_count, unfixed_count};
 use crate::rows::{first_of_rows, item};
-use crate::{Departure, Field, FlowStream, Flows, RowKind, Verdict};
+use crate::stated_rows::{StatedRows, StatedStreams};
+use crate::{Departure, Field, Flows, RowKind, Verdict};
 use irs_schedule::{Schedule, StreamPart};
 
 // A whole stream departs.
@@ -29,12 +32,12 @@ fn whole_stream(stream: u8, field: Field) -> Departure
 fn first_of_stream(
     stream: u8,
     ours: Option<&StreamPart>,
-    theirs: Option<&FlowStream>,
+    theirs: Option<StatedRows<'_>>,
 ) -> Option<Departure>
-    ensures { IsFirst departs_before (OfStream stream (option_copied ours.entry) (option_copied theirs.entry)) result }
+    ensures { IsFirst departs_before (OfStream stream (option_copied ours.entry) (option_map rows_in theirs.entry)) result }
 {
     match (ours, theirs) {
-        (Some(x), Some(y)) => first_of_rows(stream, x, y),
+        (Some(x), Some(y)) => first_of_rows(stream, x, &y),
         (Some(_), None) => Some(whole_stream(stream, Field::Missing)),
         (None, Some(_)) => Some(whole_stream(stream, Field::Extra)),
         (None, None) => None,
@@ -43,24 +46,24 @@ fn first_of_stream(
 
 // The first departure. Where a stream of the flows is past the one after the schedule's last, that
 // one departs too.
-fn first_departure(ours: &[StreamPart], theirs: &[FlowStream]) -> Option<Departure>
+fn first_departure(ours: &[StreamPart], theirs: StatedStreams<'_>) -> Option<Departure>
     requires { length ours.now ≤ 8 }
-    ensures { IsFirst departs_before (Departs theirs.now ours.now) result }
+    ensures { IsFirst departs_before (Departs (streams_in theirs.entry) ours.now) result }
 {
     for place in 0..ours.len() + 1 {
         let stream = place as u8 + 1;
-        if let Some(d) = first_of_stream(stream, item(ours, place), item(theirs, place)) {
+        if let Some(d) = first_of_stream(stream, item(ours, place), theirs.at(place)) {
             return Some(d);
         }
     }
     None
 }
 
-fn verdict(s: &Schedule, f: &Flows) -> Verdict
-    ensures { IsVerdict f.now s.now result }
+fn verdict(s: &Schedule, theirs: StatedStreams<'_>) -> Verdict
+    ensures { IsVerdict (streams_in theirs.entry) s.now result }
 {
     let parts = s.streams();
-    match first_departure(parts, f.streams()) {
+    match first_departure(parts, theirs) {
         Some(d) => Verdict::No(d),
         None => Verdict::Yes {
             rows: row_count(parts),
@@ -78,5 +81,13 @@ pub fn audit(s: &Schedule, f: &Flows) -> Verdict
     ensures no { IsNo result ↔ ((d : Departure) × Departs f.now s.now d) }
     ensures only { (v : Verdict) → IsVerdict f.now s.now v → v ≡ result }
 {
-    verdict(s, f)
+    verdict(s, StatedStreams::Flows(f.streams()))
+}
+
+/// What `audit` says of a schedule and the flows that state another one. The flows aren't made: a row is stated
+/// when it is compared. It takes no memory.
+pub fn audit_stated(s: &Schedule, stated: &Schedule) -> Verdict
+    ensures { IsVerdict (stated_flows stated.now) s.now result }
+{
+    verdict(s, StatedStreams::Schedule(stated.streams()))
 }

@@ -14,10 +14,11 @@ mod flow_table;
 mod flows;
 mod row_fields;
 mod rows;
+mod stated_rows;
 mod stating;
 mod summing;
 
-pub use agreement::audit;
+pub use agreement::{audit, audit_stated};
 pub use comparisons::{
     count_is_wrong, currency_is_wrong, day_is_wrong, fraction_is_wrong, number_is_wrong,
 };

@@ -1,12 +1,14 @@
 //! The first row of a stream that departs, in a stream that both the schedule and the flows have.
 ghost use Rattle.std.specs.Prelude.{◌≡◌, option_copied, slice_get};
-ghost use Rattle.irs_audit.specs.Agreement.{KindDeparts, stated_reset};
+ghost use Rattle.irs_audit.specs.Agreement.{KindDeparts};
 ghost use Rattle.irs_audit.specs.DepartureOrder.{departs_before, field_before};
 ghost use Rattle.irs_audit.specs.Private.RowSets.{AmongRows, AmongStream};
+ghost use Rattle.irs_audit.specs.Private.StatedRows.{rows_in};
 ghost use Rattle.irs_base.specs.Order.{IsFirst};
 
 use crate::row_fields::{exchange_field, payment_field, period_field, reset_field};
-use crate::{Departure, Field, FlowReset, FlowStream, RowKind};
+use crate::stated_rows::StatedRows;
+use crate::{Departure, Field, RowKind};
 use irs_schedule::StreamPart;
 
 /// The item at a place, from 0, where there is one.
@@ -16,53 +18,43 @@ pub(crate) fn item<T>(items: &[T], place: usize) -> Option<&T>
     items.get(place)
 }
 
-fn exchange_at(ours: &StreamPart, theirs: &FlowStream, place: usize) -> Option<Field>
-    ensures { IsFirst field_before (KindDeparts RowKind.Exchange ours.now theirs.now place) result }
+fn exchange_at(ours: &StreamPart, theirs: &StatedRows<'_>, place: usize) -> Option<Field>
+    ensures { IsFirst field_before (KindDeparts RowKind.Exchange ours.now (rows_in theirs.now) place) result }
 {
-    match (
-        item(ours.exchanges(), place),
-        item(theirs.exchanges(), place),
-    ) {
-        (Some(x), Some(y)) => exchange_field(x, y),
+    match (item(ours.exchanges(), place), theirs.exchange(place)) {
+        (Some(x), Some(y)) => exchange_field(x, &y),
         (Some(_), None) => Some(Field::Missing),
         (None, Some(_)) => Some(Field::Extra),
         (None, None) => None,
     }
 }
 
-fn payment_at(ours: &StreamPart, theirs: &FlowStream, place: usize) -> Option<Field>
-    ensures { IsFirst field_before (KindDeparts RowKind.Payment ours.now theirs.now place) result }
+fn payment_at(ours: &StreamPart, theirs: &StatedRows<'_>, place: usize) -> Option<Field>
+    ensures { IsFirst field_before (KindDeparts RowKind.Payment ours.now (rows_in theirs.now) place) result }
 {
-    match (item(ours.payments(), place), item(theirs.payments(), place)) {
-        (Some(x), Some(y)) => payment_field(ours.currency(), x, y),
+    match (item(ours.payments(), place), theirs.payment(place)) {
+        (Some(x), Some(y)) => payment_field(ours.currency(), x, &y),
         (Some(_), None) => Some(Field::Missing),
         (None, Some(_)) => Some(Field::Extra),
         (None, None) => None,
     }
 }
 
-fn period_at(ours: &StreamPart, theirs: &FlowStream, place: usize) -> Option<Field>
-    ensures { IsFirst field_before (KindDeparts RowKind.Period ours.now theirs.now place) result }
+fn period_at(ours: &StreamPart, theirs: &StatedRows<'_>, place: usize) -> Option<Field>
+    ensures { IsFirst field_before (KindDeparts RowKind.Period ours.now (rows_in theirs.now) place) result }
 {
-    match (ours.period(place), item(theirs.periods(), place)) {
-        (Some(x), Some(y)) => period_field(&x, y),
+    match (ours.period(place), theirs.period(place)) {
+        (Some(x), Some(y)) => period_field(&x, &y),
         (Some(_), None) => Some(Field::Missing),
         (None, Some(_)) => Some(Field::Extra),
         (None, None) => None,
     }
 }
 
-// The reset that the flows state for the period at a place.
-fn stated_reset(theirs: &FlowStream, place: usize) -> Option<FlowReset>
-    ensures { result ≡ stated_reset theirs.now place }
+fn reset_at(ours: &StreamPart, theirs: &StatedRows<'_>, place: usize) -> Option<Field>
+    ensures { IsFirst field_before (KindDeparts RowKind.Reset ours.now (rows_in theirs.now) place) result }
 {
-    item(theirs.periods(), place)?.reset
-}
-
-fn reset_at(ours: &StreamPart, theirs: &FlowStream, place: usize) -> Option<Field>
-    ensures { IsFirst field_before (KindDeparts RowKind.Reset ours.now theirs.now place) result }
-{
-    match (item(ours.resets(), place), stated_reset(theirs, place)) {
+    match (item(ours.resets(), place), theirs.reset(place)) {
         (Some(x), Some(y)) => reset_field(x, &y),
         (Some(_), None) => Some(Field::Missing),
         (None, Some(_)) => Some(Field::Extra),
@@ -71,8 +63,13 @@ fn reset_at(ours: &StreamPart, theirs: &FlowStream, place: usize) -> Option<Fiel
 }
 
 // The first field of the rows at a place that departs.
-fn row_field(kind: RowKind, ours: &StreamPart, theirs: &FlowStream, place: usize) -> Option<Field>
-    ensures { IsFirst field_before (KindDeparts kind ours.now theirs.now place) result }
+fn row_field(
+    kind: RowKind,
+    ours: &StreamPart,
+    theirs: &StatedRows<'_>,
+    place: usize,
+) -> Option<Field>
+    ensures { IsFirst field_before (KindDeparts kind ours.now (rows_in theirs.now) place) result }
 {
     match kind {
         RowKind::Stream => None,
@@ -88,10 +85,10 @@ fn first_row(
     stream: u8,
     kind: RowKind,
     ours: &StreamPart,
-    theirs: &FlowStream,
+    theirs: &StatedRows<'_>,
     last: u32,
 ) -> Option<Departure>
-    ensures { IsFirst departs_before (AmongRows stream kind ours.now theirs.now last) result }
+    ensures { IsFirst departs_before (AmongRows stream kind ours.now (rows_in theirs.now) last) result }
 {
     for place in 0..last {
         if let Some(field) = row_field(kind, ours, theirs, place as usize) {
@@ -109,8 +106,12 @@ fn first_row(
 /// The first departure among the rows of a stream. Where a row departs that is past the one after
 /// the schedule's last, that one departs too. So does a period where a reset departs that is past
 /// the schedule's last period.
-pub(crate) fn first_of_rows(stream: u8, ours: &StreamPart, theirs: &FlowStream) -> Option<Departure>
-    ensures { IsFirst departs_before (AmongStream stream ours.now theirs.now) result }
+pub(crate) fn first_of_rows(
+    stream: u8,
+    ours: &StreamPart,
+    theirs: &StatedRows<'_>,
+) -> Option<Departure>
+    ensures { IsFirst departs_before (AmongStream stream ours.now (rows_in theirs.now)) result }
 {
     let exchanges = ours.exchanges().len() as u32;
     let payments = ours.payments().len() as u32;

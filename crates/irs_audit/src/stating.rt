@@ -14,7 +14,7 @@ use crate::rows::item;
 use crate::{FlowExchange, FlowPayment, FlowPeriod, FlowReset, FlowStream, Flows, StatedFraction};
 use irs_base::{Day, Dec, Direction, Memory, round};
 use irs_schedule::{CalculationPeriod, PaymentEntry, Schedule, StreamPart};
-use irs_terms::{Frac, Reset};
+use irs_terms::{Currency, Exchange, Frac, Reset};
 use std::alloc::Global;
 
 // The decimals with which a fraction is stated.
@@ -93,8 +93,8 @@ fn reset(r: &Reset) -> FlowReset
     }
 }
 
-// The reset of the period at a place.
-fn reset_at(part: &StreamPart, place: usize) -> Option<FlowReset>
+/// What states the reset of the period at a place, from 0.
+pub(crate) fn reset_at(part: &StreamPart, place: usize) -> Option<FlowReset>
     ensures { result ≡ option_map stated_reset (slice_get part.now.resets place) }
 {
     match item(part.resets(), place) {
@@ -123,6 +123,61 @@ fn period(start: Day, x: &CalculationPeriod, reset: Option<FlowReset>) -> FlowPe
     }
 }
 
+fn exchange(x: &Exchange) -> FlowExchange
+    requires { IsStatableDec x.now.amount }
+    ensures { result ≡ stated_exchange x.now }
+{
+    FlowExchange {
+        unadjusted: Some(x.unadjusted),
+        adjusted: Some(x.adjusted),
+        amount: Some(amount(x.amount)),
+    }
+}
+
+fn payment(currency: Currency, y: &PaymentEntry) -> FlowPayment
+    requires payment { IsPayment y.now }
+    requires statable { IfSome y.now.amount IsStatableDec }
+    ensures { result ≡ stated_payment currency y.now }
+{
+    FlowPayment {
+        unadjusted: Some(y.unadjusted),
+        adjusted: Some(y.adjusted),
+        periods: period_count(y),
+        currency: Some(currency),
+        amount: known_amount(y.amount),
+    }
+}
+
+/// What states the principal exchange at a place, from 0.
+pub(crate) fn exchange_at(part: &StreamPart, place: usize) -> Option<FlowExchange>
+    ensures { result ≡ option_map stated_exchange (slice_get part.now.exchanges place) }
+{
+    match item(part.exchanges(), place) {
+        Some(x) => Some(exchange(x)),
+        None => None,
+    }
+}
+
+/// What states the payment at a place, from 0.
+pub(crate) fn payment_at(part: &StreamPart, place: usize) -> Option<FlowPayment>
+    ensures { result ≡ option_map (stated_payment part.now.currency) (slice_get part.now.payments place) }
+{
+    match item(part.payments(), place) {
+        Some(y) => Some(payment(part.currency(), y)),
+        None => None,
+    }
+}
+
+/// What states the calculation period at a place, from 0.
+pub(crate) fn period_at(part: &StreamPart, place: usize) -> Option<FlowPeriod>
+    ensures { result ≡ slice_get (stated_part part.now).periods place }
+{
+    match part.period(place) {
+        Some(x) => Some(period(x.start, &x, reset_at(part, place))),
+        None => None,
+    }
+}
+
 fn exchanges(alloc: Global, part: &StreamPart) -> Result<Vec<FlowExchange>, Memory>
     ensures { IfOk result (λ list. list.items ≡ map stated_exchange part.now.exchanges) }
 {
@@ -146,16 +201,7 @@ fn payments(alloc: Global, part: &StreamPart) -> Result<Vec<FlowPayment>, Memory
     let currency = part.currency();
     let mut list = Vec::new(alloc);
     for y in part.payments() {
-        let unadjusted = Some(y.unadjusted);
-        let adjusted = Some(y.adjusted);
-        let forecast = known_amount(y.amount);
-        list.push(FlowPayment {
-            unadjusted,
-            adjusted,
-            periods: period_count(y),
-            currency: Some(currency),
-            amount: forecast,
-        })?;
+        list.push(payment(currency, y))?;
     }
     Ok(list)
 }

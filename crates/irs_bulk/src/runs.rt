@@ -1,12 +1,12 @@
 //! A run of `bulk`: the schedules of its documents, added up.
 //!
-//! The calendar is read once. A document's own faults are reported before those of the calendar, as
-//! `schedule` reports them. The memory of one document is freed before the next.
-ghost use Rattle.std.specs.Prelude.{◌≡◌, ◌<◌, ◌≤◌, ◌^◌, [], ◌∷◌, map, IfErr, IfOk};
+//! The calendar is read once, and its centre looked up once. A document's own faults are reported before
+//! those of the calendar, as `schedule` reports them. The memory of one document is freed before the next.
+ghost use Rattle.std.specs.Prelude.{◌≡◌, ◌<◌, ◌≤◌, ◌^◌, [], ◌∷◌, map, IfErr, IfOk, IfSome};
 ghost use Rattle.irs_terms.specs.Lawful.{IsLawful};
 ghost use Rattle.irs_answers.specs.Due.{Spells};
 ghost use Rattle.irs_answers.specs.Forms.{json_text};
-ghost use Rattle.irs_answers.specs.Outcomes.{Ends, IfAnswered, IfRefused};
+ghost use Rattle.irs_answers.specs.Outcomes.{Ends, IfAnswered, IfRefused, IsScheduled, IsUnscheduled};
 ghost use Rattle.irs_answers.specs.Replying.{reply_status, reply_text};
 ghost use Rattle.irs_answers.specs.declared.tasks.Task.TheVariants.{Schedule as OfSchedule};
 ghost use Rattle.irs_bulk.specs.BulkCalendars.{calendar_text};
@@ -14,15 +14,17 @@ ghost use Rattle.irs_bulk.specs.BulkLines.{IsRun, line_text};
 ghost use Rattle.irs_bulk.specs.BulkRuns.{Adds, AreSums, DueAt, DueBulk, DueSchedule, IsCalendar, IsOneBulk};
 ghost use Rattle.irs_bulk.specs.BulkRuns.{IsScheduleOf, agree_of, first_of, one_total};
 ghost use Rattle.irs_bulk.specs.Documents.{document_text, most_bulk};
+ghost use Rattle.irs_bulk.specs.Private.Tables.{IsTable};
 
 use crate::{Totals, bulk_calendar, bulk_doc, bulk_text};
-use irs_answers::{Form, Refusal, Reply, Source, read_document, schedule_of};
-use irs_audit::{Verdict, audit, flows_of, sums_of};
+use irs_answers::{Form, Refusal, Reply, Source, read_document};
+use irs_audit::{Verdict, audit_stated, sums_of};
 use irs_base::{Line, Memory};
 use irs_calendar::{CalErr, Calendars};
 use irs_read::read_swap;
 use irs_resets::Fixings;
-use irs_schedule::Schedule;
+use irs_rules::check_terms;
+use irs_schedule::{CenterTable, Schedule, find_centers, make_schedule_by};
 use irs_terms::Swap;
 use std::alloc::Global;
 
@@ -51,7 +53,9 @@ fn run(alloc: Global, n: u32) -> Result<Reply, Refusal>
     ensures { IfAnswered result (Ends (DueBulk n)) }
 {
     let calendars = calendars(alloc);
-    let totals = totals(alloc, n, &calendars)?;
+    let sample = sample(alloc);
+    let days = days_by(alloc, &calendars, &sample);
+    let totals = totals(alloc, n, &days)?;
     Ok(Reply::Text(line(alloc, &totals)?))
 }
 
@@ -65,16 +69,20 @@ fn line(alloc: Global, totals: &Totals) -> Result<Vec<u8>, Memory>
 }
 
 // The sums over the documents 1 to n, or what is due for the first without a schedule.
-fn totals(alloc: Global, n: u32, calendars: &Result<Calendars, CalErr>) -> Result<Totals, Refusal>
+fn totals(
+    alloc: Global,
+    n: u32,
+    days: &Result<CenterTable<'_, '_>, CalErr>,
+) -> Result<Totals, Refusal>
     requires few { n ≤ most_bulk }
-    requires calendar { IsCalendar calendars.now }
+    requires calendar { IsTable days.now }
     ensures sums { IfOk result (AreSums n) }
     ensures run { IfOk result IsRun }
     ensures refused { IfErr result (λ r. IfRefused r (Ends (DueBulk n))) }
 {
     let mut totals = Totals::none();
     for before in 0..n {
-        match one_total(alloc, before + 1, calendars) {
+        match one_total(alloc, before + 1, days) {
             Ok(more) => totals = totals.with(more),
             Err(refusal) => return Err(refusal),
         }
@@ -92,6 +100,61 @@ fn calendars(alloc: Global) -> Result<Calendars, CalErr>
     }
 }
 
+// The swap of document 2, which names the centre as most documents do; none where memory ran out.
+fn sample(alloc: Global) -> Option<Swap>
+    ensures { IfSome result IsLawful }
+{
+    match swap_at(alloc, 2, false) {
+        Ok(swap) => Some(swap),
+        Err(_) => None,
+    }
+}
+
+// The good business days of the centre, by the calendar, or why it can't be read.
+fn days_by<'a>(
+    alloc: Global,
+    calendars: &'a Result<Calendars, CalErr>,
+    sample: &'a Option<Swap>,
+) -> Result<CenterTable<'a, 'a>, CalErr>
+    requires calendar { IsCalendar calendars.now }
+    requires lawful { IfSome sample.now IsLawful }
+    ensures { IsTable result }
+{
+    match calendars {
+        Ok(calendars) => Ok(table_by(alloc, calendars, sample)),
+        Err(fault) => Err(*fault),
+    }
+}
+
+// The good business days of the centres that the sample names, where there is one.
+fn table_by<'a>(
+    alloc: Global,
+    calendars: &'a Calendars,
+    sample: &'a Option<Swap>,
+) -> CenterTable<'a, 'a>
+    requires { IfSome sample.now IsLawful }
+    ensures { result.sections ≡ calendars.now }
+{
+    match sample {
+        Some(swap) => table_of(alloc, calendars, swap),
+        None => CenterTable::none(alloc, calendars),
+    }
+}
+
+// The good business days of the centres that a swap names; none where its terms break a rule or memory ran out.
+fn table_of<'a>(alloc: Global, calendars: &'a Calendars, swap: &'a Swap) -> CenterTable<'a, 'a>
+    requires { IsLawful swap.now }
+    ensures { result.sections ≡ calendars.now }
+{
+    match check_terms(swap, calendars) {
+        Some(_) => CenterTable::none(alloc, calendars),
+        None => match find_centers(alloc, swap, calendars) {
+            Ok(table) => table,
+            Err(Memory) => CenterTable::none(alloc, calendars),
+        },
+    }
+}
+
 // The calendar files: one, of the centre BULK.
 fn calendar_files(alloc: Global) -> Result<Vec<Vec<u8>>, Memory>
     ensures { IfOk result (λ files. map (λ f. f.items) files.items ≡ calendar_text ∷ []) }
@@ -105,20 +168,19 @@ fn calendar_files(alloc: Global) -> Result<Vec<Vec<u8>>, Memory>
 fn one_total(
     alloc: Global,
     k: u32,
-    calendars: &Result<Calendars, CalErr>,
+    days: &Result<CenterTable<'_, '_>, CalErr>,
 ) -> Result<Totals, Refusal>
     requires low { 0 < k }
     requires high { k ≤ most_bulk }
-    requires calendar { IsCalendar calendars.now }
+    requires calendar { IsTable days.now }
     ensures adds { IfOk result (Adds k) }
     ensures run { IfOk result IsRun }
     ensures one { IfOk result (λ t. t.documents ≡ 1) }
     ensures refused { IfErr result (λ r. IfRefused r (Ends (DueAt k))) }
 {
-    let schedule = schedule_at(alloc, k, false, calendars)?;
-    let plain = schedule_at(alloc, k, true, calendars)?;
-    let flows = flows_of(alloc, &plain)?;
-    Ok(totals_by(&schedule, audit(&schedule, &flows)))
+    let schedule = schedule_at(alloc, k, false, days)?;
+    let plain = schedule_at(alloc, k, true, days)?;
+    Ok(totals_by(&schedule, audit_stated(&schedule, &plain)))
 }
 
 // The schedule of document k, or of its plain form; or what `schedule` says where there is none.
@@ -126,18 +188,35 @@ fn schedule_at(
     alloc: Global,
     k: u32,
     plain: bool,
-    calendars: &Result<Calendars, CalErr>,
+    days: &Result<CenterTable<'_, '_>, CalErr>,
 ) -> Result<Schedule, Refusal>
     requires low { 0 < k }
     requires high { k ≤ most_bulk }
-    requires calendar { IsCalendar calendars.now }
+    requires calendar { IsTable days.now }
     ensures schedule { IfOk result (IsScheduleOf plain k) }
     ensures refused { IfErr result (λ r. IfRefused r (Ends (DueSchedule plain k))) }
 {
     let swap = swap_at(alloc, k, plain)?;
-    match calendars {
-        Ok(calendars) => schedule_of(alloc, &swap, calendars, &Fixings::none()),
+    match days {
+        Ok(days) => schedule_by(alloc, &swap, days, &Fixings::none()),
         Err(fault) => Err(Refusal::Calendars(*fault)),
+    }
+}
+
+// The schedule of a swap, or the first broken rule of K10 to K39.
+fn schedule_by(
+    alloc: Global,
+    swap: &Swap,
+    days: &CenterTable<'_, '_>,
+    fixings: &Fixings,
+) -> Result<Schedule, Refusal>
+    requires { IsLawful swap.now }
+    ensures schedule { IfOk result (λ s. IsScheduled swap.now days.now.sections fixings.now s) }
+    ensures refused { IfErr result (λ r. IfRefused r (IsUnscheduled swap.now days.now.sections fixings.now)) }
+{
+    match check_terms(swap, days.calendars()) {
+        Some(broken) => Err(Refusal::Rule(broken)),
+        None => Ok(make_schedule_by(alloc, swap, days, fixings)?),
     }
 }
 

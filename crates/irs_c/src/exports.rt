@@ -82,9 +82,9 @@ pub extern "C" fn irs_run(
 /// trade comes to is what `irs_run` gives for these files: the status, the text and the sentence. The fixings
 /// and the calendars that the words name are read once, if all of them are common.
 ///
-/// As many trades are run as `answers` has room for. The texts and the sentences go to `out`, those of a trade
-/// one after the other, as far as it has room; and the length of all to `needed`. A trade with 7 or 9 has no
-/// text and no sentence.
+/// As many trades are run as `answers` has room for. The texts and the sentences go to `out`, as far as it has
+/// room: of each trade the text and then the sentence. The length of all goes to `needed`. A trade with 7 or 9
+/// has no text and no sentence.
 #[unsafe(no_mangle)]
 pub extern "C" fn irs_run_each(
     alloc: Global,

@@ -32,7 +32,7 @@ some_lines b bs = elim (cases_Bool (b == 10)) [
     behind : (b : ℕ) (bs : List ℕ) → (b == 13 && begins_feed bs) ≡ true → is_none (lines_of bs) ≡ false
     behind b bs h = feed_first bs (fed (b == 13) (begins_feed bs) h)
 
--- the last line is the one with no bytes behind it
+-- the last line is the one with no bytes after it
 pub last_line : (last : Bool) (more : List ℕ) → last ≡ (length more == 0) → is_none (lines_of more) ≡ last
 last_line last [] h = cc
 last_line last (b ∷ bs) h = grind (arith, h, some_lines b bs)

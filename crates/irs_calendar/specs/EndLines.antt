@@ -6,7 +6,7 @@ use Rattle.std.specs.List.{list_all}
 use Rattle.std.specs.Str.{bytes_eq}
 use Rattle.irs_base.specs.Lines.{lines_of}
 
--- the end line behind this many lines
+-- the end line that counts this many lines before it
 abbrev pub end_text : ℕ → List ℕ
 end_text before = codes "# end " ++ decimal before
 
@@ -50,7 +50,7 @@ bad_line = 32 ∷ 35 ∷ []
 abbrev pub line_seen : Bool → ℕ → List ℕ → List ℕ
 line_seen last before line = if last && is_false_end before line then bad_line else line
 
--- lines as they are read, behind others
+-- lines as they are read, after that many others
 abbrev pub seen_from : ℕ → List (List ℕ) → List (List ℕ)
 seen_from before [] = []
 seen_from before (l ∷ ls) = line_seen (is_none ls) before l ∷ seen_from (before + 1) ls

@@ -41,7 +41,7 @@ fn is_end_line(line: &[u8]) -> bool
     line.len() > 6 && &line[..6] == b"# end ".as_slice() && is_number(&line[6..])
 }
 
-/// The line is the end line behind that many lines.
+/// The line is the end line that counts that many lines before it.
 fn is_end_behind(line: &[u8], before: u32) -> bool
     ensures { result ≡ bytes_eq line.now (end_text before) }
 {
@@ -68,7 +68,7 @@ fn line_seen(line: &[u8], before: u32, is_last: bool) -> &[u8]
     }
 }
 
-/// The first line as it is read behind that many lines, and the bytes after its end.
+/// The first line as it is read after that many lines, and the bytes after its end.
 pub fn split_seen(bytes: &[u8], before: u32) -> (&[u8], &[u8])
     requires { 0 < length bytes.now }
     ensures lines { seen_from before (lines_of bytes.now)

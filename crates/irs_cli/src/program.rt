@@ -101,8 +101,8 @@ pub fn cause_of_run<F: Files, S: Sink>(
     }
 }
 
-/// What the words come to, before anything is written: the reply that is to be written, and what a sentence says
-/// of it, with its note. `Memory` comes where memory ran out.
+/// What the words come to, before anything is written. It is the reply that is to be written, and what a sentence
+/// says of it, with its note. `Memory` comes where memory ran out.
 pub fn reply_for<F: Files>(
     alloc: Global,
     words: &[String],

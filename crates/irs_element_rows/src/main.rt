@@ -1,8 +1,8 @@
 //! The element rows. An element of a document is taken away, repeated or given another value. A row
 //! has what the readers of irs_read and irs_audit and the command `audit` report of it. Other rows
-//! have the values of texts of leaves. The rest are worked examples of JSON texts and FpML XML,
-//! broken rules in order, emitted cash flows, files and sinks in memory, and sentences with what is
-//! added to them.
+//! have the values of texts of leaves. The rest are worked examples. They are JSON texts and FpML XML,
+//! broken rules in order, and emitted cash flows. There are also files and sinks in memory, and
+//! sentences with what is added to them.
 //!
 //! The rows, their documents and the expected answers are in `data/`; their form is ours.
 #![tactic(auto)]

@@ -1,8 +1,8 @@
 //! The rows of what a sentence adds to what a reply says. Some have the payments that have no amount,
 //! where a document breaks a rule, or how its text begins, and say the sentence. The others have a
-//! document and a broken rule. They say the line of its element in FpML XML, the name of the member that
-//! K4 or K5 means, or the text of the leaf. Or they say the sentence with the kind of the value (K3), or with
-//! a roll and a day (K30).
+//! document and a broken rule. They say the line of its element in FpML XML. Or they say the name of the
+//! member that K4 or K5 means, or the text of the leaf. Or they say the sentence with the kind of the value (K3),
+//! or with a roll and a day (K30).
 use crate::order_rows::broken_of;
 use crate::told::Told;
 use crate::words::words_of;
@@ -174,7 +174,7 @@ fn tell_text(told: &mut Told, alloc: Global, broken: Broken, text: &str) -> Opti
     Some(())
 }
 
-// What is asked of a broken rule: `QUESTION of RULE STREAM PATH INDEX`.
+// A question on a broken rule: `QUESTION of RULE STREAM PATH INDEX`.
 fn tell_of_rule(told: &mut Told, alloc: Global, question: &str, text: &str) -> Option<()> {
     let (question, broken) = question.split_once(" of ")?;
     let broken = broken_of(broken)?;

@@ -23,7 +23,8 @@ use Rattle.serde_json.specs.Data.{no_members, member, put, depth, items_depth, m
 use Rattle.serde_json.specs.Read.{max_depth, of_items, of_json, read}
 use Rattle.serde_json.specs.View.{items_of}
 use Rattle.serde_json.specs.Written.{compact_text, items_outline, members_outline, outline}
-use Rattle.std.proofs.Common.{◌≡◌, ℕ, ℤ, zero, suc, ◌+◌, ◌-◌, ◌≤◌, List, [], ◌∷◌, ◌++◌, map, Option, Some, None, option_map}
+use Rattle.std.proofs.Common.{◌≡◌, ℕ, ℤ, zero, suc, ◌+◌, ◌-◌, ◌≤◌, List, [], ◌∷◌, ◌++◌, map, Option, Some, None}
+use Rattle.std.proofs.Common.{option_map}
 use Rattle.std.proofs.Common.{codes, refl, sym, ap, ap₂, ◌∙◌, arith, append-nil}
 use Rattle.std.specs.Prelude.{max, option_and_then, slice_get}
 
@@ -65,7 +66,7 @@ mutual
   members_numberless n no_members h = tt
   members_numberless n (member k d ms) h = (numberless n d h.0, members_numberless n ms h.1)
 
--- a value that is the value of its outline: in each object a name stands once, and names are in order
+-- a value that is the value of its outline: in each object a name is there once, and names are in order
 abbrev pub Kept : Data → Type 0
 Kept d = of_json (outline d) ≡ Some d
 
@@ -109,7 +110,8 @@ exchange_kept : (x : Exchange) → Kept (exchange_value x)
 unfolding exchange_value
 exchange_kept x = refl
 
-forecast_by : (currency : Currency) (o : Option Dec) → Kept (object (put_known (codes "amount") (option_map amount_leaf o)
+forecast_by : (currency : Currency) (o : Option Dec)
+    → Kept (object (put_known (codes "amount") (option_map amount_leaf o)
     (put (codes "currency") (currency_leaf currency) no_members)))
 forecast_by currency None = refl
 forecast_by currency (Some v) = refl
@@ -128,7 +130,8 @@ observation_kept : (r : Reset) → Kept (observation_value r)
 unfolding observation_value
 observation_kept r = observation_by r.fixing r.reset r.observed
 
-definition_by : (o : Option ℤ) (d : Data) → Kept d → Kept (object (put_known (codes "calculatedRate") (option_map rate_leaf o)
+definition_by : (o : Option ℤ) (d : Data) → Kept d
+    → Kept (object (put_known (codes "calculatedRate") (option_map rate_leaf o)
     (put (codes "rateObservation") d no_members)))
 definition_by None d h = rw h refl
 definition_by (Some u) d h = rw h refl
@@ -181,7 +184,8 @@ payment_kept p y =
 
 cashflows_by : (a : Data) (xs : List Exchange) → Kept a
     → Kept (object (put_known (codes "principalExchange") (known_exchanges xs)
-    (put (codes "cashflowsMatchParameters") (string (codes "true")) (put (codes "paymentCalculationPeriod") a no_members))))
+    (put (codes "cashflowsMatchParameters") (string (codes "true"))
+    (put (codes "paymentCalculationPeriod") a no_members))))
 cashflows_by a [] h = rw h refl
 cashflows_by a (x ∷ xs) h =
     let k : Kept (array_of (map exchange_value (x ∷ xs))) =

@@ -1,5 +1,6 @@
 -- What the code appends, piece after piece.
-use Rattle.std.proofs.Common.{◌≡◌, ℕ, suc, ◌+◌, ◌-◌, ◌<◌, ◌≤◌, Bool, true, false, List, [], ◌∷◌, ◌++◌, length, get_or, map, take}
+use Rattle.std.proofs.Common.{◌≡◌, ℕ, suc, ◌+◌, ◌-◌, ◌<◌, ◌≤◌, Bool, true, false, List, [], ◌∷◌, ◌++◌, length, get_or}
+use Rattle.std.proofs.Common.{map, take}
 use Rattle.std.proofs.Common.{Some, None, refl, sym, ap, ap₂, ◌∙◌, subst, arith, append_assoc, append-nil}
 use Rattle.std.specs.Prelude.{slice_get}
 use Rattle.std.proofs.lemmas.List.{map-append, take_all, take_more}
@@ -52,7 +53,7 @@ listed_append later (d ∷ a) b =
     (listed_append true a b ∙ ap (λ l. listed_text true a ++ listed_text l b) (later_true a))
     ∙ regroup (comma_if later) (compact_text d) (listed_text true a) (listed_text true b)
 
--- whether something stands before what comes after values and others
+-- whether something is before what comes after values and others
 pub later_append : (later : Bool) (a b : List Data) → is_later later (a ++ b) ≡ is_later (is_later later a) b
 later_append later [] b = refl
 later_append later (d ∷ a) b = sym (later_true b)
@@ -107,7 +108,7 @@ period_listed p place x later a b c is e f =
     subst (λ o. c ≡ a ++ listed_text later (listed_period (slice_get p.resets place) o)) is
     (one_listed later (period_value x (slice_get p.resets place)) a b c e f)
 
--- something stands before what comes after a period
+-- something is before what comes after a period
 pub later_there : (p : Part) (place : ℕ) (x : CalculationPeriod) (later : Bool) → Some x ≡ period_at p place
     → true ≡ is_later later (one_period p place)
 later_there p place x later is =
@@ -136,9 +137,11 @@ next_period p first place later now_later old now next l e before g after =
     let done = period_values p first n in
     let one = one_period p (first + n) in
     let piece : next ≡ now ++ listed_text (is_later false done) one =
-    subst (λ b. next ≡ now ++ listed_text b one) before (subst (λ j. next ≡ now ++ listed_text later (one_period p j)) at g) in
+    subst (λ b. next ≡ now ++ listed_text b one) before
+    (subst (λ j. next ≡ now ++ listed_text later (one_period p j)) at g) in
     let is : now_later ≡ is_later (is_later false done) one =
-    subst (λ b. now_later ≡ is_later b one) before (subst (λ j. now_later ≡ is_later later (one_period p j)) at after) in
+    subst (λ b. now_later ≡ is_later b one) before
+    (subst (λ j. now_later ≡ is_later later (one_period p j)) at after) in
     subst (λ m. (next ≡ old ++ listed_text false (period_values p first m))
     × (now_later ≡ is_later false (period_values p first m))) (sym up) (
       twice old now next (listed_text false done) (listed_text (is_later false done) one) e piece
@@ -164,6 +167,7 @@ periods_paid p y first last a b h e f g =
     g ∙ ap₂ (λ j n. a ++ listed_text false (period_values p j n)) e count
 
 -- the amount of a payment in the currency of its stream
-pub in_currency : (y : PaymentEntry) (k l : Currency) (a b : List ℕ) → k ≡ l → b ≡ a ++ compact_text (forecast_value k y)
+pub in_currency : (y : PaymentEntry) (k l : Currency) (a b : List ℕ) → k ≡ l
+    → b ≡ a ++ compact_text (forecast_value k y)
     → b ≡ a ++ compact_text (forecast_value l y)
 in_currency y k l a b e g = g ∙ ap (λ c. a ++ compact_text (forecast_value c y)) e

@@ -1,5 +1,6 @@
 -- The texts of leaves are of plain characters, so they are ASCII and need no escape.
-use Rattle.std.proofs.Common.{◌≡◌, ℕ, zero, suc, ◌+◌, ◌/◌, ◌%◌, ◌^◌, ◌<◌, ◌≤◌, ◌==◌, Bool, true, false, List, [], ◌∷◌, ◌++◌}
+use Rattle.std.proofs.Common.{◌≡◌, ℕ, zero, suc, ◌+◌, ◌/◌, ◌%◌, ◌^◌, ◌<◌, ◌≤◌, ◌==◌, Bool, true, false, List, [], ◌∷◌}
+use Rattle.std.proofs.Common.{◌++◌}
 use Rattle.std.proofs.Common.{if◌then◌else◌, ℤ, pos, negsuc, unsigned_abs, FitsSigned, refl, sym, ap, subst, ◌∙◌, arith}
 use Rattle.std.proofs.Math.Nat.{div-le_self}
 use Rattle.std.proofs.lemmas.Bool.Decides.{nat_tests}
@@ -63,7 +64,8 @@ point = refl
 
 two_plain : (n : ℕ) → n < 100 → ArePlain (two_digits n)
 two_plain n l =
-    plain_cons (48 + n / 10) ((48 + n % 10) ∷ []) (plain_digit (n / 10) (omega arith)) (plain_one (n % 10) (omega arith))
+    plain_cons (48 + n / 10) ((48 + n % 10) ∷ []) (plain_digit (n / 10) (omega arith))
+    (plain_one (n % 10) (omega arith))
 
 date_plain : (y m d : ℕ) → y < 10000 → m < 100 → d < 100 → ArePlain (date_text y m d)
 date_plain y m d a b c =

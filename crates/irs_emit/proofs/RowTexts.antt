@@ -39,7 +39,8 @@ unfolding escape_byte
 forecast_by currency None = refl
 forecast_by currency (Some v) =
     ap (λ t. codes "{\"amount\":" ++ t)
-    (comma_moved (compact_text (amount_leaf v)) (codes "\"currency\":" ++ (compact_text (currency_leaf currency) ++ codes "}")))
+    (comma_moved (compact_text (amount_leaf v)) (codes "\"currency\":"
+    ++ (compact_text (currency_leaf currency) ++ codes "}")))
 
 -- the pieces of the amount of a payment
 pub forecast_text : (currency : Currency) (y : PaymentEntry)
@@ -104,7 +105,8 @@ front_then : (x : CalculationPeriod) (r : List ℕ)
     ++ (codes ",\"dayCountYearFraction\":" ++ (compact_text (fraction_leaf x.frac) ++ 44 ∷ r)))))))
 unfolding period_front
 front_then x r =
-    front_moved (codes "{\"adjustedEndDate\":") (compact_text (day_leaf x.adjusted_end)) (codes ",\"adjustedStartDate\":")
+    front_moved (codes "{\"adjustedEndDate\":") (compact_text (day_leaf x.adjusted_end))
+    (codes ",\"adjustedStartDate\":")
     (compact_text (day_leaf x.adjusted_start)) (codes ",\"calculationPeriodNumberOfDays\":")
     (compact_text (count_leaf x.days)) (codes ",\"dayCountYearFraction\":") (compact_text (fraction_leaf x.frac)) r
 
@@ -122,7 +124,8 @@ floating_by : (x : CalculationPeriod) (d : Data)
     ≡ compact_text (object (put (codes "floatingRateDefinition") d (period_members x)))
 unfolding period_members period_back escape_byte
 floating_by x d =
-    ap (λ t. period_front x ++ (codes "\"floatingRateDefinition\":" ++ t)) (comma_moved (compact_text d) (period_back x))
+    ap (λ t. period_front x ++ (codes "\"floatingRateDefinition\":" ++ t))
+    (comma_moved (compact_text d) (period_back x))
     ∙ front_then x (codes "\"floatingRateDefinition\":" ++ (compact_text d ++ 44 ∷ period_back x))
 
 -- the text of a period in its pieces: what comes before its rate, the rate, and what comes after it
@@ -156,7 +159,8 @@ cashflows_by : (ds : List Data) (xs : List Exchange)
     (put (codes "paymentCalculationPeriod") (array_of ds) no_members))))
 unfolding escape_byte
 cashflows_by ds [] =
-    ap (λ t. codes "{\"cashflowsMatchParameters\":\"true\",\"paymentCalculationPeriod\":" ++ t) (bracketed ds (codes "}"))
+    ap (λ t. codes "{\"cashflowsMatchParameters\":\"true\",\"paymentCalculationPeriod\":" ++ t)
+    (bracketed ds (codes "}"))
 cashflows_by ds (x ∷ xs) =
     let es = map exchange_value (x ∷ xs) in
     let last : (listed_text false es ++ 93 ∷ []) ++ codes "}" ≡ listed_text false es ++ codes "]}" =
@@ -171,7 +175,8 @@ cashflows_by ds (x ∷ xs) =
 -- the pieces of the cash flows of a stream
 pub cashflows_text : (p : Part)
     → codes "{\"cashflowsMatchParameters\":\"true\",\"paymentCalculationPeriod\":["
-    ++ (listed_text false (map (payment_value p) p.payments) ++ (codes "]" ++ (exchanges_text p.exchanges ++ codes "}")))
+    ++ (listed_text false (map (payment_value p) p.payments)
+    ++ (codes "]" ++ (exchanges_text p.exchanges ++ codes "}")))
     ≡ compact_text (cashflows_value p)
 unfolding cashflows_value
 cashflows_text p = cashflows_by (map (payment_value p) p.payments) p.exchanges

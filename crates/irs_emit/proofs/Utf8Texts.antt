@@ -28,7 +28,8 @@ use Rattle.serde_json.specs.Data.{Data, null, boolean, number, string, array, ob
 use Rattle.serde_json.specs.Data.{no_members, member, put}
 use Rattle.serde_json.specs.View.{items_of}
 use Rattle.serde_json.specs.Written.{comma_if, compact_text, items_text, members_text}
-use Rattle.std.proofs.Common.{◌≡◌, ℕ, ℤ, zero, suc, ◌+◌, ◌-◌, ◌^◌, ◌<◌, List, [], ◌∷◌, ◌++◌, Bool, true, false, map, Option}
+use Rattle.std.proofs.Common.{◌≡◌, ℕ, ℤ, zero, suc, ◌+◌, ◌-◌, ◌^◌, ◌<◌, List, [], ◌∷◌, ◌++◌, Bool, true, false, map}
+use Rattle.std.proofs.Common.{Option}
 use Rattle.std.proofs.Common.{Some, None, IfSome, option_map, unsigned_abs, codes, refl, sym, subst, arith}
 use Rattle.std.proofs.lemmas.Str.{IsUtf8-append, IsUtf8-from_ascii}
 use Rattle.std.specs.Fmt.{signed_decimal}
@@ -173,7 +174,8 @@ definition_clear x r h k = definition_by x.rate (observation_value r) h.rate (ob
 -- what comes after the rate of a period
 back_clear : (x : CalculationPeriod) → IsPeriodShort x
     → MembersClear (put (codes "notionalAmount") (string (dec_text x.notional 4))
-    (put (codes "unadjustedEndDate") (day_leaf x.«end») (put (codes "unadjustedStartDate") (day_leaf x.start) no_members)))
+    (put (codes "unadjustedEndDate") (day_leaf x.«end»)
+    (put (codes "unadjustedStartDate") (day_leaf x.start) no_members)))
 back_clear x h = (
   name (codes "notionalAmount") refl,
   number_clear x.notional 4 h.notional,
@@ -260,7 +262,8 @@ append_clear : (a b : List Data) → ListClear a → ListClear b → ListClear (
 append_clear [] b h k = k
 append_clear (d ∷ a) b h k = (h.0, append_clear a b h.1 k)
 
-listed_clear : (reset : Option Reset) (o : Option CalculationPeriod) → IfSome o IsPeriodShort → IfSome reset IsResetShort
+listed_clear : (reset : Option Reset) (o : Option CalculationPeriod) → IfSome o IsPeriodShort
+    → IfSome reset IsResetShort
     → ListClear (listed_period reset o)
 listed_clear reset None h k = tt
 listed_clear reset (Some x) h k = (period_clear x reset h k, tt)
@@ -290,7 +293,8 @@ payment_clear p y short h = (
 
 cashflows_by : (a : Data) (xs : List Exchange) → Clear a → Every IsExchangeShort xs
     → Clear (object (put_known (codes "principalExchange") (known_exchanges xs)
-    (put (codes "cashflowsMatchParameters") (string (codes "true")) (put (codes "paymentCalculationPeriod") a no_members))))
+    (put (codes "cashflowsMatchParameters") (string (codes "true"))
+    (put (codes "paymentCalculationPeriod") a no_members))))
 cashflows_by a [] h k = (
   name (codes "cashflowsMatchParameters") refl,
   name (codes "true") refl,

@@ -44,8 +44,8 @@ fn exchanges(out: &mut Vec<u8>, part: &StreamPart) -> Result<(), Memory>
     Ok(())
 }
 
-// The calculation period at a place, counted from 0, if there is one; and whether something stands
-// before the next one.
+// The calculation period at a place, counted from 0, if there is one; and whether something is before
+// the next one.
 #[tactic(auto, using(crate::proofs::Bounds::period_above))]
 fn one_period(
     out: &mut Vec<u8>,

@@ -1,5 +1,5 @@
 //! The rows of emitted cash flows: the text of an object for each exchange, payment and calculation
-//! period, members in the byte order of their names. A value that the schedule doesn't know isn't
+//! period. Members are in the byte order of their names. A value that the schedule doesn't know isn't
 //! stated.
 ghost use Rattle.std.specs.Prelude.{◌≡◌, ◌++◌, ◌≤◌, IfSome, OnOk, pos, ◌<ℤ◌, option_map};
 ghost use Rattle.serde_json.specs.Written.{compact_text};

@@ -6,7 +6,7 @@ ghost use Rattle.irs_emit.specs.Private.Texts.{ArePlain};
 
 use irs_base::Memory;
 
-/// Appends a comma, where something stands before.
+/// Appends a comma, where something is before it.
 pub(crate) fn comma(out: &mut Vec<u8>, later: bool) -> Result<(), Memory>
     ensures { OnOk result (out.new.items ≡ out.old.items ++ comma_if later) }
 {

@@ -1,5 +1,6 @@
 -- The emitted value as XML carries it, part by part.
-use Rattle.std.proofs.Common.{◌≡◌, ℕ, zero, suc, ◌+◌, ◌-◌, List, [], ◌∷◌, ◌++◌, map, Option, Some, None, option_map, ℤ, codes, refl, ap, ap₂, ◌∙◌}
+use Rattle.std.proofs.Common.{◌≡◌, ℕ, zero, suc, ◌+◌, ◌-◌, List, [], ◌∷◌, ◌++◌, map, Option, Some, None, option_map, ℤ}
+use Rattle.std.proofs.Common.{codes, refl, ap, ap₂, ◌∙◌}
 use Rattle.std.proofs.lemmas.List.{map-append}
 use Rattle.std.specs.Prelude.{slice_get}
 use Rattle.irs_base.specs.declared.line.Dec.{Dec}
@@ -10,8 +11,10 @@ use Rattle.irs_schedule.specs.Parts.{Part}
 use Rattle.irs_schedule.specs.PeriodViews.{period_at}
 use Rattle.irs_schedule.specs.declared.entries.PaymentEntry.{PaymentEntry}
 use Rattle.irs_schedule.specs.declared.views.CalculationPeriod.{CalculationPeriod}
-use Rattle.irs_emit.specs.Emitted.{array_of, cashflows_value, definition_value, emit_value, exchange_value, fixed_value, floating_value}
-use Rattle.irs_emit.specs.Emitted.{forecast_value, known_exchanges, listed_period, object_with, observation_value, one_period}
+use Rattle.irs_emit.specs.Emitted.{array_of, cashflows_value, definition_value, emit_value, exchange_value, fixed_value}
+use Rattle.irs_emit.specs.Emitted.{floating_value}
+use Rattle.irs_emit.specs.Emitted.{forecast_value, known_exchanges, listed_period, object_with, observation_value}
+use Rattle.irs_emit.specs.Emitted.{one_period}
 use Rattle.irs_emit.specs.Emitted.{payment_value, period_members, period_value, period_values, put_known, stream_value}
 use Rattle.irs_emit.specs.Leaves.{amount_leaf, currency_leaf, day_leaf, rate_leaf}
 use Rattle.serde_json.specs.Data.{Data, string, object, no_members, put}
@@ -24,7 +27,8 @@ pub ones_array : (ds : List Data) → ones (array_of ds) ≡ alone (items_of (ma
 ones_array ds = ap alone (ones_listed ds)
 
 -- rows as XML carries them
-rows_carried : {X : Type 0} (v w : X → Data) (xs : List X) → ((x : X) → ones (v x) ≡ w x) → map ones (map v xs) ≡ map w xs
+rows_carried : {X : Type 0} (v w : X → Data) (xs : List X) → ((x : X) → ones (v x) ≡ w x)
+    → map ones (map v xs) ≡ map w xs
 rows_carried v w [] law = refl
 rows_carried v w (x ∷ xs) law = ap₂ (λ d ds. d ∷ ds) (law x) (rows_carried v w xs law)
 
@@ -35,8 +39,10 @@ unfolding exchange_value
 exchange_same x = refl
 
 forecast_by : (currency : Currency) (o : Option Dec)
-    → ones (object (put_known (codes "amount") (option_map amount_leaf o) (put (codes "currency") (currency_leaf currency) no_members)))
-    ≡ object (put_known (codes "amount") (option_map amount_leaf o) (put (codes "currency") (currency_leaf currency) no_members))
+    → ones (object (put_known (codes "amount") (option_map amount_leaf o)
+    (put (codes "currency") (currency_leaf currency) no_members)))
+    ≡ object (put_known (codes "amount") (option_map amount_leaf o)
+    (put (codes "currency") (currency_leaf currency) no_members))
 forecast_by currency None = refl
 forecast_by currency (Some v) = refl
 
@@ -45,8 +51,10 @@ unfolding forecast_value
 forecast_same currency y = forecast_by currency y.amount
 
 observation_by : (a b : ℤ) (o : Option ℤ)
-    → ones (object (put_known (codes "observedRate") (option_map rate_leaf o) (put (codes "adjustedFixingDate") (day_leaf b) (put (codes "resetDate") (day_leaf a) no_members))))
-    ≡ object (put_known (codes "observedRate") (option_map rate_leaf o) (put (codes "adjustedFixingDate") (day_leaf b) (put (codes "resetDate") (day_leaf a) no_members)))
+    → ones (object (put_known (codes "observedRate") (option_map rate_leaf o)
+    (put (codes "adjustedFixingDate") (day_leaf b) (put (codes "resetDate") (day_leaf a) no_members))))
+    ≡ object (put_known (codes "observedRate") (option_map rate_leaf o)
+    (put (codes "adjustedFixingDate") (day_leaf b) (put (codes "resetDate") (day_leaf a) no_members)))
 observation_by a b None = refl
 observation_by a b (Some z) = refl
 
@@ -55,8 +63,10 @@ unfolding observation_value
 observation_same r = observation_by r.reset r.fixing r.observed
 
 definition_by : (d : Data) (o : Option ℤ)
-    → ones (object (put_known (codes "calculatedRate") (option_map rate_leaf o) (put (codes "rateObservation") d no_members)))
-    ≡ object (put_known (codes "calculatedRate") (option_map rate_leaf o) (put (codes "rateObservation") (ones d) no_members))
+    → ones (object (put_known (codes "calculatedRate") (option_map rate_leaf o)
+    (put (codes "rateObservation") d no_members)))
+    ≡ object (put_known (codes "calculatedRate") (option_map rate_leaf o)
+    (put (codes "rateObservation") (ones d) no_members))
 definition_by d None = refl
 definition_by d (Some z) = refl
 
@@ -64,7 +74,8 @@ definition_same : (x : CalculationPeriod) (r : Reset) → ones (definition_value
 unfolding definition_value
 definition_same x r =
     definition_by (observation_value r) x.rate
-    ∙ ap (λ d. object (put_known (codes "calculatedRate") (option_map rate_leaf x.rate) (put (codes "rateObservation") d no_members))) (observation_same r)
+    ∙ ap (λ d. object (put_known (codes "calculatedRate") (option_map rate_leaf x.rate)
+    (put (codes "rateObservation") d no_members))) (observation_same r)
 
 fixed_by : (x : CalculationPeriod) (o : Option ℤ)
     → ones (object (put_known (codes "fixedRate") (option_map rate_leaf o) (period_members x)))
@@ -86,7 +97,8 @@ period_same x (Some r) =
     floating_by x (definition_value x r)
     ∙ ap (λ d. object (put (codes "floatingRateDefinition") d (period_members x))) (definition_same x r)
 
-listed_same : (reset : Option Reset) (o : Option CalculationPeriod) → map ones (listed_period reset o) ≡ listed_period reset o
+listed_same : (reset : Option Reset) (o : Option CalculationPeriod)
+    → map ones (listed_period reset o) ≡ listed_period reset o
 listed_same reset None = refl
 listed_same reset (Some x) = ap (λ d. d ∷ []) (period_same x reset)
 
@@ -140,7 +152,8 @@ known_alone (d ∷ ds) = Some (alone (items_of (d ∷ ds)))
 
 -- the cash flows of a stream as XML carries them
 abbrev pub carried_cash : Part → Data
-carried_cash p = cash (known_alone (map exchange_value p.exchanges)) (alone (items_of (map (carried_payment p) p.payments)))
+carried_cash p = cash (known_alone (map exchange_value p.exchanges))
+    (alone (items_of (map (carried_payment p) p.payments)))
 
 cash_by : (p : Part) (xs : List Exchange) (ys : List PaymentEntry)
     → ones (cash (known_exchanges xs) (array_of (map (payment_value p) ys)))

@@ -1,5 +1,6 @@
 -- The elements of a schedule have names of letters and plain texts, and nest few levels.
-use Rattle.std.proofs.Common.{◌≡◌, ℕ, zero, suc, ◌+◌, ◌-◌, ◌*◌, ◌^◌, ◌<◌, ◌≤◌, true, List, [], ◌∷◌, ◌++◌, length, map, Option, Some, None, IfSome, ℤ, unsigned_abs, codes, refl, arith}
+use Rattle.std.proofs.Common.{◌≡◌, ℕ, zero, suc, ◌+◌, ◌-◌, ◌*◌, ◌^◌, ◌<◌, ◌≤◌, true, List, [], ◌∷◌, ◌++◌, length, map}
+use Rattle.std.proofs.Common.{Option, Some, None, IfSome, ℤ, unsigned_abs, codes, refl, arith}
 use Rattle.std.proofs.Math.Nat.{div-lt_iff_lt-mul, one-le-pow, pow-le-pow_right}
 use Rattle.std.specs.List.{list_all}
 use Rattle.std.specs.Prelude.{slice_get}
@@ -15,9 +16,13 @@ use Rattle.irs_schedule.specs.declared.entries.PaymentEntry.{PaymentEntry}
 use Rattle.irs_schedule.specs.declared.views.CalculationPeriod.{CalculationPeriod}
 use Rattle.irs_emit.proofs.Short.{parts_short}
 use Rattle.irs_emit.specs.PartLaws.{IsPartShort}
-use Rattle.irs_emit.specs.RowLaws.{IsExchangeShort, IsPaymentShort, IsPeriodShort, IsResetShort, IsShort, IsShortAmount, IsShortRate}
+use Rattle.irs_emit.specs.RowLaws.{IsExchangeShort, IsPaymentShort, IsPeriodShort, IsResetShort, IsShort, IsShortAmount}
+use Rattle.irs_emit.specs.RowLaws.{IsShortRate}
 use Rattle.irs_emit_xml.specs.Trees.{Node, is_letter, is_name, is_plain, IsFilled, IsNode, IsNodes, IsRoot}
-use Rattle.irs_emit_xml.specs.Flows.{listed, known, amount_node, rate_node, exchange_node, forecast_node, observation_node, definition_node, fraction_node, rate_of, period_node, listed_period, one_period, period_nodes, payment_node, cashflows_node, stream_node, stream_nodes}
+use Rattle.irs_emit_xml.specs.Flows.{listed, known, amount_node, rate_node, exchange_node, forecast_node}
+use Rattle.irs_emit_xml.specs.Flows.{observation_node, definition_node, fraction_node, rate_of, period_node}
+use Rattle.irs_emit_xml.specs.Flows.{listed_period, one_period, period_nodes, payment_node, cashflows_node, stream_node}
+use Rattle.irs_emit_xml.specs.Flows.{stream_nodes}
 use Rattle.irs_emit_xml.proofs.Currencies.{letters_plain}
 use Rattle.irs_emit_xml.proofs.PlainTexts.{day_plain, dec_plain, whole_plain}
 
@@ -28,7 +33,8 @@ every_append : {X : Type 0} (P : X → Type 0) (xs ys : List X) → Every P xs �
 every_append P [] ys h k = k
 every_append P (x ∷ xs) ys h k = (h.0, every_append P xs ys h.1 k)
 
-every_map : {X Y : Type 0} (P : X → Type 0) (Q : Y → Type 0) (f : X → Y) (xs : List X) → ((x : X) → P x → Q (f x)) → Every P xs → Every Q (map f xs)
+every_map : {X Y : Type 0} (P : X → Type 0) (Q : Y → Type 0) (f : X → Y) (xs : List X) → ((x : X) → P x → Q (f x))
+    → Every P xs → Every Q (map f xs)
 every_map P Q f [] law h = tt
 every_map P Q f (x ∷ xs) law h = (law x h.0, every_map P Q f xs law h.1)
 
@@ -36,7 +42,8 @@ are_listed : (levels : ℕ) (ns : List Node) → Every (IsNode levels) ns → Is
 are_listed levels [] h = tt
 are_listed levels (n ∷ ns) h = (h.0, are_listed levels ns h.1)
 
-known_are : {X : Type 0} (levels : ℕ) (P : X → Type 0) (f : X → Node) (o : Option X) → ((x : X) → P x → IsNode levels (f x)) → IfSome o P
+known_are : {X : Type 0} (levels : ℕ) (P : X → Type 0) (f : X → Node) (o : Option X)
+    → ((x : X) → P x → IsNode levels (f x)) → IfSome o P
     → Every (IsNode levels) (known f o)
 known_are levels P f None law h = tt
 known_are levels P f (Some x) law h = (law x h, tt)
@@ -47,7 +54,8 @@ known_are levels P f (Some x) law h = (law x h, tt)
 short_small : (units : ℤ) (places : ℕ) → places ≤ 12 → IsShort units places → unsigned_abs units < 2 ^ 128
 short_small units places l h =
     let above : 0 < 10 ^ places = let one = one-le-pow places 10 (omega arith) in omega (arith, one) in
-    let below : unsigned_abs units < 10 ^ 18 * 10 ^ places = (div-lt_iff_lt-mul {k = 10 ^ places} {x = unsigned_abs units} {y = 10 ^ 18} above).0 h in
+    let below : unsigned_abs units < 10 ^ 18 * 10 ^ places =
+    (div-lt_iff_lt-mul {k = 10 ^ places} {x = unsigned_abs units} {y = 10 ^ 18} above).0 h in
     let most : 10 ^ places ≤ 10 ^ 12 = pow-le-pow_right {n = 10} (omega arith) {i = places} {j = 12} l in
     omega (arith, below, most)
 
@@ -63,7 +71,11 @@ exchange_is l x h = (
     (
       (refl, day_plain x.adjusted h.adjusted),
       (
-        (refl, dec_plain x.amount.units x.amount.places (short_small x.amount.units x.amount.places h.amount.0 h.amount.1)),
+        (
+          refl,
+          dec_plain x.amount.units x.amount.places
+              (short_small x.amount.units x.amount.places h.amount.0 h.amount.1),
+        ),
         tt,
       ),
     ),
@@ -112,7 +124,8 @@ observation_is l r h = (
     (
       (refl, day_plain r.fixing h.fixing),
       are_listed (suc l) (known (rate_node (codes "observedRate")) r.observed)
-          (known_are (suc l) IsShortRate (rate_node (codes "observedRate")) r.observed (rate_is l (codes "observedRate") observed_named) h.observed),
+          (known_are (suc l) IsShortRate (rate_node (codes "observedRate")) r.observed
+          (rate_is l (codes "observedRate") observed_named) h.observed),
     ),
   ),
 )
@@ -122,21 +135,26 @@ filled_end : (ns : List Node) (n : Node) → IsFilled (listed (ns ++ n ∷ []))
 filled_end [] n = tt
 filled_end (m ∷ ns) n = tt
 
-definition_is : (l : ℕ) (x : CalculationPeriod) (r : Reset) → IfSome x.rate IsShortRate → IsResetShort r → IsNode (suc (suc (suc l))) (definition_node x r)
+definition_is : (l : ℕ) (x : CalculationPeriod) (r : Reset) → IfSome x.rate IsShortRate → IsResetShort r
+    → IsNode (suc (suc (suc l))) (definition_node x r)
 unfolding definition_node is_letter
 definition_is l x r h k =
     let front = known (rate_node (codes "calculatedRate")) x.rate in (
       refl,
       filled_end front (observation_node r),
-      are_listed (suc (suc l)) (front ++ observation_node r ∷ []) (every_append (IsNode (suc (suc l))) front (observation_node r ∷ [])
-          (known_are (suc (suc l)) IsShortRate (rate_node (codes "calculatedRate")) x.rate (rate_is (suc l) (codes "calculatedRate") calculated_named) h)
+      are_listed (suc (suc l)) (front ++ observation_node r ∷ [])
+          (every_append (IsNode (suc (suc l))) front (observation_node r ∷ [])
+          (known_are (suc (suc l)) IsShortRate (rate_node (codes "calculatedRate")) x.rate
+          (rate_is (suc l) (codes "calculatedRate") calculated_named) h)
           (observation_is l r k, tt)),
     )
 
-rate_of_is : (l : ℕ) (x : CalculationPeriod) (reset : Option Reset) → IfSome x.rate IsShortRate → IfSome reset IsResetShort
+rate_of_is : (l : ℕ) (x : CalculationPeriod) (reset : Option Reset) → IfSome x.rate IsShortRate
+    → IfSome reset IsResetShort
     → Every (IsNode (suc (suc (suc l)))) (rate_of x reset)
 rate_of_is l x None h k =
-    known_are (suc (suc (suc l))) IsShortRate (rate_node (codes "fixedRate")) x.rate (rate_is (suc (suc l)) (codes "fixedRate") fixed_named) h
+    known_are (suc (suc (suc l))) IsShortRate (rate_node (codes "fixedRate")) x.rate
+    (rate_is (suc (suc l)) (codes "fixedRate") fixed_named) h
 rate_of_is l x (Some r) h k = (definition_is l x r h k, tt)
 
 -- a number of days is small
@@ -163,8 +181,15 @@ period_is l x reset h k =
                 (
                   (refl, dec_plain x.notional 4 (short_small x.notional 4 (omega arith) h.notional)),
                   are_listed (suc (suc (suc l))) (rate_of x reset ++ fraction ∷ [])
-                      (every_append (IsNode (suc (suc (suc l)))) (rate_of x reset) (fraction ∷ []) (rate_of_is l x reset h.rate k)
-                      ((refl, dec_plain (stated_fraction x.frac).units 10 (short_small (stated_fraction x.frac).units 10 (omega arith) h.short)), tt)),
+                      (every_append (IsNode (suc (suc (suc l)))) (rate_of x reset) (fraction ∷ [])
+                      (rate_of_is l x reset h.rate k) (
+                        (
+                          refl,
+                          dec_plain (stated_fraction x.frac).units 10
+                              (short_small (stated_fraction x.frac).units 10 (omega arith) h.short),
+                        ),
+                        tt,
+                      )),
                 ),
               ),
             ),
@@ -173,12 +198,14 @@ period_is l x reset h k =
       ),
     )
 
-listed_is : (l : ℕ) (reset : Option Reset) (o : Option CalculationPeriod) → IfSome reset IsResetShort → IfSome o IsPeriodShort
+listed_is : (l : ℕ) (reset : Option Reset) (o : Option CalculationPeriod) → IfSome reset IsResetShort
+    → IfSome o IsPeriodShort
     → Every (IsNode (suc (suc (suc (suc l))))) (listed_period reset o)
 listed_is l reset None k h = tt
 listed_is l reset (Some x) k h = (period_is l x reset h k, tt)
 
-periods_are : (l : ℕ) (p : Part) (j n : ℕ) → IsPartShort p → Every (IsNode (suc (suc (suc (suc l))))) (period_nodes p j n)
+periods_are : (l : ℕ) (p : Part) (j n : ℕ) → IsPartShort p
+    → Every (IsNode (suc (suc (suc (suc l))))) (period_nodes p j n)
 periods_are l p j zero h = tt
 periods_are l p j (suc n) h =
     every_append (IsNode (suc (suc (suc (suc l))))) (period_nodes p j n) (one_period p (j + n)) (periods_are l p j n h)
@@ -199,8 +226,10 @@ payment_is l p h y k =
         (refl, day_plain y.unadjusted k.unadjusted),
         (
           (refl, day_plain y.adjusted k.adjusted),
-          are_listed levels (period_nodes p j n ++ forecast_node p.currency y ∷ []) (every_append (IsNode levels) (period_nodes p j n)
-              (forecast_node p.currency y ∷ []) (periods_are l p j n h) (forecast_is (suc (suc l)) p.currency y h.bounds.currency k.amount, tt)),
+          are_listed levels (period_nodes p j n ++ forecast_node p.currency y ∷ [])
+              (every_append (IsNode levels) (period_nodes p j n)
+              (forecast_node p.currency y ∷ []) (periods_are l p j n h)
+              (forecast_is (suc (suc l)) p.currency y h.bounds.currency k.amount, tt)),
         ),
       ),
     )
@@ -217,9 +246,11 @@ cashflows_is l p h =
       tt,
       (
         (refl, true_plain),
-        are_listed levels (map exchange_node p.exchanges ++ map (payment_node p) p.payments) (every_append (IsNode levels) (map exchange_node p.exchanges)
+        are_listed levels (map exchange_node p.exchanges ++ map (payment_node p) p.payments)
+            (every_append (IsNode levels) (map exchange_node p.exchanges)
             (map (payment_node p) p.payments)
-            (every_map IsExchangeShort (IsNode levels) exchange_node p.exchanges (exchange_is (suc (suc (suc l)))) h.exchanges)
+            (every_map IsExchangeShort (IsNode levels) exchange_node p.exchanges (exchange_is (suc (suc (suc l))))
+            h.exchanges)
             (every_map (IsPaymentShort p) (IsNode levels) (payment_node p) p.payments (payment_is l p h) h.payments)),
       ),
     )
@@ -241,5 +272,6 @@ pub root_is : (s : List Part) → IsWithin s → IsRoot (codes "swap") (stream_n
 root_is s h = record {
   named = swap_named;
   filled = streams_filled s h.some;
-  nested = are_listed 62 (map stream_node s) (every_map IsPartShort (IsNode 62) stream_node s (stream_is 55) (parts_short s h.each));
+  nested = are_listed 62 (map stream_node s)
+      (every_map IsPartShort (IsNode 62) stream_node s (stream_is 55) (parts_short s h.each));
 }

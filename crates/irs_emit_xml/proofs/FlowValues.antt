@@ -1,5 +1,6 @@
 -- The elements of a schedule mean the value that is emitted as JSON, as XML carries it.
-use Rattle.std.proofs.Common.{◌≡◌, ℕ, zero, suc, ◌+◌, ◌-◌, ◌<◌, List, [], ◌∷◌, ◌++◌, length, map, Option, Some, None, option_map, ℤ, codes, inl, inr, refl, sym, ap, subst, ◌∙◌, arith}
+use Rattle.std.proofs.Common.{◌≡◌, ℕ, zero, suc, ◌+◌, ◌-◌, ◌<◌, List, [], ◌∷◌, ◌++◌, length, map, Option, Some, None}
+use Rattle.std.proofs.Common.{option_map, ℤ, codes, inl, inr, refl, sym, ap, subst, ◌∙◌, arith}
 use Rattle.std.proofs.lemmas.List.{map-append}
 use Rattle.std.proofs.lemmas.Option.{slice_get_cases}
 use Rattle.std.specs.Prelude.{slice_get}
@@ -13,8 +14,10 @@ use Rattle.irs_schedule.specs.Parts.{Part, Covers, IsWithin}
 use Rattle.irs_schedule.specs.PeriodViews.{period_at, dated_period}
 use Rattle.irs_schedule.specs.declared.entries.PaymentEntry.{PaymentEntry}
 use Rattle.irs_schedule.specs.declared.views.CalculationPeriod.{CalculationPeriod}
-use Rattle.irs_emit.specs.Emitted.{array_of, cashflows_value, definition_value, emit_value, exchange_value, fixed_value, floating_value}
-use Rattle.irs_emit.specs.Emitted.{forecast_value, known_exchanges, listed_period as listed_value, observation_value, one_period as one_value}
+use Rattle.irs_emit.specs.Emitted.{array_of, cashflows_value, definition_value, emit_value, exchange_value, fixed_value}
+use Rattle.irs_emit.specs.Emitted.{floating_value}
+use Rattle.irs_emit.specs.Emitted.{forecast_value, known_exchanges, listed_period as listed_value, observation_value}
+use Rattle.irs_emit.specs.Emitted.{one_period as one_value}
 use Rattle.irs_emit.specs.Emitted.{payment_value, period_members, period_value, period_values, put_known, stream_value}
 use Rattle.irs_emit.specs.PartLaws.{IsPartShort}
 use Rattle.irs_emit.specs.RowLaws.{IsPaymentShort}
@@ -25,7 +28,10 @@ use Rattle.serde_json.specs.Data.{Data, string, object, Members, no_members, mem
 use Rattle.serde_json.specs.View.{items_of}
 use Rattle.irs_emit_xml.specs.Trees.{Node, leaf, node_name, node_value, children_of, written_value}
 use Rattle.irs_emit_xml.specs.Ones.{alone, ones}
-use Rattle.irs_emit_xml.specs.Flows.{element, listed, known, amount_node, rate_node, currency_node, exchange_node, forecast_node, observation_node, definition_node, rate_of, period_front, period_node, listed_period, one_period, period_nodes, payment_node, cashflows_node, stream_node, stream_nodes, day_node, fraction_node}
+use Rattle.irs_emit_xml.specs.Flows.{element, listed, known, amount_node, rate_node, currency_node, exchange_node}
+use Rattle.irs_emit_xml.specs.Flows.{forecast_node, observation_node, definition_node, rate_of, period_front}
+use Rattle.irs_emit_xml.specs.Flows.{period_node, listed_period, one_period, period_nodes, payment_node, cashflows_node}
+use Rattle.irs_emit_xml.specs.Flows.{stream_node, stream_nodes, day_node, fraction_node}
 use Rattle.irs_emit.proofs.PlainTexts.{code_kept}
 use Rattle.irs_emit_xml.proofs.Joining.{all_named, all_children, children_append, Begins, begins_append, ones_listed}
 
@@ -60,7 +66,8 @@ children_map : {X : Type 0} (P : X → Type 0) (f : X → Node) (v : X → Data)
     → map child_of (map f xs) ≡ all_named name (map ones (map v xs))
 children_map P f v name [] law h = refl
 children_map P f v name (x ∷ xs) law h =
-    ap (λ c. c ∷ map child_of (map f xs)) (law x h.0) ∙ ap (λ cs. (name, ones (v x)) ∷ cs) (children_map P f v name xs law h.1)
+    ap (λ c. c ∷ map child_of (map f xs)) (law x h.0)
+    ∙ ap (λ cs. (name, ones (v x)) ∷ cs) (children_map P f v name xs law h.1)
 
 -- ---- exchanges
 
@@ -71,8 +78,10 @@ exchange_ones x = refl
 -- ---- the amount of a payment
 
 forecast_by : (currency : Currency) (o : Option Dec)
-    → members_by (child_of (currency_node (codes "currency") currency) ∷ map child_of (known (amount_node (codes "amount")) o))
-    ≡ ones (object (put_known (codes "amount") (option_map amount_leaf o) (put (codes "currency") (string currency.letters) no_members)))
+    → members_by (child_of (currency_node (codes "currency") currency)
+    ∷ map child_of (known (amount_node (codes "amount")) o))
+    ≡ ones (object (put_known (codes "amount") (option_map amount_leaf o)
+    (put (codes "currency") (string currency.letters) no_members)))
 forecast_by currency None = refl
 forecast_by currency (Some v) = refl
 
@@ -81,15 +90,19 @@ forecast_ones : (currency : Currency) (y : PaymentEntry) → text_of currency.le
 unfolding forecast_node forecast_value
 forecast_ones currency y h =
     ap (λ d. (codes "forecastPaymentAmount", d)) (
-    element_value (codes "forecastPaymentAmount") (currency_node (codes "currency") currency ∷ known (amount_node (codes "amount")) y.amount)
+    element_value (codes "forecastPaymentAmount") (currency_node (codes "currency") currency
+    ∷ known (amount_node (codes "amount")) y.amount)
     ∙ forecast_by currency y.amount
-    ∙ ap (λ t. ones (object (put_known (codes "amount") (option_map amount_leaf y.amount) (put (codes "currency") (string t) no_members)))) (sym h))
+    ∙ ap (λ t. ones (object (put_known (codes "amount") (option_map amount_leaf y.amount)
+    (put (codes "currency") (string t) no_members)))) (sym h))
 
 -- ---- resets
 
 observation_by : (a b : List ℕ) (o : Option ℤ)
-    → members_by ((codes "resetDate", string a) ∷ (codes "adjustedFixingDate", string b) ∷ map child_of (known (rate_node (codes "observedRate")) o))
-    ≡ ones (object (put_known (codes "observedRate") (option_map rate_leaf o) (put (codes "adjustedFixingDate") (string b) (put (codes "resetDate") (string a) no_members))))
+    → members_by ((codes "resetDate", string a) ∷ (codes "adjustedFixingDate", string b)
+    ∷ map child_of (known (rate_node (codes "observedRate")) o))
+    ≡ ones (object (put_known (codes "observedRate") (option_map rate_leaf o)
+    (put (codes "adjustedFixingDate") (string b) (put (codes "resetDate") (string a) no_members))))
 observation_by a b None = refl
 observation_by a b (Some r) = refl
 
@@ -98,22 +111,26 @@ unfolding observation_node observation_value
 observation_ones r =
     ap (λ d. (codes "rateObservation", d)) (
     element_value (codes "rateObservation")
-    (day_node (codes "resetDate") r.reset ∷ day_node (codes "adjustedFixingDate") r.fixing ∷ known (rate_node (codes "observedRate")) r.observed)
+    (day_node (codes "resetDate") r.reset ∷ day_node (codes "adjustedFixingDate") r.fixing
+    ∷ known (rate_node (codes "observedRate")) r.observed)
     ∙ observation_by (day_text r.reset) (day_text r.fixing) r.observed)
 
 definition_by : (v : Data) (o : Option ℤ)
     → members_by (map child_of (known (rate_node (codes "calculatedRate")) o) ++ (codes "rateObservation", ones v) ∷ [])
-    ≡ ones (object (put_known (codes "calculatedRate") (option_map rate_leaf o) (put (codes "rateObservation") v no_members)))
+    ≡ ones (object (put_known (codes "calculatedRate") (option_map rate_leaf o)
+    (put (codes "rateObservation") v no_members)))
 definition_by v None = refl
 definition_by v (Some r) = refl
 
-definition_ones : (x : CalculationPeriod) (r : Reset) → child_of (definition_node x r) ≡ (codes "floatingRateDefinition", ones (definition_value x r))
+definition_ones : (x : CalculationPeriod) (r : Reset)
+    → child_of (definition_node x r) ≡ (codes "floatingRateDefinition", ones (definition_value x r))
 unfolding definition_node definition_value
 definition_ones x r =
     let front = known (rate_node (codes "calculatedRate")) x.rate in
     ap (λ d. (codes "floatingRateDefinition", d)) (
     element_value (codes "floatingRateDefinition") (front ++ observation_node r ∷ [])
-    ∙ ap members_by (map-append child_of front (observation_node r ∷ []) ∙ ap (λ c. map child_of front ++ c ∷ []) (observation_ones r))
+    ∙ ap members_by (map-append child_of front (observation_node r ∷ [])
+    ∙ ap (λ c. map child_of front ++ c ∷ []) (observation_ones r))
     ∙ definition_by (observation_value r) x.rate)
 
 -- ---- calculation periods
@@ -123,14 +140,16 @@ abbrev period_end : CalculationPeriod → Node
 period_end x = fraction_node (codes "dayCountYearFraction") x.frac
 
 fixed_by : (x : CalculationPeriod) (o : Option ℤ)
-    → members_by (map child_of (period_front x) ++ (map child_of (known (rate_node (codes "fixedRate")) o) ++ child_of (period_end x) ∷ []))
+    → members_by (map child_of (period_front x)
+    ++ (map child_of (known (rate_node (codes "fixedRate")) o) ++ child_of (period_end x) ∷ []))
     ≡ ones (object (put_known (codes "fixedRate") (option_map rate_leaf o) (period_members x)))
 unfolding period_members
 fixed_by x None = refl
 fixed_by x (Some r) = refl
 
 floating_by : (x : CalculationPeriod) (v : Data)
-    → members_by (map child_of (period_front x) ++ ((codes "floatingRateDefinition", ones v) ∷ child_of (period_end x) ∷ []))
+    → members_by (map child_of (period_front x)
+    ++ ((codes "floatingRateDefinition", ones v) ∷ child_of (period_end x) ∷ []))
     ≡ ones (object (put (codes "floatingRateDefinition") v (period_members x)))
 unfolding period_members
 floating_by x v = refl
@@ -139,13 +158,15 @@ rate_children : (x : CalculationPeriod) (reset : Option Reset)
     → members_by (map child_of (period_front x ++ (rate_of x reset ++ period_end x ∷ []))) ≡ ones (period_value x reset)
 unfolding fixed_value floating_value
 rate_children x None =
-    ap (λ cs. members_by (map child_of (period_front x) ++ cs)) (map-append child_of (known (rate_node (codes "fixedRate")) x.rate) (period_end x ∷ []))
+    ap (λ cs. members_by (map child_of (period_front x) ++ cs))
+    (map-append child_of (known (rate_node (codes "fixedRate")) x.rate) (period_end x ∷ []))
     ∙ fixed_by x x.rate
 rate_children x (Some r) =
     ap (λ c. members_by (map child_of (period_front x) ++ (c ∷ child_of (period_end x) ∷ []))) (definition_ones x r)
     ∙ floating_by x (definition_value x r)
 
-period_ones : (x : CalculationPeriod) (reset : Option Reset) → child_of (period_node x reset) ≡ (codes "calculationPeriod", ones (period_value x reset))
+period_ones : (x : CalculationPeriod) (reset : Option Reset)
+    → child_of (period_node x reset) ≡ (codes "calculationPeriod", ones (period_value x reset))
 unfolding period_node
 period_ones x reset =
     ap (λ d. (codes "calculationPeriod", d)) (
@@ -161,25 +182,29 @@ listed_ones reset (Some x) = ap (λ c. c ∷ []) (period_ones x reset)
 abbrev periods_ones_of : Part → ℕ → ℕ → List Data
 periods_ones_of p j n = map ones (period_values p j n)
 
-periods_ones : (p : Part) (j n : ℕ) → map child_of (period_nodes p j n) ≡ all_named (codes "calculationPeriod") (periods_ones_of p j n)
+periods_ones : (p : Part) (j n : ℕ)
+    → map child_of (period_nodes p j n) ≡ all_named (codes "calculationPeriod") (periods_ones_of p j n)
 periods_ones p j zero = refl
 periods_ones p j (suc n) =
     let name : List ℕ = codes "calculationPeriod" in
     map-append child_of (period_nodes p j n) (one_period p (j + n))
     ∙ ap (λ cs. cs ++ map child_of (one_period p (j + n))) (periods_ones p j n)
-    ∙ ap (λ cs. all_named name (periods_ones_of p j n) ++ cs) (listed_ones (slice_get p.resets (j + n)) (period_at p (j + n)))
+    ∙ ap (λ cs. all_named name (periods_ones_of p j n) ++ cs)
+    (listed_ones (slice_get p.resets (j + n)) (period_at p (j + n)))
     ∙ sym (map-append (λ (d : Data). (name, d)) (periods_ones_of p j n) (map ones (one_value p (j + n))))
     ∙ ap (all_named name) (sym (map-append ones (period_values p j n) (one_value p (j + n))))
 
 -- ---- payments
 
-period_begins : (reset : Option Reset) (x : CalculationPeriod) (o : Option CalculationPeriod) → o ≡ Some x → Begins (map ones (listed_value reset o))
+period_begins : (reset : Option Reset) (x : CalculationPeriod) (o : Option CalculationPeriod) → o ≡ Some x
+    → Begins (map ones (listed_value reset o))
 unfolding fixed_value floating_value
 period_begins reset x None e = absurd (cc e)
 period_begins None x (Some y) e = tt
 period_begins (Some r) x (Some y) e = tt
 
-periods_begin : (p : Part) (j n : ℕ) (x : CalculationPeriod) → period_at p (j + 0) ≡ Some x → Begins (periods_ones_of p j (suc n))
+periods_begin : (p : Part) (j n : ℕ) (x : CalculationPeriod) → period_at p (j + 0) ≡ Some x
+    → Begins (periods_ones_of p j (suc n))
 periods_begin p j zero x e = period_begins (slice_get p.resets (j + 0)) x (period_at p (j + 0)) e
 periods_begin p j (suc n) x e =
     subst Begins (sym (map-append ones (period_values p j (suc n)) (one_value p (j + suc n))))
@@ -197,11 +222,13 @@ pub paid_begin : (p : Part) (y : PaymentEntry) → IsPaymentShort p y
     → Begins (periods_ones_of p (y.first_period - 1) (y.last_period + 1 - y.first_period))
 paid_begin p y h =
     let first = h.first in let order = h.order in let last = h.last in
-    let count : y.last_period + 1 - y.first_period ≡ suc (y.last_period - y.first_period) = omega (arith, first, order) in
+    let count : y.last_period + 1 - y.first_period ≡ suc (y.last_period - y.first_period) =
+    omega (arith, first, order) in
     let place : y.first_period - 1 ≡ y.first_period - 1 + 0 = omega arith in
     let there = period_there p (y.first_period - 1) (omega (arith, first, order, last)) in
     subst (λ n. Begins (periods_ones_of p (y.first_period - 1) n)) (sym count)
-    (periods_begin p (y.first_period - 1) (y.last_period - y.first_period) there.0 (ap (period_at p) (sym place) ∙ there.1))
+    (periods_begin p (y.first_period - 1) (y.last_period - y.first_period) there.0 (ap (period_at p) (sym place)
+    ∙ there.1))
 
 payment_by : (u a : List ℕ) (ds : List Data) (f : Data) → Begins ds
     → members_by ((codes "unadjustedPaymentDate", string u) ∷ (codes "adjustedPaymentDate", string a)
@@ -209,7 +236,8 @@ payment_by : (u a : List ℕ) (ds : List Data) (f : Data) → Begins ds
     ≡ object (member (codes "adjustedPaymentDate") (string a) (member (codes "calculationPeriod") (alone (items_of ds))
     (member (codes "forecastPaymentAmount") f (member (codes "unadjustedPaymentDate") (string u) no_members))))
 payment_by u a ds f b =
-    let ms : Members = member (codes "adjustedPaymentDate") (string a) (member (codes "unadjustedPaymentDate") (string u) no_members) in
+    let ms : Members = member (codes "adjustedPaymentDate") (string a)
+    (member (codes "unadjustedPaymentDate") (string u) no_members) in
     let last : List Child = (codes "forecastPaymentAmount", f) ∷ [] in
     ap object (children_append (all_named (codes "calculationPeriod") ds) last ms
     ∙ ap (with_children last) (all_children (codes "calculationPeriod") ds ms b refl))
@@ -225,12 +253,16 @@ payment_ones p h y short =
     let ds = periods_ones_of p j n in
     ap (λ d. (codes "paymentCalculationPeriod", d)) (
     element_value (codes "paymentCalculationPeriod") (u ∷ a ∷ (period_nodes p j n ++ forecast_node p.currency y ∷ []))
-    ∙ ap (λ cs. members_by (child_of u ∷ child_of a ∷ cs)) (map-append child_of (period_nodes p j n) (forecast_node p.currency y ∷ [])
+    ∙ ap (λ cs. members_by (child_of u ∷ child_of a ∷ cs))
+    (map-append child_of (period_nodes p j n) (forecast_node p.currency y ∷ [])
     ∙ ap (λ cs. cs ++ child_of (forecast_node p.currency y) ∷ []) (periods_ones p j n)
     ∙ ap (λ c. all_named (codes "calculationPeriod") ds ++ c ∷ []) (forecast_ones p.currency y h))
-    ∙ payment_by (day_text y.unadjusted) (day_text y.adjusted) ds (ones (forecast_value p.currency y)) (paid_begin p y short)
-    ∙ ap (λ d. object (member (codes "adjustedPaymentDate") (string (day_text y.adjusted)) (member (codes "calculationPeriod") d
-    (member (codes "forecastPaymentAmount") (ones (forecast_value p.currency y)) (member (codes "unadjustedPaymentDate") (string (day_text y.unadjusted)) no_members)))))
+    ∙ payment_by (day_text y.unadjusted) (day_text y.adjusted) ds (ones (forecast_value p.currency y))
+    (paid_begin p y short)
+    ∙ ap (λ d. object (member (codes "adjustedPaymentDate") (string (day_text y.adjusted))
+    (member (codes "calculationPeriod") d
+    (member (codes "forecastPaymentAmount") (ones (forecast_value p.currency y))
+    (member (codes "unadjustedPaymentDate") (string (day_text y.unadjusted)) no_members)))))
     (sym (ones_array (period_values p j n))))
 
 -- ---- streams
@@ -241,20 +273,27 @@ matches = (codes "cashflowsMatchParameters", string (codes "true"))
 
 cash_alone : (ps : List Data) → Begins ps
     → members_by (matches ∷ all_named (codes "paymentCalculationPeriod") ps)
-    ≡ object (member (codes "cashflowsMatchParameters") (string (codes "true")) (member (codes "paymentCalculationPeriod") (alone (items_of ps)) no_members))
+    ≡ object (member (codes "cashflowsMatchParameters") (string (codes "true"))
+    (member (codes "paymentCalculationPeriod") (alone (items_of ps)) no_members))
 cash_alone ps b =
     let ms : Members = member (codes "cashflowsMatchParameters") (string (codes "true")) no_members in
     ap object (all_children (codes "paymentCalculationPeriod") ps ms b refl)
 
 cash_exchanged : (es ps : List Data) → Begins es → Begins ps
-    → members_by (matches ∷ (all_named (codes "principalExchange") es ++ all_named (codes "paymentCalculationPeriod") ps))
-    ≡ object (member (codes "cashflowsMatchParameters") (string (codes "true")) (member (codes "paymentCalculationPeriod") (alone (items_of ps))
+    → members_by (matches ∷ (all_named (codes "principalExchange") es
+    ++ all_named (codes "paymentCalculationPeriod") ps))
+    ≡ object (member (codes "cashflowsMatchParameters") (string (codes "true"))
+    (member (codes "paymentCalculationPeriod") (alone (items_of ps))
     (member (codes "principalExchange") (alone (items_of es)) no_members)))
 cash_exchanged es ps a b =
     let ms : Members = member (codes "cashflowsMatchParameters") (string (codes "true")) no_members in
-    let with_exchanges : Members = member (codes "cashflowsMatchParameters") (string (codes "true")) (member (codes "principalExchange") (alone (items_of es)) no_members) in
-    ap object (children_append (all_named (codes "principalExchange") es) (all_named (codes "paymentCalculationPeriod") ps) ms
-    ∙ ap (with_children (all_named (codes "paymentCalculationPeriod") ps)) (all_children (codes "principalExchange") es ms a refl)
+    let with_exchanges : Members =
+    member (codes "cashflowsMatchParameters") (string (codes "true"))
+    (member (codes "principalExchange") (alone (items_of es)) no_members) in
+    ap object (children_append (all_named (codes "principalExchange") es)
+    (all_named (codes "paymentCalculationPeriod") ps) ms
+    ∙ ap (with_children (all_named (codes "paymentCalculationPeriod") ps))
+    (all_children (codes "principalExchange") es ms a refl)
     ∙ all_children (codes "paymentCalculationPeriod") ps with_exchanges b refl)
 
 every_any : {X : Type 0} (xs : List X) → Every (λ (x : X). Unit {0}) xs
@@ -266,30 +305,38 @@ unfolding exchange_value
 exchanges_begin x xs = tt
 
 cash_ones : (xs : List Exchange) (pv : List Data) → Begins (map ones pv)
-    → members_by (matches ∷ (map child_of (map exchange_node xs) ++ all_named (codes "paymentCalculationPeriod") (map ones pv)))
-    ≡ ones (object (put_known (codes "principalExchange") (known_exchanges xs) (put (codes "cashflowsMatchParameters") (string (codes "true"))
+    → members_by (matches ∷ (map child_of (map exchange_node xs)
+    ++ all_named (codes "paymentCalculationPeriod") (map ones pv)))
+    ≡ ones (object (put_known (codes "principalExchange") (known_exchanges xs)
+    (put (codes "cashflowsMatchParameters") (string (codes "true"))
     (put (codes "paymentCalculationPeriod") (array_of pv) no_members))))
 cash_ones [] pv b =
     cash_alone (map ones pv) b
-    ∙ ap (λ d. object (member (codes "cashflowsMatchParameters") (string (codes "true")) (member (codes "paymentCalculationPeriod") d no_members)))
+    ∙ ap (λ d. object (member (codes "cashflowsMatchParameters") (string (codes "true"))
+    (member (codes "paymentCalculationPeriod") d no_members)))
     (sym (ones_array pv))
 cash_ones (x ∷ xs) pv b =
     let ev = map exchange_value (x ∷ xs) in
     ap (λ cs. members_by (matches ∷ (cs ++ all_named (codes "paymentCalculationPeriod") (map ones pv))))
-    (children_map (λ (e : Exchange). Unit {0}) exchange_node exchange_value (codes "principalExchange") (x ∷ xs) (λ e t. exchange_ones e) (every_any (x ∷ xs)))
+    (children_map (λ (e : Exchange). Unit {0}) exchange_node exchange_value (codes "principalExchange") (x ∷ xs)
+    (λ e t. exchange_ones e) (every_any (x ∷ xs)))
     ∙ cash_exchanged (map ones ev) (map ones pv) (exchanges_begin x xs) b
-    ∙ ap (λ d. object (member (codes "cashflowsMatchParameters") (string (codes "true")) (member (codes "paymentCalculationPeriod") d
+    ∙ ap (λ d. object (member (codes "cashflowsMatchParameters") (string (codes "true"))
+    (member (codes "paymentCalculationPeriod") d
     (member (codes "principalExchange") (alone (items_of (map ones ev))) no_members)))) (sym (ones_array pv))
-    ∙ ap (λ d. object (member (codes "cashflowsMatchParameters") (string (codes "true")) (member (codes "paymentCalculationPeriod") (ones (array_of pv))
+    ∙ ap (λ d. object (member (codes "cashflowsMatchParameters") (string (codes "true"))
+    (member (codes "paymentCalculationPeriod") (ones (array_of pv))
     (member (codes "principalExchange") d no_members)))) (sym (ones_array ev))
 
-payments_begin_by : (p : Part) (ys : List PaymentEntry) (n : ℕ) → Covers 1 ys n → 0 < n → Begins (map ones (map (payment_value p) ys))
+payments_begin_by : (p : Part) (ys : List PaymentEntry) (n : ℕ) → Covers 1 ys n → 0 < n
+    → Begins (map ones (map (payment_value p) ys))
 unfolding payment_value
 payments_begin_by p [] n c l = absurd (omega (arith, c, l))
 payments_begin_by p (y ∷ ys) n c l = tt
 
 -- what a stream is known by
-cashflows_ones : (p : Part) → IsPartShort p → child_of (cashflows_node p) ≡ (codes "cashflows", ones (cashflows_value p))
+cashflows_ones : (p : Part) → IsPartShort p
+    → child_of (cashflows_node p) ≡ (codes "cashflows", ones (cashflows_value p))
 unfolding cashflows_node cashflows_value
 cashflows_ones p h =
     let match_node = leaf (codes "cashflowsMatchParameters") (codes "true") in
@@ -299,7 +346,8 @@ cashflows_ones p h =
     ap (λ d. (codes "cashflows", d)) (
     element_value (codes "cashflows") (match_node ∷ (xs ++ ys))
     ∙ ap (λ cs. members_by (matches ∷ cs)) (map-append child_of xs ys
-    ∙ ap (λ cs. map child_of xs ++ cs) (children_map (IsPaymentShort p) (payment_node p) (payment_value p) (codes "paymentCalculationPeriod")
+    ∙ ap (λ cs. map child_of xs ++ cs)
+    (children_map (IsPaymentShort p) (payment_node p) (payment_value p) (codes "paymentCalculationPeriod")
     p.payments (payment_ones p (code_kept p.currency h.bounds.currency)) h.payments))
     ∙ cash_ones p.exchanges pv (payments_begin_by p p.payments (length p.periods) h.bounds.covers h.bounds.some))
 
@@ -320,4 +368,5 @@ value_is s h =
     ap (λ cs. with_children cs no_members) (children_listed (map stream_node s)
     ∙ children_map IsPartShort stream_node stream_value (codes "swapStream") s stream_ones (parts_short s h.each))
     ∙ all_children (codes "swapStream") (map ones vs) no_members (streams_begin s h.some) refl)
-    ∙ ap (λ d. object (member (codes "swap") (object (member (codes "swapStream") d no_members)) no_members)) (sym (ones_array vs))
+    ∙ ap (λ d. object (member (codes "swap") (object (member (codes "swapStream") d no_members)) no_members))
+    (sym (ones_array vs))

@@ -1,12 +1,14 @@
 -- Children of one name are one member, an array where there are several.
-use Rattle.std.proofs.Common.{◌≡◌, ℕ, true, false, cond, List, [], ◌∷◌, ◌++◌, map, Some, None, Ordering, Less, Equal, Greater, nat_cmp, is_eq, refl, sym, ap, ◌∙◌, append_assoc}
+use Rattle.std.proofs.Common.{◌≡◌, ℕ, true, false, cond, List, [], ◌∷◌, ◌++◌, map, Some, None, Ordering, Less, Equal}
+use Rattle.std.proofs.Common.{Greater, nat_cmp, is_eq, refl, sym, ap, ◌∙◌, append_assoc}
 use Rattle.std.proofs.lemmas.List.{append-nil}
 use Rattle.std.proofs.lemmas.Map.Text.{is_eq-slice_cmp}
 use Rattle.std.proofs.lemmas.Slice.Eq.{bytes_eq-Decides}
 use Rattle.std.specs.Cmp.Lexicographic.{slice_cmp}
 use Rattle.std.specs.Ordering.{match_ordering}
 use Rattle.serde_json.proofs.Views.{get_member-put}
-use Rattle.serde_json.specs.Data.{Data, null, boolean, number, string, array, object, item, Members, no_members, member, put}
+use Rattle.serde_json.specs.Data.{Data, null, boolean, number, string, array, object, item, Members, no_members, member}
+use Rattle.serde_json.specs.Data.{put}
 use Rattle.serde_json.specs.Find.{get_member}
 use Rattle.serde_json.specs.View.{items_of}
 use Rattle.irs_xml.specs.Values.{Child, item_last, joined, without, with_child, with_children}
@@ -15,7 +17,8 @@ use Rattle.irs_emit_xml.specs.Ones.{alone, ones, ones_items}
 -- ---- a member that isn't there yet
 
 -- how a name compares with that of a member: it isn't that name where it isn't found
-absent_first : (k l : List ℕ) (e : Data) (ms : Members) → get_member k (member l e ms) ≡ None → is_eq (slice_cmp nat_cmp k l) ≡ false
+absent_first : (k l : List ℕ) (e : Data) (ms : Members) → get_member k (member l e ms) ≡ None
+    → is_eq (slice_cmp nat_cmp k l) ≡ false
 absent_first k l e ms h = by_order (slice_cmp nat_cmp k l) h
   where
     by_order : (o : Ordering) → match_ordering o (get_member k ms) (Some e) (get_member k ms) ≡ None → is_eq o ≡ false
@@ -26,7 +29,8 @@ absent_first k l e ms h = by_order (slice_cmp nat_cmp k l) h
 absent_later : (k l : List ℕ) (e : Data) (ms : Members) → get_member k (member l e ms) ≡ None → get_member k ms ≡ None
 absent_later k l e ms h = by_order (slice_cmp nat_cmp k l) h
   where
-    by_order : (o : Ordering) → match_ordering o (get_member k ms) (Some e) (get_member k ms) ≡ None → get_member k ms ≡ None
+    by_order : (o : Ordering) → match_ordering o (get_member k ms) (Some e) (get_member k ms) ≡ None
+        → get_member k ms ≡ None
     by_order Less h = h
     by_order Equal h = absurd (cc h)
     by_order Greater h = h
@@ -51,11 +55,14 @@ without_put k d (member l e ms) h =
     by_order (slice_cmp nat_cmp k l) refl (without_put k d ms (absent_later k l e ms h))
   where
     by_order : (o : Ordering) → slice_cmp nat_cmp k l ≡ o → without k (put k d ms) ≡ ms
-        → without k (match_ordering o (member k d (member l e ms)) (member l d ms) (member l e (put k d ms))) ≡ member l e ms
+        → without k (match_ordering o (member k d (member l e ms)) (member l d ms) (member l e (put k d ms)))
+        ≡ member l e ms
     by_order Less is later = removed k d (member l e ms)
-    by_order Equal is later = absurd (let no = absent_first k l e ms h in let yes = ap is_eq is in let both = sym yes ∙ no in cc both)
+    by_order Equal is later = absurd (let no = absent_first k l e ms h in let yes = ap is_eq is in let both =
+        sym yes ∙ no in cc both)
     by_order Greater is later =
-        ap (λ b. cond b (put k d ms) (member l e (without k (put k d ms)))) (absent_first k l e ms h) ∙ ap (member l e) later
+        ap (λ b. cond b (put k d ms) (member l e (without k (put k d ms)))) (absent_first k l e ms h)
+        ∙ ap (member l e) later
 
 -- ---- children of one name
 
@@ -64,9 +71,11 @@ first_child : (k : List ℕ) (d : Data) (ms : Members) → get_member k ms ≡ N
 first_child k d ms h = ap (λ o. put k (joined o d) (without k ms)) h ∙ ap (put k d) (without_absent k ms h)
 
 -- one more child of the name
-next_child : (k : List ℕ) (d e : Data) (ms : Members) → get_member k ms ≡ None → with_child (k, e) (put k d ms) ≡ put k (joined (Some d) e) ms
+next_child : (k : List ℕ) (d e : Data) (ms : Members) → get_member k ms ≡ None
+    → with_child (k, e) (put k d ms) ≡ put k (joined (Some d) e) ms
 next_child k d e ms h =
-    ap (λ o. put k (joined o e) (without k (put k d ms))) (get_member-put k d ms) ∙ ap (put k (joined (Some d) e)) (without_put k d ms h)
+    ap (λ o. put k (joined o e) (without k (put k d ms))) (get_member-put k d ms)
+    ∙ ap (put k (joined (Some d) e)) (without_put k d ms h)
 
 -- the values of children of one name, after the first
 abbrev joins : Data → List Data → Data
@@ -130,7 +139,8 @@ all_children k (object m ∷ ds) ms b h =
     ∙ ap (λ d. put k d ms) (joins_object m ds)
 
 -- children after others
-pub children_append : (cs es : List Child) (ms : Members) → with_children (cs ++ es) ms ≡ with_children es (with_children cs ms)
+pub children_append : (cs es : List Child) (ms : Members)
+    → with_children (cs ++ es) ms ≡ with_children es (with_children cs ms)
 children_append [] es ms = refl
 children_append (c ∷ cs) es ms = children_append cs es (with_child c ms)
 

@@ -1,5 +1,6 @@
 -- The document of a root and elements means their value.
-use Rattle.std.proofs.Common.{◌≡◌, ℕ, zero, suc, Bool, true, false, ◌&&◌, List, [], ◌<◌, ◌∷◌, ◌++◌, Option, Some, refl, ap, ◌∙◌, arith}
+use Rattle.std.proofs.Common.{◌≡◌, ℕ, zero, suc, Bool, true, false, ◌&&◌, List, [], ◌<◌, ◌∷◌, ◌++◌, Option, Some, refl}
+use Rattle.std.proofs.Common.{ap, ◌∙◌, arith}
 use Rattle.std.proofs.lemmas.Bool.Decides.{nat_tests}
 use Rattle.std.proofs.lemmas.List.{append-nil}
 use Rattle.std.proofs.lemmas.Slice.Eq.{bytes_eq-Decides}
@@ -10,12 +11,17 @@ use Rattle.std.specs.Str.{bytes_eq, encode_utf8_all}
 use Rattle.irs_xml.specs.Characters.{is_space, is_white}
 use Rattle.irs_xml.specs.Content.{Element, Content, nothing, character, child}
 use Rattle.irs_xml.specs.Document.{document_value, root_key, root_namespace, rooted, root_value}
-use Rattle.irs_xml.specs.Namespaces.{Scope, Setting, first_scope, opening_of, is_declaration, declared_prefix, is_same, settings_of}
-use Rattle.irs_xml.specs.Values.{Child, is_ours, key_of, named, both, element_data, value_from, with_settings, with_children, element_child, children_in, text_in}
+use Rattle.irs_xml.specs.Namespaces.{Scope, Setting, first_scope, opening_of, is_declaration, declared_prefix, is_same}
+use Rattle.irs_xml.specs.Namespaces.{settings_of}
+use Rattle.irs_xml.specs.Values.{Child, is_ours, key_of, named, both, element_data, value_from, with_settings}
+use Rattle.irs_xml.specs.Values.{with_children, element_child, children_in, text_in}
 use Rattle.serde_json.specs.Data.{Data, string, object, no_members, member}
-use Rattle.irs_emit_xml.specs.Trees.{Node, leaf, branch, Nodes, no_nodes, node, indent, fpml_namespace, is_letter, is_name, is_plain, IsFilled, IsNode, IsNodes, IsRoot, node_name, node_value, children_of, written_value}
+use Rattle.irs_emit_xml.specs.Trees.{Node, leaf, branch, Nodes, no_nodes, node, indent, fpml_namespace, is_letter}
+use Rattle.irs_emit_xml.specs.Trees.{is_name, is_plain, IsFilled, IsNode, IsNodes, IsRoot, node_name, node_value}
+use Rattle.irs_emit_xml.specs.Trees.{children_of, written_value}
 use Rattle.irs_emit_xml.proofs.Rules.{IsHome, home, at_home, home_stays, root_at, both_true}
-use Rattle.irs_emit_xml.proofs.Spelling.{plain_tag, characters, element_of, content_of, namespace_attribute, root_tag, root_of, document_of}
+use Rattle.irs_emit_xml.proofs.Spelling.{plain_tag, characters, element_of, content_of, namespace_attribute, root_tag}
+use Rattle.irs_emit_xml.proofs.Spelling.{root_of, document_of}
 
 -- ---- ASCII
 
@@ -28,7 +34,8 @@ unfolding is_plain
 plain_low c h = grind (arith, nat_tests)
 
 -- characters of a kind that is ASCII are their own UTF-8
-pub encodes_low : (test : ℕ → Bool) (cs : List ℕ) → ((c : ℕ) → test c ≡ true → c < 128) → list_all test cs ≡ true → encode_utf8_all cs ≡ cs
+pub encodes_low : (test : ℕ → Bool) (cs : List ℕ) → ((c : ℕ) → test c ≡ true → c < 128) → list_all test cs ≡ true
+    → encode_utf8_all cs ≡ cs
 encodes_low test [] law h = refl
 encodes_low test (c ∷ cs) law h =
     let b = both_true (test c) (list_all test cs) h in
@@ -44,7 +51,8 @@ text_alone : (cs : List ℕ) → text_in (characters cs nothing) ≡ encode_utf8
 text_alone [] = refl
 text_alone (c ∷ cs) = ap (λ t. encode_utf8 c ++ t) (text_alone cs)
 
-none_alone : (root : List ℕ) (scope : Scope) (cs : List ℕ) (c : Content) → children_in root true scope (characters cs c) ≡ children_in root true scope c
+none_alone : (root : List ℕ) (scope : Scope) (cs : List ℕ) (c : Content)
+    → children_in root true scope (characters cs c) ≡ children_in root true scope c
 none_alone root scope [] c = refl
 none_alone root scope (x ∷ cs) c = none_alone root scope cs c
 
@@ -70,7 +78,8 @@ same_bytes : (a : List ℕ) → bytes_eq a a ≡ true
 same_bytes a = (bytes_eq-Decides a a).1 refl
 
 -- an element without a prefix is one of the root's namespace
-ours_is : (root : List ℕ) (scope : Scope) (name : List ℕ) → IsHome root scope → is_ours root (scope ++ []) (opening_of (plain_tag name)) ≡ true
+ours_is : (root : List ℕ) (scope : Scope) (name : List ℕ) → IsHome root scope
+    → is_ours root (scope ++ []) (opening_of (plain_tag name)) ≡ true
 ours_is root scope name inner =
     ap (λ o. is_same o (Some root)) (home_stays root scope inner) ∙ same_bytes root
 
@@ -82,7 +91,8 @@ ours_child true root local text scope c e = refl
 ours_child false root local text scope c e = absurd (cc e)
 
 -- what an element with a text, and no elements, is
-leaf_data : (name local text is : List ℕ) (children : Option (List Child)) → local ≡ name → text ≡ is → children ≡ Some []
+leaf_data : (name local text is : List ℕ) (children : Option (List Child)) → local ≡ name → text ≡ is
+    → children ≡ Some []
     → named local (element_data true [] text children) ≡ Some (name, string is)
 leaf_data name local text is children e f g =
     ap (λ l. named l (element_data true [] text children)) e ∙ ap (λ t. named name (element_data true [] t children)) f
@@ -90,12 +100,14 @@ leaf_data name local text is children e f g =
 
 -- the value of elements with white space round them
 filled_value : (settings : List Setting) (text : List ℕ) (ns : Nodes) → IsFilled ns → is_white text ≡ true
-    → value_from settings text (children_of ns) ≡ Some (object (with_children (children_of ns) (with_settings settings no_members)))
+    → value_from settings text (children_of ns) ≡ Some
+    (object (with_children (children_of ns) (with_settings settings no_members)))
 filled_value settings text no_nodes filled w = absurd filled
 filled_value settings text (node n ns) filled w = rw w refl
 
 -- what an element with elements is
-branch_data : (name local text : List ℕ) (ns : Nodes) (children : Option (List Child)) → local ≡ name → IsFilled ns → is_white text ≡ true
+branch_data : (name local text : List ℕ) (ns : Nodes) (children : Option (List Child)) → local ≡ name → IsFilled ns
+    → is_white text ≡ true
     → children ≡ Some (children_of ns)
     → named local (element_data true [] text children) ≡ Some (name, object (with_children (children_of ns) no_members))
 branch_data name local text ns children e filled w g =
@@ -117,14 +129,18 @@ mutual
       let c = character 10 (content_of (suc k) ns (characters (indent k) nothing)) in
       ours_child (is_ours root (scope ++ []) (opening_of (plain_tag name))) root (encode_utf8_all name)
       (text_in c) (scope ++ []) c (ours_is root scope name inner)
-      ∙ branch_data name (encode_utf8_all name) (text_in c) ns (children_in root true (scope ++ []) c) (name_kept name h.0) h.1
+      ∙ branch_data name (encode_utf8_all name) (text_in c) ns (children_in root true (scope ++ []) c)
+      (name_kept name h.0) h.1
       (feed_white (content_of (suc k) ns (characters (indent k) nothing))
       ∙ nodes_white (suc k) ns (characters (indent k) nothing) ∙ indent_white k nothing)
       (ap (λ s. children_in root true s c) (append-nil scope)
-      ∙ nodes_children root scope levels (suc k) ns (characters (indent k) nothing) inner h.2 (none_alone root scope (indent k) nothing))
+      ∙ nodes_children root scope levels (suc k) ns (characters (indent k) nothing) inner h.2
+      (none_alone root scope (indent k) nothing))
 
-  nodes_children : (root : List ℕ) (scope : Scope) (levels k : ℕ) (ns : Nodes) (c : Content) → IsHome root scope → IsNodes levels ns
-      → children_in root true scope c ≡ Some [] → children_in root true scope (content_of k ns c) ≡ Some (children_of ns)
+  nodes_children : (root : List ℕ) (scope : Scope) (levels k : ℕ) (ns : Nodes) (c : Content) → IsHome root scope
+      → IsNodes levels ns
+      → children_in root true scope c ≡ Some [] → children_in root true scope (content_of k ns c)
+      ≡ Some (children_of ns)
   nodes_children root scope levels k no_nodes c inner h e = e
   nodes_children root scope levels k (node n ns) c inner h e =
       none_alone root scope (indent k) (child (element_of k n) (character 10 (content_of k ns c)))
@@ -139,13 +155,15 @@ unfolding is_declaration encode_utf8 is_space
 no_setting = refl
 
 -- what the root makes
-root_data : (name local text : List ℕ) (ns : Nodes) (children : Option (List Child)) → local ≡ name → IsFilled ns → is_white text ≡ true
+root_data : (name local text : List ℕ) (ns : Nodes) (children : Option (List Child)) → local ≡ name → IsFilled ns
+    → is_white text ≡ true
     → children ≡ Some (children_of ns)
     → named local (element_data true (settings_of (namespace_attribute ∷ [])) text children)
     ≡ Some (name, object (with_children (children_of ns) no_members))
 root_data name local text ns children e filled w g =
     let settings = settings_of (namespace_attribute ∷ []) in
-    ap (λ l. named l (element_data true settings text children)) e ∙ ap (λ cs. named name (element_data true settings text cs)) g
+    ap (λ l. named l (element_data true settings text children)) e
+    ∙ ap (λ cs. named name (element_data true settings text cs)) g
     ∙ ap (named name) (filled_value settings text ns filled w)
     ∙ ap (λ ms. Some (name, object (with_children (children_of ns) ms))) no_setting
 
@@ -155,31 +173,40 @@ root_ours name = refl
 
 -- what the root makes, as one of its own namespace
 root_child_by : (ours : Bool) (local text : List ℕ) (c : Content) → ours ≡ true
-    → named (key_of ours local) (element_data (true && ours) (settings_of (namespace_attribute ∷ [])) text (children_in fpml_namespace (true && ours) home c))
-    ≡ named local (element_data true (settings_of (namespace_attribute ∷ [])) text (children_in fpml_namespace true home c))
+    → named (key_of ours local) (element_data (true && ours) (settings_of (namespace_attribute ∷ [])) text
+    (children_in fpml_namespace (true && ours) home c))
+    ≡ named local (element_data true (settings_of (namespace_attribute ∷ [])) text
+    (children_in fpml_namespace true home c))
 root_child_by true local text c e = refl
 root_child_by false local text c e = absurd (cc e)
 
 root_child : (name : List ℕ) (ns : Nodes) → IsRoot name ns
-    → element_child fpml_namespace true first_scope (root_of name ns) ≡ Some (name, object (with_children (children_of ns) no_members))
+    → element_child fpml_namespace true first_scope (root_of name ns)
+    ≡ Some (name, object (with_children (children_of ns) no_members))
 unfolding home
 root_child name ns h =
     let c = character 10 (content_of 1 ns nothing) in
-    root_child_by (is_ours fpml_namespace home (opening_of (root_tag name))) (encode_utf8_all name) (text_in c) c (root_ours name)
-    ∙ root_data name (encode_utf8_all name) (text_in c) ns (children_in fpml_namespace true home c) (name_kept name h.named) h.filled
+    root_child_by (is_ours fpml_namespace home (opening_of (root_tag name))) (encode_utf8_all name) (text_in c) c
+    (root_ours name)
+    ∙ root_data name (encode_utf8_all name) (text_in c) ns (children_in fpml_namespace true home c)
+    (name_kept name h.named) h.filled
     (feed_white (content_of 1 ns nothing) ∙ nodes_white 1 ns nothing)
     (nodes_children fpml_namespace home 62 1 ns nothing at_home h.nested refl)
 
 -- a root in its namespace, by what it makes
-rooted_by : (local name : List ℕ) (d : Data) (o : Option (List ℕ)) (e : Element) → local ≡ name → o ≡ Some fpml_namespace
+rooted_by : (local name : List ℕ) (d : Data) (o : Option (List ℕ)) (e : Element) → local ≡ name
+    → o ≡ Some fpml_namespace
     → element_child fpml_namespace true first_scope e ≡ Some (name, d)
     → root_value o local e ≡ Some (object (member (root_key name) d no_members))
 rooted_by local name d o e l n c =
-    ap (λ x. root_value x local e) n ∙ ap (rooted local) c ∙ ap (λ x. Some (object (member (root_key x) d no_members))) l
+    ap (λ x. root_value x local e) n ∙ ap (rooted local) c
+    ∙ ap (λ x. Some (object (member (root_key x) d no_members))) l
 
 -- the document means the value of what is written
-pub document_means : (name : List ℕ) (ns : Nodes) → IsRoot name ns → document_value (document_of name ns) ≡ Some (written_value name ns)
+pub document_means : (name : List ℕ) (ns : Nodes) → IsRoot name ns
+    → document_value (document_of name ns) ≡ Some (written_value name ns)
 unfolding written_value
 document_means name ns h =
     rooted_by (encode_utf8_all name) name (object (with_children (children_of ns) no_members))
-    (root_namespace (opening_of (root_tag name))) (root_of name ns) (name_kept name h.named) (root_at name) (root_child name ns h)
+    (root_namespace (opening_of (root_tag name))) (root_of name ns) (name_kept name h.named) (root_at name)
+    (root_child name ns h)

@@ -1,12 +1,15 @@
 -- What is written of a root and elements is a document that means their value.
-use Rattle.std.proofs.Common.{◌≡◌, ℕ, zero, suc, ◌<◌, Bool, true, false, ◌||◌, ◌==◌, List, [], ◌∷◌, ◌++◌, nat_eq, refl, sym, ap, ◌∙◌, arith}
+use Rattle.std.proofs.Common.{◌≡◌, ℕ, zero, suc, ◌<◌, Bool, true, false, ◌||◌, ◌==◌, List, [], ◌∷◌, ◌++◌, nat_eq, refl}
+use Rattle.std.proofs.Common.{sym, ap, ◌∙◌, arith}
 use Rattle.std.proofs.lemmas.Bool.Decides.{nat_tests}
 use Rattle.std.proofs.lemmas.List.Folds.{list_all-append}
 use Rattle.std.specs.Int.{is_in_range}
 use Rattle.std.specs.List.{list_all}
 use Rattle.irs_xml.specs.Characters.{is_char, ends_after, line_ends, without_mark}
 use Rattle.irs_xml.specs.Document.{XmlReads}
-use Rattle.irs_emit_xml.specs.Trees.{Node, leaf, branch, Nodes, no_nodes, node, indent, end_text, node_text, nodes_text, declared_text, namespace_text, written_text, is_letter, is_name, is_plain, IsNode, IsNodes, IsRoot, written_value}
+use Rattle.irs_emit_xml.specs.Trees.{Node, leaf, branch, Nodes, no_nodes, node, indent, end_text, node_text, nodes_text}
+use Rattle.irs_emit_xml.specs.Trees.{declared_text, namespace_text, written_text, is_letter, is_name, is_plain, IsNode}
+use Rattle.irs_emit_xml.specs.Trees.{IsNodes, IsRoot, written_value}
 use Rattle.irs_emit_xml.proofs.Means.{encodes_low, document_means}
 use Rattle.irs_emit_xml.proofs.Rules.{all_then, both_true, true_both, document_is}
 use Rattle.irs_emit_xml.proofs.Spelling.{document_of, document_spelt}
@@ -68,11 +71,14 @@ mutual
   node_clean : (levels k : ℕ) (n : Node) → IsNode levels n → Clean (node_text k n)
   node_clean zero k (leaf name text) h = absurd h
   node_clean zero k (branch name ns) h = absurd h
-  node_clean (suc levels) k (leaf name text) h = leaf_clean k name text (name_clean name h.0) (all_then is_plain is_clean text plain_clean h.1)
+  node_clean (suc levels) k (leaf name text) h =
+      leaf_clean k name text (name_clean name h.0) (all_then is_plain is_clean text plain_clean h.1)
   node_clean (suc levels) k (branch name ns) h =
       let n = name_clean name h.0 in
-      clean_both (indent k ++ (60 ∷ (name ++ 62 ∷ 10 ∷ []))) (nodes_text (suc k) ns ++ (indent k ++ end_text name)) (open_clean k name n)
-      (clean_both (nodes_text (suc k) ns) (indent k ++ end_text name) (nodes_clean levels (suc k) ns h.2) (close_clean k name n))
+      clean_both (indent k ++ (60 ∷ (name ++ 62 ∷ 10 ∷ []))) (nodes_text (suc k) ns ++ (indent k ++ end_text name))
+      (open_clean k name n)
+      (clean_both (nodes_text (suc k) ns) (indent k ++ end_text name) (nodes_clean levels (suc k) ns h.2)
+      (close_clean k name n))
 
   nodes_clean : (levels k : ℕ) (ns : Nodes) → IsNodes levels ns → Clean (nodes_text k ns)
   nodes_clean levels k no_nodes h = refl
@@ -91,7 +97,8 @@ written_clean : (name : List ℕ) (ns : Nodes) → IsRoot name ns → Clean (wri
 unfolding written_text
 written_clean name ns h =
     let n = name_clean name h.named in
-    clean_both declared_text (60 ∷ (name ++ (namespace_text ++ 62 ∷ 10 ∷ [])) ++ (nodes_text 1 ns ++ end_text name)) declared_clean
+    clean_both declared_text (60 ∷ (name ++ (namespace_text ++ 62 ∷ 10 ∷ [])) ++ (nodes_text 1 ns ++ end_text name))
+    declared_clean
     (clean_both (60 ∷ (name ++ (namespace_text ++ 62 ∷ 10 ∷ []))) (nodes_text 1 ns ++ end_text name)
     (clean_both name (namespace_text ++ 62 ∷ 10 ∷ []) n namespace_clean)
     (clean_both (nodes_text 1 ns) (end_text name) (nodes_clean 62 1 ns h.nested) (end_clean name n)))
@@ -114,7 +121,8 @@ unfolding written_text declared_text
 no_mark name ns = refl
 
 -- the text of a root and elements is a document that means their value
-pub written_reads : (name : List ℕ) (ns : Nodes) → IsRoot name ns → XmlReads (written_text name ns) (written_value name ns)
+pub written_reads : (name : List ℕ) (ns : Nodes) → IsRoot name ns
+    → XmlReads (written_text name ns) (written_value name ns)
 written_reads name ns h =
     let clean = written_clean name ns h in record {
       characters = written_text name ns;

@@ -1,18 +1,23 @@
 -- The document of a root and elements follows the rules of XML and of its namespaces.
-use Rattle.std.proofs.Common.{◌≡◌, ℕ, zero, suc, Bool, true, false, not, ◌&&◌, ◌==◌, List, [], ◌∷◌, ◌++◌, Some, None, nat_eq, refl, sym, ap, subst, ◌∙◌, arith}
+use Rattle.std.proofs.Common.{◌≡◌, ℕ, zero, suc, Bool, true, false, not, ◌&&◌, ◌==◌, List, [], ◌∷◌, ◌++◌, Some, None}
+use Rattle.std.proofs.Common.{nat_eq, refl, sym, ap, subst, ◌∙◌, arith}
 use Rattle.std.proofs.lemmas.Bool.Decides.{nat_tests}
 use Rattle.std.proofs.lemmas.List.{append-nil}
 use Rattle.std.specs.Prelude.{codes}
 use Rattle.std.specs.List.{list_all}
 use Rattle.irs_xml.specs.Characters.{is_space}
 use Rattle.irs_xml.specs.Comments.{after}
-use Rattle.irs_xml.specs.Content.{Content, nothing, character, content_text, is_char_data, IsTagIn, IsElement, IsContent}
+use Rattle.irs_xml.specs.Content.{Content, nothing, character, content_text, is_char_data, IsTagIn, IsElement}
+use Rattle.irs_xml.specs.Content.{IsContent}
 use Rattle.irs_xml.specs.Document.{IsDocument, root_namespace, is_fpml}
 use Rattle.irs_xml.specs.Names.{is_name_start, is_name_char, is_nc_name}
-use Rattle.irs_xml.specs.Namespaces.{Scope, first_scope, opening_of, is_opened, is_declaration, declared_prefix, may_declare, is_lawful, namespace_of, scope_in, settings_of}
+use Rattle.irs_xml.specs.Namespaces.{Scope, first_scope, opening_of, is_opened, is_declaration, declared_prefix}
+use Rattle.irs_xml.specs.Namespaces.{may_declare, is_lawful, namespace_of, scope_in, settings_of}
 use Rattle.std.specs.Char.{encode_utf8}
-use Rattle.irs_emit_xml.specs.Trees.{Node, leaf, branch, Nodes, no_nodes, node, indent, fpml_namespace, is_letter, is_name, is_plain, IsNode, IsNodes, IsRoot}
-use Rattle.irs_emit_xml.proofs.Spelling.{plain_tag, characters, element_of, content_of, namespace_attribute, root_tag, root_of, document_of}
+use Rattle.irs_emit_xml.specs.Trees.{Node, leaf, branch, Nodes, no_nodes, node, indent, fpml_namespace, is_letter}
+use Rattle.irs_emit_xml.specs.Trees.{is_name, is_plain, IsNode, IsNodes, IsRoot}
+use Rattle.irs_emit_xml.proofs.Spelling.{plain_tag, characters, element_of, content_of, namespace_attribute, root_tag}
+use Rattle.irs_emit_xml.proofs.Spelling.{root_of, document_of}
 
 -- where two tests both hold, each holds
 pub both_true : (a b : Bool) → a && b ≡ true → (a ≡ true) × (b ≡ true)
@@ -24,7 +29,8 @@ pub true_both : (a b : Bool) → a ≡ true → b ≡ true → a && b ≡ true
 true_both a b e f = rw (e) f
 
 -- what holds of every character of a kind holds of all characters of a list
-pub all_then : (p q : ℕ → Bool) (cs : List ℕ) → ((c : ℕ) → p c ≡ true → q c ≡ true) → list_all p cs ≡ true → list_all q cs ≡ true
+pub all_then : (p q : ℕ → Bool) (cs : List ℕ) → ((c : ℕ) → p c ≡ true → q c ≡ true) → list_all p cs ≡ true
+    → list_all q cs ≡ true
 all_then p q [] law h = refl
 all_then p q (c ∷ cs) law h =
     let b = both_true (p c) (list_all p cs) h in true_both (q c) (list_all q cs) (law c b.0) (all_then p q cs law b.1)
@@ -63,7 +69,8 @@ not_true false e = refl
 no_bracket : (x : ℕ) (cs : List ℕ) → nat_eq x 93 ≡ false → after (codes "]]>") (x ∷ cs) ≡ None
 no_bracket x cs e = rw e refl
 
-characters_are : (levels : ℕ) (scope : Scope) (cs : List ℕ) (c : Content) → list_all is_bare cs ≡ true → IsContent levels scope c
+characters_are : (levels : ℕ) (scope : Scope) (cs : List ℕ) (c : Content) → list_all is_bare cs ≡ true
+    → IsContent levels scope c
     → IsContent levels scope (characters cs c)
 characters_are levels scope [] c h k = k
 characters_are levels scope (x ∷ cs) c h k =
@@ -88,10 +95,12 @@ pub record IsHome (root : List ℕ) (scope : Scope) : Type 0 where
 pub home_stays : (root : List ℕ) (scope : Scope) → IsHome root scope → namespace_of (scope ++ []) [] ≡ Some root
 home_stays root scope inner = ap (λ s. namespace_of s []) (append-nil scope) ∙ inner.found
 
-tag_opened : (root : List ℕ) (scope : Scope) (name : List ℕ) → IsHome root scope → is_opened scope (opening_of (plain_tag name)) ≡ true
+tag_opened : (root : List ℕ) (scope : Scope) (name : List ℕ) → IsHome root scope
+    → is_opened scope (opening_of (plain_tag name)) ≡ true
 tag_opened root scope name inner = let e = home_stays root scope inner in rw e refl
 
-tag_is : (root : List ℕ) (scope : Scope) (name : List ℕ) → IsHome root scope → is_name name ≡ true → IsTagIn scope (plain_tag name)
+tag_is : (root : List ℕ) (scope : Scope) (name : List ℕ) → IsHome root scope → is_name name ≡ true
+    → IsTagIn scope (plain_tag name)
 tag_is root scope name inner h = record {
   spelt = true_both (is_nc_name name) true (name_is name h) refl;
   few = omega arith;
@@ -110,16 +119,18 @@ mutual
   )
   node_is root scope (suc levels) k (branch name ns) inner h = (
     tag_is root scope name inner h.0,
-    subst (λ s. IsContent levels s (character 10 (content_of (suc k) ns (characters (indent k) nothing)))) (sym (append-nil scope)) (
-      refl,
-      refl,
-      nodes_are root scope levels (suc k) ns (characters (indent k) nothing) inner h.2
-          (characters_are levels scope (indent k) nothing (indent_bare k) tt),
-    ),
+    subst (λ s. IsContent levels s (character 10 (content_of (suc k) ns (characters (indent k) nothing))))
+        (sym (append-nil scope)) (
+          refl,
+          refl,
+          nodes_are root scope levels (suc k) ns (characters (indent k) nothing) inner h.2
+              (characters_are levels scope (indent k) nothing (indent_bare k) tt),
+        ),
     refl,
   )
 
-  nodes_are : (root : List ℕ) (scope : Scope) (levels k : ℕ) (ns : Nodes) (c : Content) → IsHome root scope → IsNodes levels ns
+  nodes_are : (root : List ℕ) (scope : Scope) (levels k : ℕ) (ns : Nodes) (c : Content) → IsHome root scope
+      → IsNodes levels ns
       → IsContent levels scope c → IsContent levels scope (content_of k ns c)
   nodes_are root scope levels k no_nodes c inner h after = after
   nodes_are root scope levels k (node n ns) c inner h after =

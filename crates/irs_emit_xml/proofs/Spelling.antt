@@ -5,7 +5,9 @@ use Rattle.std.specs.Prelude.{codes}
 use Rattle.irs_xml.specs.Content.{Element, full, Content, nothing, character, child, element_text, content_text}
 use Rattle.irs_xml.specs.Document.{Pair, Declaration, declaration_text, blank, misc_text, Document, document_text}
 use Rattle.irs_xml.specs.Tags.{plain, Attribute, Tag}
-use Rattle.irs_emit_xml.specs.Trees.{Node, leaf, branch, Nodes, no_nodes, node, indent, close_text, node_text, nodes_text, declared_text, fpml_namespace, namespace_text, root_open_text, written_text}
+use Rattle.irs_emit_xml.specs.Trees.{Node, leaf, branch, Nodes, no_nodes, node, indent, close_text, node_text}
+use Rattle.irs_emit_xml.specs.Trees.{nodes_text, declared_text, fpml_namespace, namespace_text, root_open_text}
+use Rattle.irs_emit_xml.specs.Trees.{written_text}
 
 -- the tag of an element without attributes
 abbrev pub plain_tag : List ℕ → Tag
@@ -20,7 +22,8 @@ abbrev mutual
   -- an element of the grammar, with this many levels round it
   pub element_of : ℕ → Node → Element
   element_of k (leaf name text) = full (plain_tag name) (characters text nothing) []
-  element_of k (branch name ns) = full (plain_tag name) (character 10 (content_of (suc k) ns (characters (indent k) nothing))) []
+  element_of k (branch name ns) =
+      full (plain_tag name) (character 10 (content_of (suc k) ns (characters (indent k) nothing))) []
 
   -- elements on their lines, and the content after them
   pub content_of : ℕ → Nodes → Content → Content
@@ -45,16 +48,20 @@ branch_lines : (i name lines rest : List ℕ)
 branch_lines i name lines rest = simp (append_assoc, append-nil)
 
 mutual
-  node_spelt : (k : ℕ) (n : Node) (rest : List ℕ) → indent k ++ (element_text (element_of k n) ++ 10 ∷ rest) ≡ node_text k n ++ rest
+  node_spelt : (k : ℕ) (n : Node) (rest : List ℕ)
+      → indent k ++ (element_text (element_of k n) ++ 10 ∷ rest) ≡ node_text k n ++ rest
   node_spelt k (leaf name text) rest =
-      ap (λ t. indent k ++ ((60 ∷ ((name ++ []) ++ (62 ∷ (t ++ (60 ∷ 47 ∷ (name ++ 62 ∷ [])))))) ++ 10 ∷ rest)) (alone_text text)
+      ap (λ t. indent k ++ ((60 ∷ ((name ++ []) ++ (62 ∷ (t ++ (60 ∷ 47 ∷ (name ++ 62 ∷ [])))))) ++ 10 ∷ rest))
+      (alone_text text)
       ∙ leaf_lines (indent k) name text rest
   node_spelt k (branch name ns) rest =
       ap (λ t. indent k ++ ((60 ∷ ((name ++ []) ++ (62 ∷ 10 ∷ (t ++ (60 ∷ 47 ∷ (name ++ 62 ∷ [])))))) ++ 10 ∷ rest))
-      (nodes_spelt (suc k) ns (characters (indent k) nothing) ∙ ap (λ t. nodes_text (suc k) ns ++ t) (alone_text (indent k)))
+      (nodes_spelt (suc k) ns (characters (indent k) nothing)
+      ∙ ap (λ t. nodes_text (suc k) ns ++ t) (alone_text (indent k)))
       ∙ branch_lines (indent k) name (nodes_text (suc k) ns) rest
 
-  nodes_spelt : (k : ℕ) (ns : Nodes) (c : Content) → content_text (content_of k ns c) ≡ nodes_text k ns ++ content_text c
+  nodes_spelt : (k : ℕ) (ns : Nodes) (c : Content)
+      → content_text (content_of k ns c) ≡ nodes_text k ns ++ content_text c
   nodes_spelt k no_nodes c = refl
   nodes_spelt k (node n ns) c =
       characters_text (indent k) (child (element_of k n) (character 10 (content_of k ns c)))
@@ -77,7 +84,11 @@ namespace_attribute = record {
 
 -- the root's start tag
 abbrev pub root_tag : List ℕ → Tag
-root_tag name = record { name = record { prefix = []; local = name }; attributes = namespace_attribute ∷ []; space = [] }
+root_tag name = record {
+  name = record { prefix = []; local = name };
+  attributes = namespace_attribute ∷ [];
+  space = [];
+}
 
 -- the root, with elements
 abbrev pub root_of : List ℕ → Nodes → Element
@@ -117,7 +128,8 @@ root_spelt name ns =
     (nodes_spelt 1 ns nothing ∙ append-nil (nodes_text 1 ns))
     ∙ root_lines name namespace_text (nodes_text 1 ns)
 
-front_spelt : (rest : List ℕ) → declaration_text (Some declaration_of) ++ (misc_text (blank 10 ∷ []) ++ rest) ≡ declared_text ++ rest
+front_spelt : (rest : List ℕ) → declaration_text (Some declaration_of) ++ (misc_text (blank 10 ∷ []) ++ rest)
+    ≡ declared_text ++ rest
 unfolding declared_text
 front_spelt rest = refl
 

@@ -1,6 +1,8 @@
 -- The value of the document has no fault of the tables of cash flows, and states the flows of the schedule.
-use Rattle.std.proofs.Common.{◌≡◌, ℕ, zero, suc, ◌+◌, ◌-◌, ◌<◌, ◌≤◌, nat_le, Bool, true, false, not, inl, inr, List, [], ◌∷◌, ◌++◌, length, map, if◌then◌else◌}
-use Rattle.std.proofs.Common.{Option, Some, None, IfSome, Ok, Err, option_map, option_and_then, ℤ, codes, refl, sym, ap, ap₂, subst, ◌∙◌, arith}
+use Rattle.std.proofs.Common.{◌≡◌, ℕ, zero, suc, ◌+◌, ◌-◌, ◌<◌, ◌≤◌, nat_le, Bool, true, false, not, inl, inr, List, []}
+use Rattle.std.proofs.Common.{◌∷◌, ◌++◌, length, map, if◌then◌else◌}
+use Rattle.std.proofs.Common.{Option, Some, None, IfSome, Ok, Err, option_map, option_and_then, ℤ, codes, refl, sym, ap}
+use Rattle.std.proofs.Common.{ap₂, subst, ◌∙◌, arith}
 use Rattle.std.specs.List.{flat_map}
 use Rattle.std.specs.Prelude.{slice_get, unwrap_or, Result}
 use Rattle.irs_base.specs.Days.{IsDay}
@@ -27,7 +29,8 @@ use Rattle.irs_schedule.specs.declared.entries.PaymentEntry.{PaymentEntry}
 use Rattle.irs_audit.proofs.BoundLemmas.{payments_few}
 use Rattle.irs_audit.proofs.FlowLaws.{flow_code_names, flow_names_are, flow_rows_are}
 use Rattle.irs_audit.proofs.StatedLemmas.{flows_agree}
-use Rattle.irs_audit.specs.FlowFaults.{CashflowsFault, FlowFault, OnceFault, PeriodsFault, StreamFault, StreamsFault, SwapFault, below, ended, few, in_stream}
+use Rattle.irs_audit.specs.FlowFaults.{CashflowsFault, FlowFault, OnceFault, PeriodsFault, StreamFault, StreamsFault}
+use Rattle.irs_audit.specs.FlowFaults.{SwapFault, below, ended, few, in_stream}
 use Rattle.irs_audit.specs.FlowFaults.{is_sound, many_streams, no_stream, payments_in, periods_in, periods_of}
 use Rattle.irs_audit.specs.FlowLines.{flow_names, flow_rows}
 use Rattle.irs_audit.specs.FlowMeaning.{exchange_in, flows_in, payment_in, period_in, stream_in, streams_in}
@@ -42,16 +45,19 @@ use Rattle.irs_emit.proofs.CleanRows.{currency_kept, day_kept, exchange_free, le
 use Rattle.irs_emit.proofs.PartsRead.{its_swap, mapped_length, swap_reads}
 use Rattle.irs_emit.proofs.RowsRead.{array_values, from_items}
 use Rattle.irs_emit.proofs.Short.{parts_short}
-use Rattle.irs_emit.specs.Emitted.{array_of, cashflows_value, emit_value, exchange_value, forecast_value, known_exchanges, object_with, payment_value, put_known, stream_value}
+use Rattle.irs_emit.specs.Emitted.{array_of, cashflows_value, emit_value, exchange_value, forecast_value}
+use Rattle.irs_emit.specs.Emitted.{known_exchanges, object_with, payment_value, put_known, stream_value}
 use Rattle.irs_emit.specs.Leaves.{amount_leaf, currency_leaf, text_of}
 use Rattle.irs_emit.specs.PartLaws.{IsPartShort}
 use Rattle.irs_emit.specs.RowLaws.{IsExchangeShort, IsPaymentShort, IsShortAmount}
 use Rattle.irs_xml.specs.Document.{XmlReads}
-use Rattle.serde_json.specs.Data.{Data, null, boolean, number, string, array, object, item, no_items, Members, no_members, member, put}
+use Rattle.serde_json.specs.Data.{Data, null, boolean, number, string, array, object, item, no_items, Members}
+use Rattle.serde_json.specs.Data.{no_members, member, put}
 use Rattle.serde_json.specs.View.{items_of}
 use Rattle.irs_emit_xml.specs.Ones.{alone, ones}
 use Rattle.irs_emit_xml.specs.StatedInXml.{StatesInXml}
-use Rattle.irs_emit_xml.proofs.Carried.{carried_cash, carried_payment, carried_stream, carried_swap, cash, emitted_carried, known_alone, paid, periods_paid, periods_same}
+use Rattle.irs_emit_xml.proofs.Carried.{carried_cash, carried_payment, carried_stream, carried_swap, cash}
+use Rattle.irs_emit_xml.proofs.Carried.{emitted_carried, known_alone, paid, periods_paid, periods_same}
 use Rattle.irs_emit_xml.proofs.FlowValues.{paid_begin}
 use Rattle.irs_emit_xml.proofs.Joining.{Begins}
 
@@ -121,27 +127,33 @@ payment_of : (a b : Option ℤ) (n : ℕ) (c : Option Currency) (m : Option ℤ)
 payment_of a b n c m y e1 e2 e3 e4 e5 = rw (e1, e2, e3, e4, e5) refl
 
 -- what is read of a payment depends on the values of its periods alone
-paid_in : (u a : ℤ) (m k f : Data) → values_of (present m) ≡ values_of (present k) → payment_in (paid u a m f) ≡ payment_in (paid u a k f)
+paid_in : (u a : ℤ) (m k f : Data) → values_of (present m) ≡ values_of (present k)
+    → payment_in (paid u a m f) ≡ payment_in (paid u a k f)
 paid_in u a m k f e = payment_of _ _ _ _ _ (payment_in (paid u a k f)) refl refl (ap length e) refl refl
 
-payment_read : (p : Part) (y : PaymentEntry) → IsPaymentShort p y → payment_in (carried_payment p y) ≡ payment_in (payment_value p y)
+payment_read : (p : Part) (y : PaymentEntry) → IsPaymentShort p y
+    → payment_in (carried_payment p y) ≡ payment_in (payment_value p y)
 unfolding payment_value
 payment_read p y h =
-    paid_in y.unadjusted y.adjusted (alone (items_of (periods_paid p y))) (array_of (periods_paid p y)) (forecast_value p.currency y)
+    paid_in y.unadjusted y.adjusted (alone (items_of (periods_paid p y))) (array_of (periods_paid p y))
+    (forecast_value p.currency y)
     (alone_values (periods_paid p y) (paid_begins p y h) ∙ sym (array_values (periods_paid p y)))
 
-periods_read : (p : Part) (y : PaymentEntry) → IsPaymentShort p y → periods_in (carried_payment p y) ≡ periods_in (payment_value p y)
+periods_read : (p : Part) (y : PaymentEntry) → IsPaymentShort p y
+    → periods_in (carried_payment p y) ≡ periods_in (payment_value p y)
 unfolding payment_value
 periods_read p y h = alone_values (periods_paid p y) (paid_begins p y h) ∙ sym (array_values (periods_paid p y))
 
 -- ---- rows of a stream
 
 module _ {X : Type 0} (P : X → Type 0) (v w : X → Data) where
-  rows_read : {A : Type 0} (g : Data → A) (xs : List X) → ((x : X) → P x → g (v x) ≡ g (w x)) → Every P xs → map g (map v xs) ≡ map g (map w xs)
+  rows_read : {A : Type 0} (g : Data → A) (xs : List X) → ((x : X) → P x → g (v x) ≡ g (w x)) → Every P xs
+      → map g (map v xs) ≡ map g (map w xs)
   rows_read g [] law h = refl
   rows_read g (x ∷ xs) law h = ap₂ (λ d ds. d ∷ ds) (law x h.0) (rows_read g xs law h.1)
 
-  rows_joined : (g : Data → List Data) (xs : List X) → ((x : X) → P x → g (v x) ≡ g (w x)) → Every P xs → flat_map g (map v xs) ≡ flat_map g (map w xs)
+  rows_joined : (g : Data → List Data) (xs : List X) → ((x : X) → P x → g (v x) ≡ g (w x)) → Every P xs
+      → flat_map g (map v xs) ≡ flat_map g (map w xs)
   rows_joined g [] law h = refl
   rows_joined g (x ∷ xs) law h = ap₂ (λ d ds. d ++ ds) (law x h.0) (rows_joined g xs law h.1)
 
@@ -151,17 +163,20 @@ module _ {X : Type 0} (P : X → Type 0) (v w : X → Data) where
   few_by F false xs e = refl
 
   -- the same is read of rows that aren't too many
-  few_read : {B : Type 0} (F : List Data → B) (xs : List X) → F (map v xs) ≡ F (map w xs) → F (few (map v xs)) ≡ F (few (map w xs))
+  few_read : {B : Type 0} (F : List Data → B) (xs : List X) → F (map v xs) ≡ F (map w xs)
+      → F (few (map v xs)) ≡ F (few (map w xs))
   few_read F xs e =
       ap (λ n. F (if nat_le n most_rows then map v xs else [])) (mapped_length v xs)
       ∙ few_by F (nat_le (length xs) most_rows) xs e
       ∙ sym (ap (λ n. F (if nat_le n most_rows then map w xs else [])) (mapped_length w xs))
 
-exchange_member : (o : Option Data) (payments : Data) → values_in (codes "principalExchange") (Some (cash o payments)) ≡ values_of (option_and_then present o)
+exchange_member : (o : Option Data) (payments : Data)
+    → values_in (codes "principalExchange") (Some (cash o payments)) ≡ values_of (option_and_then present o)
 exchange_member None payments = refl
 exchange_member (Some d) payments = refl
 
-payment_member : (o : Option Data) (payments : Data) → values_in (codes "paymentCalculationPeriod") (Some (cash o payments)) ≡ values_of (present payments)
+payment_member : (o : Option Data) (payments : Data)
+    → values_in (codes "paymentCalculationPeriod") (Some (cash o payments)) ≡ values_of (present payments)
 payment_member None payments = refl
 payment_member (Some d) payments = refl
 
@@ -169,14 +184,18 @@ exchanges_begin : (x : Exchange) (xs : List Exchange) → Begins (map exchange_v
 unfolding exchange_value
 exchanges_begin x xs = tt
 
-exchanges_listed : (xs : List Exchange) → values_of (option_and_then present (known_alone (map exchange_value xs))) ≡ values_of (option_and_then present (known_exchanges xs))
+exchanges_listed : (xs : List Exchange) → values_of (option_and_then present (known_alone (map exchange_value xs)))
+    ≡ values_of (option_and_then present (known_exchanges xs))
 exchanges_listed [] = refl
-exchanges_listed (x ∷ xs) = alone_values (map exchange_value (x ∷ xs)) (exchanges_begin x xs) ∙ sym (array_values (map exchange_value (x ∷ xs)))
+exchanges_listed (x ∷ xs) = alone_values (map exchange_value (x ∷ xs)) (exchanges_begin x xs)
+    ∙ sym (array_values (map exchange_value (x ∷ xs)))
 
-carried_payments : (p : Part) → IsPartShort p → payments_in (Some (carried_cash p)) ≡ few (map (carried_payment p) p.payments)
+carried_payments : (p : Part) → IsPartShort p
+    → payments_in (Some (carried_cash p)) ≡ few (map (carried_payment p) p.payments)
 carried_payments p h =
     let ds = map (carried_payment p) p.payments in
-    ap few (payment_member (known_alone (map exchange_value p.exchanges)) (alone (items_of ds)) ∙ alone_values ds (payments_begin p h))
+    ap few (payment_member (known_alone (map exchange_value p.exchanges)) (alone (items_of ds))
+    ∙ alone_values ds (payments_begin p h))
 
 emitted_payments : (p : Part) → payments_in (Some (cashflows_value p)) ≡ few (map (payment_value p) p.payments)
 unfolding cashflows_value
@@ -185,18 +204,21 @@ emitted_payments p =
     ap few (payment_member (known_exchanges p.exchanges) (array_of ds) ∙ array_values ds)
 
 -- the same periods are read of a stream
-same_periods : (p : Part) → IsPartShort p → periods_of (payments_in (Some (carried_cash p))) ≡ periods_of (payments_in (Some (cashflows_value p)))
+same_periods : (p : Part) → IsPartShort p → periods_of (payments_in (Some (carried_cash p)))
+    ≡ periods_of (payments_in (Some (cashflows_value p)))
 same_periods p h =
     ap periods_of (carried_payments p h)
     ∙ few_read (IsPaymentShort p) (carried_payment p) (payment_value p) periods_of p.payments
-    (rows_joined (IsPaymentShort p) (carried_payment p) (payment_value p) periods_in p.payments (periods_read p) h.payments)
+    (rows_joined (IsPaymentShort p) (carried_payment p) (payment_value p) periods_in p.payments (periods_read p)
+    h.payments)
     ∙ sym (ap periods_of (emitted_payments p))
 
 part_of : (a : List FlowExchange) (b : List FlowPayment) (c : List FlowPeriod) (f : FlowPart) → a ≡ f.exchanges
     → b ≡ f.payments → c ≡ f.periods → (record { exchanges = a; payments = b; periods = c }) ≡ f
 part_of a b c f e1 e2 e3 = rw (e1, e2, e3) refl
 
-emitted_exchanges : (p : Part) → values_in (codes "principalExchange") (Some (cashflows_value p)) ≡ values_of (option_and_then present (known_exchanges p.exchanges))
+emitted_exchanges : (p : Part) → values_in (codes "principalExchange") (Some (cashflows_value p))
+    ≡ values_of (option_and_then present (known_exchanges p.exchanges))
 unfolding cashflows_value
 emitted_exchanges p = exchange_member (known_exchanges p.exchanges) (array_of (map (payment_value p) p.payments))
 
@@ -204,11 +226,13 @@ emitted_exchanges p = exchange_member (known_exchanges p.exchanges) (array_of (m
 flows_same : (p : Part) → IsPartShort p → flows_in (Some (carried_cash p)) ≡ flows_in (Some (cashflows_value p))
 flows_same p h =
     part_of _ _ _ (flows_in (Some (cashflows_value p)))
-    (ap (map exchange_in) (exchange_member (known_alone (map exchange_value p.exchanges)) (alone (items_of (map (carried_payment p) p.payments)))
+    (ap (map exchange_in) (exchange_member (known_alone (map exchange_value p.exchanges))
+    (alone (items_of (map (carried_payment p) p.payments)))
     ∙ exchanges_listed p.exchanges ∙ sym (emitted_exchanges p)))
     (ap (map payment_in) (carried_payments p h)
     ∙ few_read (IsPaymentShort p) (carried_payment p) (payment_value p) (map payment_in) p.payments
-    (rows_read (IsPaymentShort p) (carried_payment p) (payment_value p) payment_in p.payments (payment_read p) h.payments)
+    (rows_read (IsPaymentShort p) (carried_payment p) (payment_value p) payment_in p.payments (payment_read p)
+    h.payments)
     ∙ sym (ap (map payment_in) (emitted_payments p)))
     (ap (map period_in) (same_periods p h))
 
@@ -229,7 +253,8 @@ streams_begin [] l = absurd (omega arith)
 streams_begin (p ∷ s) l = tt
 
 -- the streams that are found in the swap
-streams_found : (s : List Part) → 0 < length s → values_in (codes "swapStream") (Some (carried_swap s)) ≡ map carried_stream s
+streams_found : (s : List Part) → 0 < length s
+    → values_in (codes "swapStream") (Some (carried_swap s)) ≡ map carried_stream s
 streams_found s l = alone_values (map carried_stream s) (streams_begin s l)
 
 swap_same : (s : List Part) → 0 < length s → Every IsPartShort s
@@ -283,7 +308,8 @@ forecast_free stream i c (Some v) e h =
 
 paid_names : (u a : ℤ) (m : Data) (c : Currency) (o : Option Dec) → IsHeld m
     → names_of (paid u a m (forecast_with c o))
-    ≡ Some (codes "adjustedPaymentDate" ∷ codes "calculationPeriod" ∷ codes "forecastPaymentAmount" ∷ codes "unadjustedPaymentDate" ∷ [])
+    ≡ Some (codes "adjustedPaymentDate" ∷ codes "calculationPeriod" ∷ codes "forecastPaymentAmount"
+    ∷ codes "unadjustedPaymentDate" ∷ [])
 paid_names u a null c o h = absurd h
 paid_names u a (boolean b) c o h = absurd h
 paid_names u a (number n) c o h = absurd h
@@ -293,7 +319,8 @@ paid_names u a (array (item d ds)) c o h = refl
 paid_names u a (object ms) c o h = refl
 
 paid_free : (stream i : ℕ) (u a : ℤ) (m : Data) (c : Currency) (o : Option Dec) → IsHeld m → IsDay u → IsDay a
-    → is_currency c.letters ≡ true → IfSome o IsShortAmount → NoFault F M stream 5 (Object Free) i (paid u a m (forecast_with c o))
+    → is_currency c.letters ≡ true → IfSome o IsShortAmount
+    → NoFault F M stream 5 (Object Free) i (paid u a m (forecast_with c o))
 paid_free stream i u a m c o is hu ha e h =
     let d = paid u a m (forecast_with c o) in
     let f = forecast_with c o in
@@ -318,7 +345,8 @@ paid_free stream i u a m c o is hu ha e h =
       ),
     )
 
-payment_free : (stream i : ℕ) (p : Part) (y : PaymentEntry) → IsPaymentShort p y → NoFault F M stream 5 (Object Free) i (carried_payment p y)
+payment_free : (stream i : ℕ) (p : Part) (y : PaymentEntry) → IsPaymentShort p y
+    → NoFault F M stream 5 (Object Free) i (carried_payment p y)
 unfolding forecast_value
 payment_free stream i p y h =
     paid_free stream i y.unadjusted y.adjusted (alone (items_of (periods_paid p y))) p.currency y.amount
@@ -333,10 +361,13 @@ module _ {X : Type 0} (stream c : ℕ) (f : X → Data) (Q : X → Type 0) where
       subst (ValuesFree F M stream c (flow_at c) i) (from_items (map f xs) ∙ sym (alone_held (map f xs) b))
       (array_free F M stream c f Q i (flow_at c) xs law h)
 
-  alone_few : (xs : List X) (n : ℕ) → Begins (map f xs) → length xs ≤ n → length (held (alone (items_of (map f xs)))) ≤ n
-  alone_few xs n b l = let e = ap length (alone_held (map f xs) b) in let k = mapped_length f xs in omega (arith, e, k, l)
+  alone_few : (xs : List X) (n : ℕ) → Begins (map f xs) → length xs ≤ n
+      → length (held (alone (items_of (map f xs)))) ≤ n
+  alone_few xs n b l = let e = ap length (alone_held (map f xs) b) in let k =
+      mapped_length f xs in omega (arith, e, k, l)
 
-cash_names : (m : Data) → IsHeld m → names_of (cash None m) ≡ Some (codes "cashflowsMatchParameters" ∷ codes "paymentCalculationPeriod" ∷ [])
+cash_names : (m : Data) → IsHeld m → names_of (cash None m)
+    ≡ Some (codes "cashflowsMatchParameters" ∷ codes "paymentCalculationPeriod" ∷ [])
 cash_names null h = absurd h
 cash_names (boolean b) h = absurd h
 cash_names (number n) h = absurd h
@@ -346,7 +377,8 @@ cash_names (array (item d ds)) h = refl
 cash_names (object ms) h = refl
 
 exchanged_by : (e : Data) (ms : Members) → IsHeld e
-    → names_of (object (member (codes "principalExchange") e ms)) ≡ option_map (λ ns. codes "principalExchange" ∷ ns) (names_of (object ms))
+    → names_of (object (member (codes "principalExchange") e ms))
+    ≡ option_map (λ ns. codes "principalExchange" ∷ ns) (names_of (object ms))
 exchanged_by null ms h = absurd h
 exchanged_by (boolean b) ms h = absurd h
 exchanged_by (number n) ms h = absurd h
@@ -356,18 +388,24 @@ exchanged_by (array (item d ds)) ms h = refl
 exchanged_by (object os) ms h = refl
 
 exchanged_names : (e m : Data) → IsHeld e → IsHeld m
-    → names_of (cash (Some e) m) ≡ Some (codes "cashflowsMatchParameters" ∷ codes "paymentCalculationPeriod" ∷ codes "principalExchange" ∷ [])
+    → names_of (cash (Some e) m) ≡ Some (codes "cashflowsMatchParameters" ∷ codes "paymentCalculationPeriod"
+    ∷ codes "principalExchange" ∷ [])
 exchanged_names e null h k = absurd k
 exchanged_names e (boolean b) h k = absurd k
 exchanged_names e (number n) h k = absurd k
 exchanged_names e (string s) h k = absurd k
 exchanged_names e (array no_items) h k = absurd k
-exchanged_names e (array (item d ds)) h k = ap (option_map (λ ns. codes "cashflowsMatchParameters" ∷ codes "paymentCalculationPeriod" ∷ ns)) (exchanged_by e no_members h)
-exchanged_names e (object ms) h k = ap (option_map (λ ns. codes "cashflowsMatchParameters" ∷ codes "paymentCalculationPeriod" ∷ ns)) (exchanged_by e no_members h)
+exchanged_names e (array (item d ds)) h k =
+    ap (option_map (λ ns. codes "cashflowsMatchParameters" ∷ codes "paymentCalculationPeriod" ∷ ns))
+    (exchanged_by e no_members h)
+exchanged_names e (object ms) h k =
+    ap (option_map (λ ns. codes "cashflowsMatchParameters" ∷ codes "paymentCalculationPeriod" ∷ ns))
+    (exchanged_by e no_members h)
 
 cash_free : (stream i : ℕ) (p : Part) (xs : List Exchange) (ys : List PaymentEntry) → Every IsExchangeShort xs
     → Every (IsPaymentShort p) ys → length xs ≤ most_rows → length ys ≤ most_rows → Begins (map (carried_payment p) ys)
-    → NoFault F M stream 0 (Object Free) i (cash (known_alone (map exchange_value xs)) (alone (items_of (map (carried_payment p) ys))))
+    → NoFault F M stream 0 (Object Free) i (cash (known_alone (map exchange_value xs))
+    (alone (items_of (map (carried_payment p) ys))))
 cash_free stream i p [] ys hx hy lx ly b =
     let payments = alone (items_of (map (carried_payment p) ys)) in
     let is = alone_is (map (carried_payment p) ys) b in
@@ -375,8 +413,10 @@ cash_free stream i p [] ys hx hy lx ly b =
     object_free F M stream 0 i d _ (cash_names payments is) refl refl (
       absent_free F M stream 1 i _ d refl refl,
       (
-        present_free F M stream 5 i _ d payments (held_present payments is) refl (alone_few stream 5 (carried_payment p) (IsPaymentShort p) ys most_rows b ly)
-            (alone_free stream 5 (carried_payment p) (IsPaymentShort p) i ys b (λ k y g. payment_free stream k p y g) hy),
+        present_free F M stream 5 i _ d payments (held_present payments is) refl
+            (alone_few stream 5 (carried_payment p) (IsPaymentShort p) ys most_rows b ly)
+            (alone_free stream 5 (carried_payment p) (IsPaymentShort p) i ys b (λ k y g. payment_free stream k p y g)
+            hy),
         (passed_free F M stream 11 i _ d refl refl, tt),
       ),
     )
@@ -390,27 +430,34 @@ cash_free stream i p (x ∷ xs) ys hx hy lx ly b =
     object_free F M stream 0 i d _ (exchanged_names exchanges payments es is) refl refl (
       present_free F M stream 1 i _ d exchanges (held_present exchanges es) refl
           (alone_few stream 1 exchange_value IsExchangeShort (x ∷ xs) most_rows front lx)
-          (alone_free stream 1 exchange_value IsExchangeShort i (x ∷ xs) front (λ k y g. exchange_free stream k y g) hx),
+          (alone_free stream 1 exchange_value IsExchangeShort i (x ∷ xs) front (λ k y g. exchange_free stream k y g)
+          hx),
       (
-        present_free F M stream 5 i _ d payments (held_present payments is) refl (alone_few stream 5 (carried_payment p) (IsPaymentShort p) ys most_rows b ly)
-            (alone_free stream 5 (carried_payment p) (IsPaymentShort p) i ys b (λ k y g. payment_free stream k p y g) hy),
+        present_free F M stream 5 i _ d payments (held_present payments is) refl
+            (alone_few stream 5 (carried_payment p) (IsPaymentShort p) ys most_rows b ly)
+            (alone_free stream 5 (carried_payment p) (IsPaymentShort p) i ys b (λ k y g. payment_free stream k p y g)
+            hy),
         (passed_free F M stream 11 i _ d refl refl, tt),
       ),
     )
 
 -- the cash flows have no fault of their own table
-cashflows_free : (stream i : ℕ) (p : Part) → IsPartShort p → NoFault flow_rows flow_names stream 0 (Object Free) i (carried_cash p)
+cashflows_free : (stream i : ℕ) (p : Part) → IsPartShort p
+    → NoFault flow_rows flow_names stream 0 (Object Free) i (carried_cash p)
 cashflows_free stream i p h =
     let xs = h.bounds.exchanges in
     let ys = payments_few p h.bounds in
     let few = h.bounds.few in
-    by_tables (λ rows names. NoFault rows names stream 0 (Object Free) i (carried_cash p)) F flow_rows M flow_names flow_rows_are
-    flow_names_are (cash_free stream i p p.exchanges p.payments h.exchanges h.payments (omega (arith, xs)) (omega (arith, ys, few))
+    by_tables (λ rows names. NoFault rows names stream 0 (Object Free) i (carried_cash p)) F flow_rows M flow_names
+    flow_rows_are
+    flow_names_are (cash_free stream i p p.exchanges p.payments h.exchanges h.payments (omega (arith, xs))
+    (omega (arith, ys, few))
     (payments_begin p h))
 
 -- a fault of a stream is one of the emitted stream
 
-cash_fault : (stream : ℕ) (p : Part) → IsPartShort p → (f : Broken) → CashflowsFault stream (carried_cash p) f → CashflowsFault stream (cashflows_value p) f
+cash_fault : (stream : ℕ) (p : Part) → IsPartShort p → (f : Broken) → CashflowsFault stream (carried_cash p) f
+    → CashflowsFault stream (cashflows_value p) f
 cash_fault stream p h f (inl fault) = absurd (cashflows_free stream 0 p h f fault)
 cash_fault stream p h f (inr fault) = inr (subst (λ ds. PeriodsFault stream ds f) (same_periods p h) fault)
 
@@ -428,13 +475,15 @@ carried_its_cash p = refl
 sound_stream : (p : Part) → is_sound (carried_stream p) ≡ true
 sound_stream p = refl
 
-stream_fault : (p : Part) → IsPartShort p → (nth : ℕ) (f : Broken) → StreamFault nth (carried_stream p) f → StreamFault nth (stream_value p) f
+stream_fault : (p : Part) → IsPartShort p → (nth : ℕ) (f : Broken) → StreamFault nth (carried_stream p) f
+    → StreamFault nth (stream_value p) f
 unfolding cashflows_value
 stream_fault p h nth f (inl own) = absurd (not_sound (is_sound (carried_stream p)) (sound_stream p) own.0)
 stream_fault p h nth f (inr inside) =
     inr (
       refl,
-      subst (λ ds. OnceFault nth ds f) (sym (its_cash p)) (cash_fault nth p h f (subst (λ ds. OnceFault nth ds f) (carried_its_cash p) inside.1)),
+      subst (λ ds. OnceFault nth ds f) (sym (its_cash p))
+          (cash_fault nth p h f (subst (λ ds. OnceFault nth ds f) (carried_its_cash p) inside.1)),
     )
 
 -- a row at a place of a list that was mapped
@@ -444,10 +493,13 @@ stream_at [] j x h e = absurd (cc e)
 stream_at (p ∷ s) zero x h e = (p, h.0, sym (ap (λ o. unwrap_or o x) e), refl)
 stream_at (p ∷ s) (suc j) x h e = stream_at s j x h.1 e
 
-streams_fault : (s : List Part) → Every IsPartShort s → (f : Broken) → StreamsFault (map carried_stream s) f → StreamsFault (map stream_value s) f
-streams_fault s h f (no_stream none) = no_stream (mapped_length stream_value s ∙ sym (mapped_length carried_stream s) ∙ none)
+streams_fault : (s : List Part) → Every IsPartShort s → (f : Broken) → StreamsFault (map carried_stream s) f
+    → StreamsFault (map stream_value s) f
+streams_fault s h f (no_stream none) =
+    no_stream (mapped_length stream_value s ∙ sym (mapped_length carried_stream s) ∙ none)
 streams_fault s h f (many_streams lt) =
-    let a = mapped_length stream_value s in let b = mapped_length carried_stream s in many_streams (omega (arith, a, b, lt))
+    let a = mapped_length stream_value s in let b =
+    mapped_length carried_stream s in many_streams (omega (arith, a, b, lt))
 streams_fault s h f (in_stream g some few among) =
     let a = mapped_length stream_value s in
     let b = mapped_length carried_stream s in
@@ -472,7 +524,9 @@ sound_swap_by (object ms) h = refl
 swap_fault : (s : List Part) → 0 < length s → Every IsPartShort s → (f : Broken) → SwapFault (carried_swap s) f
     → SwapFault (object_with (codes "swapStream") (array_of (map stream_value s))) f
 swap_fault s l h f (inl own) =
-    absurd (not_sound (is_sound (carried_swap s)) (sound_swap_by (alone (items_of (map carried_stream s))) (alone_is (map carried_stream s) (streams_begin s l))) own.0)
+    absurd (not_sound (is_sound (carried_swap s))
+    (sound_swap_by (alone (items_of (map carried_stream s))) (alone_is (map carried_stream s) (streams_begin s l)))
+    own.0)
 swap_fault s l h f (inr inside) =
     inr (
       refl,
@@ -487,13 +541,17 @@ no_end : (a : Data) (f : Broken) (w : Result Data Broken) → w ≡ Ok a → w �
 no_end a f w e h = let both : Ok a ≡ Err f = sym e ∙ h in cc
 
 -- the value of the document has no fault
-carried_free : (s : List Part) → IsWithin s → (f : Broken) → FlowFault (object_with (codes "swap") (carried_swap s)) f → ⊥
-carried_free s w f (ended _ e) = no_end (carried_swap s) f (the_swap (object_with (codes "swap") (carried_swap s))) (its_carried_swap s) e
+carried_free : (s : List Part) → IsWithin s → (f : Broken) → FlowFault (object_with (codes "swap") (carried_swap s)) f
+    → ⊥
+carried_free s w f (ended _ e) =
+    no_end (carried_swap s) f (the_swap (object_with (codes "swap") (carried_swap s))) (its_carried_swap s) e
 carried_free s w f (below t _ e fault) =
     let short = parts_short s w.each in
-    let here = subst (λ d. SwapFault d f) (the_same t (carried_swap s) (the_swap (object_with (codes "swap") (carried_swap s))) e (its_carried_swap s)) fault in
+    let here = subst (λ d. SwapFault d f) (the_same t (carried_swap s)
+    (the_swap (object_with (codes "swap") (carried_swap s))) e (its_carried_swap s)) fault in
     emitted_free s w.some w.few short f
-    (below (object_with (codes "swapStream") (array_of (map stream_value s))) f (its_swap s) (swap_fault s w.some short f here))
+    (below (object_with (codes "swapStream") (array_of (map stream_value s))) f (its_swap s)
+    (swap_fault s w.some short f here))
 
 -- bytes that mean the value as XML carries it state the flows of the schedule
 pub states : (s : List Part) (bytes : List ℕ) → XmlReads bytes (ones (emit_value s)) → IsWithin s → StatesInXml bytes s

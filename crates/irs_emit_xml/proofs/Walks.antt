@@ -1,5 +1,6 @@
 -- Rows that are appended one after another.
-use Rattle.std.proofs.Common.{◌≡◌, ℕ, suc, ◌+◌, ◌-◌, ◌<◌, ◌≤◌, List, [], ◌∷◌, ◌++◌, length, get_or, map, take, sym, ap, ap₂, ◌∙◌, subst, arith}
+use Rattle.std.proofs.Common.{◌≡◌, ℕ, suc, ◌+◌, ◌-◌, ◌<◌, ◌≤◌, List, [], ◌∷◌, ◌++◌, length, get_or, map, take, sym, ap}
+use Rattle.std.proofs.Common.{ap₂, ◌∙◌, subst, arith}
 use Rattle.std.proofs.lemmas.List.{map-append, take_all, take_more}
 use Rattle.irs_emit.specs.Private.Paid.{IsPaid}
 use Rattle.irs_schedule.specs.Parts.{Part}
@@ -11,8 +12,10 @@ use Rattle.irs_emit.proofs.Pieces.{nothing_more}
 use Rattle.irs_emit_xml.proofs.Lines.{lines_append, one_line}
 
 -- one more row of a list
-pub mapped_more : {X : Type 0} (k : ℕ) (f : X → Node) (xs : List X) (j : ℕ) (x : X) (old now next : List ℕ) → j < length xs → x ≡ get_or xs j x
-    → now ≡ old ++ lines k (map f (take j xs)) → next ≡ now ++ node_text k (f x) → next ≡ old ++ lines k (map f (take (j + 1) xs))
+pub mapped_more : {X : Type 0} (k : ℕ) (f : X → Node) (xs : List X) (j : ℕ) (x : X) (old now next : List ℕ)
+    → j < length xs → x ≡ get_or xs j x
+    → now ≡ old ++ lines k (map f (take j xs)) → next ≡ now ++ node_text k (f x)
+    → next ≡ old ++ lines k (map f (take (j + 1) xs))
 mapped_more k f xs j x old now next l is e g =
     let longer : take (j + 1) xs ≡ take j xs ++ x ∷ [] = take_more xs j x l ∙ ap (λ z. take j xs ++ z ∷ []) (sym is) in
     let both = lines_append k (map f (take j xs)) (f x ∷ []) old now next e (one_line k (f x) now next g) in
@@ -43,13 +46,15 @@ next_period p first place old now next l e g =
 
 -- all periods up to a place
 pub all_periods : (p : Part) (first last place : ℕ) (old now : List ℕ) → last ≤ place → place ≤ last
-    → now ≡ old ++ lines 4 (period_nodes p first (place - first)) → now ≡ old ++ lines 4 (period_nodes p first (last - first))
+    → now ≡ old ++ lines 4 (period_nodes p first (place - first))
+    → now ≡ old ++ lines 4 (period_nodes p first (last - first))
 all_periods p first last place old now l m e =
     let same : place ≡ last = omega (arith, l, m) in
     e ∙ ap (λ n. old ++ lines 4 (period_nodes p first (n - first))) same
 
 -- the periods of a payment, by the places that the code counts
-pub periods_paid : (p : Part) (y : PaymentEntry) (first last : ℕ) (a b : List ℕ) → IsPaid y → first ≡ y.first_period - 1 → last ≡ y.last_period
+pub periods_paid : (p : Part) (y : PaymentEntry) (first last : ℕ) (a b : List ℕ) → IsPaid y → first ≡ y.first_period - 1
+    → last ≡ y.last_period
     → b ≡ a ++ lines 4 (period_nodes p first (last - first))
     → b ≡ a ++ lines 4 (period_nodes p (y.first_period - 1) (y.last_period + 1 - y.first_period))
 periods_paid p y first last a b h e f g =

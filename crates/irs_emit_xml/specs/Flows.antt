@@ -1,4 +1,5 @@
--- The cash flows of a schedule as elements of FpML, in the order that FpML's schema has for them. There is an element for
+-- The cash flows of a schedule as elements of FpML, in the order that FpML's schema has for them. There is an element
+-- for
 -- each field that is known, and no other.
 use Rattle.std.specs.Fmt.{signed_decimal}
 use Rattle.std.specs.Prelude.{ℕ, zero, suc, ◌+◌, ◌-◌, ◌^◌, List, [], ◌∷◌, ◌++◌, map, Option, Some, None, ℤ, pos, ◌*ℤ◌}

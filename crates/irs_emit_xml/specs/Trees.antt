@@ -59,7 +59,8 @@ quoted word = 34 ∷ (word ++ 34 ∷ [])
 
 -- the XML declaration and the end of its line
 unfoldable pub declared_text : List ℕ
-declared_text = codes "<?xml version=" ++ (quoted (codes "1.0") ++ (codes " encoding=" ++ (quoted (codes "UTF-8") ++ (codes "?>" ++ 10 ∷ []))))
+declared_text = codes "<?xml version="
+    ++ (quoted (codes "1.0") ++ (codes " encoding=" ++ (quoted (codes "UTF-8") ++ (codes "?>" ++ 10 ∷ []))))
 
 -- the namespace of FpML 5, the view for confirmation
 abbrev pub fpml_namespace : List ℕ
@@ -88,7 +89,8 @@ abbrev pub is_name : List ℕ → Bool
 is_name [] = false
 is_name (c ∷ cs) = is_letter c && list_all is_letter cs
 
--- an ASCII character that can be written as itself: from the space to `~`, but not `&`, `<`, or `]`, which might begin `]]>`
+-- an ASCII character that can be written as itself: from the space to `~`, but not `&`, `<`, or `]`, which might begin
+-- `]]>`
 unfoldable pub is_plain : ℕ → Bool
 is_plain c = is_in_range 32 126 c && (not (c == 38) && (not (c == 60) && not (c == 93)))
 

@@ -17,7 +17,7 @@ pub fn payment_places(alloc: Global, s: &Stream, boundaries: &[Day]) -> Result<V
     ensures { IfOk result (λ v. AreCuts s.now boundaries.now (length boundaries.now) v.items) }
 {
     let anchor = payment_anchor(s, boundaries);
-    let mut places = Vec::new(alloc);
+    let mut places = Vec::with_capacity(alloc, boundaries.len())?;
     places.push(0)?;
     for i in 1..boundaries.len() {
         if ends_payment(s, &anchor, boundaries[i]) {

@@ -106,7 +106,7 @@ fn payments_at<G: GoodDays>(
     requires short { length places.now < 2 ^ 32 }
     ensures { Meets (paid_at s.now (G.days days.now) unadjusted.now adjusted.now places.now) result }
 {
-    let mut list = Payments::new(alloc);
+    let mut list = Payments::with_room(alloc, places.len())?;
     let mut beyond = None;
     for j in 1..places.len() {
         let payment = payment(s, unadjusted, adjusted, places, j, days);

@@ -3,20 +3,32 @@
 //! DATE is `YYYY-MM-DD` in range. RATE is a decimal of 9 places and at most 10 in size. TENOR is `-`
 //! or a frequency other than the term. INDEX is the rest of the line, at least one byte and at most
 //! [`MOST_INDEX`], none of them a control byte. The format is our rule.
-ghost use Rattle.std.specs.Prelude.{◌≢◌, ◌↔◌, ◌≤◌, ℕ, ℤ, List, All, IsTrue, IfSome, IfNone};
-ghost use Rattle.irs_resets.specs.FixingLines.{IsRateText, IsIndexText, Spells};
+ghost use Rattle.std.specs.Prelude.{◌≡◌, ◌≢◌, ◌↔◌, ◌≤◌, ℕ, ℤ, List, Option, All, IsTrue, IfSome, IfNone};
+ghost use Rattle.irs_terms.specs.declared.frequency.Frequency.{Frequency as AtTenor};
+ghost use Rattle.irs_resets.specs.FixingLines.{IsRateText, IsIndexText, IsTail, Spells};
 ghost use Rattle.irs_resets.specs.declared.store.Slot.{Slot as AtSlot};
 
 use crate::store::Slot;
-use crate::tenors::tenor;
+use crate::tenors::{IndexTenor, tenor};
 use crate::words::{first_word, trim_end};
 use irs_base::{MOST_INDEX, MOST_RATE, date, read_dec};
+
+/// What a line says from its third word on.
+#[derive(Clone, Copy)]
+pub struct Tail<'a> {
+    /// Those bytes.
+    pub text: &'a [u8],
+    /// TENOR.
+    pub tenor: IndexTenor,
+    /// INDEX, by its bytes.
+    pub index: &'a [u8],
+}
 
 /// What a line says.
 #[derive(Clone, Copy)]
 pub struct FixingLine<'a> {
-    /// INDEX, by its bytes.
-    pub index: &'a [u8],
+    /// TENOR and INDEX, with the bytes that say them.
+    pub tail: Tail<'a>,
     /// DATE and TENOR.
     pub slot: Slot,
     /// RATE, in units of 10^-9.
@@ -47,24 +59,53 @@ fn is_index(bytes: &[u8]) -> bool
     !bytes.is_empty() && bytes.len() <= MOST_INDEX && has_no_control(bytes)
 }
 
-/// The fixing that the line spells; `None` where it spells none.
-pub fn fixing_line(line: &[u8]) -> Option<FixingLine<'_>>
-    ensures some { IfSome result (λ f. Spells line.now f.index.now f.slot f.rate) }
-    ensures none { IfNone result ((index : List ℕ) (slot : AtSlot) (rate : ℤ) → Spells line.now index slot rate → ⊥) }
+// The tenor and the index that the bytes spell.
+fn tail_of(text: &[u8]) -> Option<Tail<'_>>
+    ensures some { IfSome result (λ t. (t.text.now ≡ text.now) × IsTail t.text.now t.tenor t.index.now) }
+    ensures none { IfNone result ((tenor : Option AtTenor) (index : List ℕ) → IsTail text.now tenor index → ⊥) }
 {
-    let (date_text, rest) = first_word(line);
-    let (rate_text, rest) = first_word(rest);
-    let (tenor_text, rest) = first_word(rest);
+    let (tenor_text, rest) = first_word(text);
     let index = trim_end(rest);
-    let date = date(date_text)?;
-    let rate = rate(rate_text)?;
     let tenor = tenor(tenor_text)?;
     if !is_index(index) {
         return None;
     }
+    Some(Tail { text, tenor, index })
+}
+
+// The same, where another line may end with the same bytes.
+fn tail_by<'a>(text: &'a [u8], last: Option<Tail<'a>>) -> Option<Tail<'a>>
+    requires { IfSome last (λ t. IsTail t.text.now t.tenor t.index.now) }
+    ensures some { IfSome result (λ t. (t.text.now ≡ text.now) × IsTail t.text.now t.tenor t.index.now) }
+    ensures none { IfNone result ((tenor : Option AtTenor) (index : List ℕ) → IsTail text.now tenor index → ⊥) }
+{
+    if let Some(tail) = last {
+        if tail.text == text {
+            return Some(tail);
+        }
+    }
+    tail_of(text)
+}
+
+/// The fixing that the line spells; `None` where it spells none. `last` is what another line says from its
+/// third word on: most lines of a file end as the one before.
+pub fn fixing_line<'a>(line: &'a [u8], last: Option<Tail<'a>>) -> Option<FixingLine<'a>>
+    requires { IfSome last (λ t. IsTail t.text.now t.tenor t.index.now) }
+    ensures tail { IfSome result (λ f. IsTail f.tail.text.now f.tail.tenor f.tail.index.now) }
+    ensures some { IfSome result (λ f. Spells line.now f.tail.index.now f.slot f.rate) }
+    ensures none { IfNone result ((index : List ℕ) (slot : AtSlot) (rate : ℤ) → Spells line.now index slot rate → ⊥) }
+{
+    let (date_text, rest) = first_word(line);
+    let (rate_text, rest) = first_word(rest);
+    let date = date(date_text)?;
+    let rate = rate(rate_text)?;
+    let tail = tail_by(rest, last)?;
     Some(FixingLine {
-        index,
-        slot: Slot { date, tenor },
+        tail,
+        slot: Slot {
+            date,
+            tenor: tail.tenor,
+        },
         rate,
     })
 }

@@ -11,11 +11,12 @@ ghost use Rattle.irs_terms.specs.Lawful.{IsRate};
 ghost use Rattle.std.specs.Map.{lookup};
 ghost use Rattle.std.specs.Str.{bytes_eq};
 ghost use Rattle.irs_resets.specs.Rates.{SameRates, rate_at, rate_of};
+ghost use Rattle.irs_resets.specs.FixingLines.{IsTail};
 ghost use Rattle.irs_resets.specs.FixingFiles.{HasNewRate, IsSpelt, StopsAt};
 ghost use Rattle.irs_resets.specs.Outcomes.{DeterminedUpTo, MeetsFile, fixings_of, line_of};
 ghost use Rattle.irs_resets.specs.declared.fixings.FixErr.TheVariants.{Memory as OfMemory};
 
-use crate::fixing_line::fixing_line;
+use crate::fixing_line::{Tail, fixing_line};
 use crate::store::{Rates, Slot, Table};
 use crate::words::is_passed;
 use irs_base::{Day, Memory, Text, split_line};
@@ -65,17 +66,27 @@ impl Model for Fixings {
     ghost invariant = { λ f. AreSmall (or_empty f.table) };
 }
 
-fn read_line(alloc: Global, mut table: Table, line: &[u8], number: u32) -> Result<Table, FixErr>
+// Reads a line into the table. `last` is how an earlier line ends, and then how this one does.
+fn read_line<'a>(
+    alloc: Global,
+    mut table: Table,
+    line: &'a [u8],
+    number: u32,
+    last: &mut Option<Tail<'a>>,
+) -> Result<Table, FixErr>
+    requires { IfSome last.old (λ t. IsTail t.text.now t.tenor t.index.now) }
+    ensures tail { IfSome last.new (λ t. IsTail t.text.now t.tenor t.index.now) }
     ensures meets { MeetsFile (line_of table line.now number) result }
     ensures memory { IsErrOf result OfMemory → HasNewRate table line.now }
 {
     if is_passed(line) {
         return Ok(table);
     }
-    let Some(fixing) = fixing_line(line) else {
+    let Some(fixing) = fixing_line(line, *last) else {
         return Err(FixErr::Syntax(number));
     };
-    let is_new = table.add(alloc, fixing.index, fixing.slot, fixing.rate)?;
+    *last = Some(fixing.tail);
+    let is_new = table.add(alloc, fixing.tail.index, fixing.slot, fixing.rate)?;
     if is_new {
         Ok(table)
     } else {
@@ -103,10 +114,11 @@ impl Fixings {
         let mut table = Table::new(alloc);
         let mut rest = bytes;
         let mut before: u32 = 0;
+        let mut last = None;
         while !rest.is_empty() {
             let (line, more) = split_seen(rest, before);
             before += 1;
-            table = read_line(alloc, table, line, before)?;
+            table = read_line(alloc, table, line, before, &mut last)?;
             rest = more;
         }
         Ok(Fixings { table: Some(table) })
@@ -185,7 +197,7 @@ pub fn fixings_are_determined(bytes: &[u8])
 fn is_spelt(line: &[u8]) -> bool
     ensures { IsTrue result ↔ IsSpelt line.now }
 {
-    match fixing_line(line) {
+    match fixing_line(line, None) {
         Some(_) => true,
         None => false,
     }

@@ -1,6 +1,7 @@
 //! The good business days of the streams of a swap. Each list of centres is looked up in the calendars once,
 //! however many elements and streams have it.
-ghost use Rattle.std.specs.Prelude.{◌≡◌, ◌↔◌, ℕ, Contains, Some, option_copied, IfOk, IsSome, IfSome, OnOk, slice_get};
+ghost use Rattle.std.specs.Prelude.{◌≡◌, ◌↔◌, ℕ, Contains, Some, option_copied, IfOk, IsSome, IsTrue, IfSome, OnOk};
+ghost use Rattle.std.specs.Prelude.{slice_get};
 ghost use Rattle.irs_terms.specs.Lawful.{IsLawful, IsLawfulStream};
 ghost use Rattle.irs_terms.specs.declared.stream.Stream.{Stream as StreamTerms};
 ghost use Rattle.irs_schedule.specs.DaySets.{applicable_days, boundary_days, payment_days, reset_days, fixing_days};
@@ -19,7 +20,7 @@ use std::marker::Model;
 /// The good business days of the lists of centres that the elements of a swap name, each list once. Contracts
 /// see the sections of the calendars and the lists.
 #[derive(Drop)]
-pub(crate) struct CenterTable<'cal, 'swap> {
+pub struct CenterTable<'cal, 'swap> {
     cal: &'cal Calendars,
     found: Vec<CenterDays<'cal, 'swap>>,
 }
@@ -55,6 +56,23 @@ pub(crate) struct StreamDays<'a> {
 }
 
 impl<'cal, 'swap> CenterTable<'cal, 'swap> {
+    /// The table without lists over these calendars; it takes no memory.
+    pub fn none(alloc: Global, cal: &'cal Calendars) -> CenterTable<'cal, 'swap>
+        ensures { result.sections ≡ cal.now }
+    {
+        CenterTable {
+            cal,
+            found: Vec::new(alloc),
+        }
+    }
+
+    /// The calendars in which the lists of centres are looked up.
+    pub fn calendars(&self) -> &Calendars
+        ensures { result.now ≡ self.now.sections }
+    {
+        self.cal
+    }
+
     /// The good business days of every element of the swap, whose centres are all in the calendars.
     pub(crate) fn new(
         alloc: Global,
@@ -65,14 +83,55 @@ impl<'cal, 'swap> CenterTable<'cal, 'swap> {
         requires kept { (i : ℕ) (s : StreamTerms) → slice_get swap.now.streams i ≡ Some s → TermsKept cal.now s }
         ensures { IfOk result (HasSwap cal.now swap.now) }
     {
-        let mut table = CenterTable {
-            cal,
-            found: Vec::new(alloc),
-        };
+        let mut table = CenterTable::none(alloc, cal);
         for s in swap.streams.as_slice() {
             table.add_stream(alloc, s)?;
         }
         Ok(table)
+    }
+
+    /// Whether the table has the names of each element of the swap.
+    pub(crate) fn has_swap(&self, swap: &Swap) -> bool
+        ensures { IsTrue result → HasSwap self.now.sections swap.now self.now }
+    {
+        for s in swap.streams.as_slice() {
+            if !self.has_stream(s) {
+                return false;
+            }
+        }
+        true
+    }
+
+    // Whether the table has the names of each element of the stream.
+    fn has_stream(&self, s: &Stream) -> bool
+        ensures { IsTrue result → HasStream self.now s.now }
+    {
+        if !self.has(names_by(&s.first_date().adj)) {
+            return false;
+        }
+        if !self.has(names_by(&s.termination.adj)) {
+            return false;
+        }
+        if !self.has(names_by(&s.period_adj)) {
+            return false;
+        }
+        if !self.has(names_with(s.pay.offset, &s.pay.adj)) {
+            return false;
+        }
+        if !self.has(reset_names(&s.reset)) {
+            return false;
+        }
+        if !self.has(fixing_names(&s.reset)) {
+            return false;
+        }
+        self.has(applicable_names(&s.leg))
+    }
+
+    // Whether the table has these names.
+    fn has(&self, names: Option<&Names>) -> bool
+        ensures { IsTrue result ↔ Contains self.now.lists (option_copied names.entry) }
+    {
+        self.get(names).is_some()
     }
 
     /// The good business days of a stream of the swap.
@@ -118,7 +177,7 @@ impl<'cal, 'swap> CenterTable<'cal, 'swap> {
         requires { CanFind self.old.sections (option_copied names) }
         ensures { OnOk result (HasMore (option_copied names.entry) self.old self.new) }
     {
-        if self.get(names).is_some() {
+        if self.has(names) {
             return Ok(());
         }
         let days = CenterDays::find(alloc, self.cal, names)?;

@@ -19,8 +19,9 @@ mod views;
 mod walking;
 
 pub use center_days::{CenterDays, applicable_days, reset_days};
+pub use center_table::CenterTable;
 pub use entries::{PaymentEntry, PeriodEntry};
-pub use making::{SchedErr, make_schedule, schedule_is_determined};
+pub use making::{SchedErr, find_centers, make_schedule, make_schedule_by, schedule_is_determined};
 pub use row::Row;
 pub use schedule::{Rows, Schedule};
 pub use streams::StreamPart;

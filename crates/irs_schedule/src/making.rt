@@ -21,7 +21,7 @@ use crate::Schedule;
 use crate::center_table::{CenterTable, StreamDays};
 use crate::stream::stream_part;
 use crate::streams::StreamPart;
-use irs_base::{Broken, Stopped};
+use irs_base::{Broken, Memory, Stopped};
 use irs_calendar::Calendars;
 use irs_resets::Fixings;
 use irs_terms::{Stream, Swap};
@@ -50,6 +50,42 @@ pub fn make_schedule(
 {
     let table = CenterTable::new(alloc, swap, cal)?;
     schedule_by(alloc, swap, &table, fix)
+}
+
+/// The good business days of the lists of centres that a lawful swap names, which breaks no rule of its terms.
+/// `make_schedule_by` needn't look up these lists again for another swap. `Memory` comes only where memory ran
+/// out.
+pub fn find_centers<'cal, 'swap>(
+    alloc: Global,
+    swap: &'swap Swap,
+    cal: &'cal Calendars,
+) -> Result<CenterTable<'cal, 'swap>, Memory>
+    requires lawful { IsLawful swap.now }
+    requires terms { (f : BrokenRule) → BreaksTerms swap.now cal.now f → ⊥ }
+    ensures { IfOk result (λ t. t.sections ≡ cal.now) }
+{
+    let table = CenterTable::new(alloc, swap, cal)?;
+    Ok(table)
+}
+
+/// What `make_schedule` gives with the calendars of the table. Where the table has each list of centres that the
+/// swap names, none is looked up again.
+pub fn make_schedule_by(
+    alloc: Global,
+    swap: &Swap,
+    table: &CenterTable<'_, '_>,
+    fix: &Fixings,
+) -> Result<Schedule, SchedErr>
+    requires lawful { IsLawful swap.now }
+    requires terms { (f : BrokenRule) → BreaksTerms swap.now table.now.sections f → ⊥ }
+    ensures meets { Meets (schedule_of swap.now table.now.sections fix.now) result }
+    ensures ok { IfOk result (IsSchedule swap.now table.now.sections fix.now) }
+{
+    if table.has_swap(swap) {
+        schedule_by(alloc, swap, table, fix)
+    } else {
+        make_schedule(alloc, swap, table.calendars(), fix)
+    }
 }
 
 /// A law: a swap has one schedule, or one first rule that it breaks. Where it breaks none, exactly one

@@ -34,8 +34,8 @@ HasNoLine rates f = rate_at rates f.index (record { date = f.day; tenor = f.teno
 
 -- ---- by the fixing date of a reset
 
--- the rate of period i, of this kind, is the line of an index and a tenor on the fixing date of its reset: those of
--- the stream, or those that are given for the stub that it is
+-- the rate of period i, of this kind, is the line of an index and a tenor on the fixing date of its reset. They are
+-- those of the stream, or those that are given for the stub that it is
 pub record RestsOnReset (kind : PeriodKind) (float : FloatTerms) (stubs : Option StubTerms) (resets : List Reset) (i : ℕ)
     (f : Fixing) : Type 0 where
   pub comes_from : ComesFrom kind float stubs (Line f.index f.tenor)
@@ -80,7 +80,7 @@ abbrev pub RestsIn : Leg → List Section → RateTable → Stream → Part → 
 RestsIn (Fixed values) cal rates s p i f = ⊥
 RestsIn (Floating float) cal rates s p i f = FloatsOn float cal rates s p i f
 
--- the rate of period i of the stream s, whose part of the schedule is p, lacks this fixing: it rests on it, and no
+-- the rate of period i of the stream s, whose part of the schedule is p, lacks this fixing. It rests on it, and no
 -- line of the fixings has it
 pub record LacksFixing (cal : List Section) (rates : RateTable) (s : Stream) (p : Part) (i : ℕ) (f : Fixing) : Type 0 where
   pub rests : RestsIn s.leg cal rates s p i f

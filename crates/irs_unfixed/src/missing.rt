@@ -1,8 +1,8 @@
 //! The fixing that the first payment without an amount lacks.
 //!
-//! The rate of a calculation period is the line of an index and a tenor on its fixing date, or by the daily
-//! rates of its observation days. Where a line is absent, the rate isn't known, and neither is the amount of
-//! the payment. The first such payment names the fixing to look for first: that is our rule.
+//! The rate of a calculation period is the line of an index and a tenor on its fixing date. With daily rates
+//! it is that of its observation days. Where a line is absent, the rate isn't known, and neither is the amount
+//! of the payment. The first such payment names the fixing to look for first: that is our rule.
 ghost use Rattle.std.specs.Prelude.{◌≡◌, IfNone, IfOk, IfSome};
 ghost use Rattle.irs_unfixed.specs.Missing.{IsFirstMissing, IsMadeFrom, PaymentLacks, fixing_of, place_of, made_from};
 ghost use Rattle.irs_unfixed.specs.Unfixed.{EachHasAmount, UnfixedAt};
@@ -36,9 +36,9 @@ pub struct Missing<'a> {
 /// lacks. `None` comes exactly where every payment has its amount.
 ///
 /// The fixing is that of the payment's first calculation period whose rate isn't known. It is the line of the
-/// stream's index and tenor on the fixing date of the period's reset, or of those that are given for a stub
-/// (FpML `stubCalculationPeriodAmount`). With `calculationParameters` it is the index with the tenor 1D on the
-/// first observation day that has no rate. No line of the fixings has it.
+/// stream's index and tenor on the fixing date of the period's reset. For a stub it may be that of others, which
+/// are given for it (FpML `stubCalculationPeriodAmount`). With `calculationParameters` it is the index with the
+/// tenor 1D on the first observation day that has no rate. No line of the fixings has it.
 ///
 /// The calendars and the fixings are those by which the schedule was made. `Memory` says that memory ran out.
 /// It is taken for a stream with `calculationParameters` alone.

@@ -1,6 +1,7 @@
 -- Private: no public contract rests on this file.
 -- The texts of cash flows, piece by piece: what the code appends for each part of the value.
-use Rattle.std.specs.Prelude.{ℕ, Bool, true, false, ◌&&◌, ◌≡◌, not, ◌==◌, List, [], ◌∷◌, ◌++◌, codes, map, Option, Some, None}
+use Rattle.std.specs.Prelude.{ℕ, Bool, true, false, ◌&&◌, ◌≡◌, not, ◌==◌, List, [], ◌∷◌, ◌++◌, codes, map, Option, Some}
+use Rattle.std.specs.Prelude.{None}
 use Rattle.std.specs.Prelude.{option_map}
 use Rattle.std.specs.Int.{is_in_range}
 use Rattle.std.specs.List.{list_all}
@@ -14,8 +15,8 @@ use Rattle.serde_json.specs.Written.{comma_if, compact_text}
 
 -- ---- characters
 
--- a character of a leaf: a digit, a capital letter, `-` or `.`, or another from the space to `~` that needs no escape
--- in JSON or in XML
+-- a character of a leaf: a digit, a capital letter, `-` or `.`. Others from the space to `~` are plain too, where
+-- neither JSON nor XML escapes them
 unfoldable pub is_plain : ℕ → Bool
 is_plain c =
     is_in_range 32 126 c
@@ -27,12 +28,12 @@ ArePlain cs = list_all is_plain cs ≡ true
 
 -- ---- lists
 
--- values one after another, with a comma between them, and one before the first where something stands before it
+-- values one after another, with a comma between them, and one before the first where something is before it
 abbrev pub listed_text : Bool → List Data → List ℕ
 listed_text later [] = []
 listed_text later (d ∷ ds) = comma_if later ++ (compact_text d ++ listed_text true ds)
 
--- whether something stands before what comes after these values
+-- whether something is before what comes after these values
 abbrev pub is_later : Bool → List Data → Bool
 is_later later [] = later
 is_later later (d ∷ ds) = true

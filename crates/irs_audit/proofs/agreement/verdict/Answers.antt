@@ -9,4 +9,4 @@ unfixed_count-requires c =
     rw c.streams-parts.ensures.value (unfixed_count_fits c.args.s.now c.streams-parts.ensures.bounds)
 
 pub returns-in-Some : goal.returns-in-Some
-returns-in-Some c = rw (c.streams.ensures, c.streams-parts.ensures.value) at c.in-Some.ensures
+returns-in-Some c = rw c.streams-parts.ensures.value at c.in-Some.ensures

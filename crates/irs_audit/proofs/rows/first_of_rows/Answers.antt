@@ -1,4 +1,5 @@
 use Rattle.std.proofs.Common.{arith}
+use Rattle.irs_audit.specs.Private.StatedRows.{rows_in}
 use Rattle.irs_audit.proofs.BoundLemmas.{payments_few}
 use Rattle.irs_audit.proofs.RowLemmas.{stream_first}
 use Rattle.irs_audit.proofs.rows.first_of_rows.Goals as goal
@@ -16,7 +17,7 @@ overflow_add-payments c =
 pub returns : goal.returns
 returns c =
     rw (c.or-3.ensures, c.or-2.ensures, c.or.ensures)
-    (stream_first c.args.stream c.args.ours.now c.args.theirs.now c.first_row.result c.first_row-2.result
+    (stream_first c.args.stream c.args.ours.now (rows_in c.args.theirs.now) c.first_row.result c.first_row-2.result
     c.first_row-3.result c.first_row-4.result c.payments.ensures.bounds
     (rw c.exchanges.ensures.value at c.first_row.ensures) (rw c.payments.ensures.value at c.first_row-2.ensures)
     (rw c.periods-periods.ensures.count at c.first_row-3.ensures)

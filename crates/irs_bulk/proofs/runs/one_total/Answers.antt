@@ -1,6 +1,3 @@
-use Rattle.std.proofs.Common.{List, subst}
-use Rattle.irs_audit.specs.FlowParts.{FlowPart}
-use Rattle.irs_audit.specs.Verdicts.{IsVerdict}
 use Rattle.irs_answers.specs.Outcomes.{Ends, IfRefused}
 use Rattle.irs_answers.proofs.StepLemmas.{refused_by}
 use Rattle.irs_bulk.specs.BulkRuns.{DueAt}
@@ -29,9 +26,7 @@ returns-clause-adds c = record {
   of_document = c.in_ok-schedule.ensures.schedule;
   plain = c.in_ok-plain.plain;
   of_plain = c.in_ok-plain.ensures.schedule;
-  verdict = c.audit.result;
-  is_verdict =
-      subst (λ (f : List FlowPart). IsVerdict f c.in_ok-schedule.schedule c.audit.result) c.in_ok-flows.ensures.value
-      c.audit.ensures.verdict;
+  verdict = c.audit_stated.result;
+  is_verdict = c.audit_stated.ensures;
   adds = c.totals_by.ensures.value;
 }

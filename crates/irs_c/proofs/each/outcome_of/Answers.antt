@@ -22,7 +22,7 @@ returns-in_err-append-2-clause-no_text c =
     c.from_residual-in_err-append-2.result c.in_err-append-2.field-0.0 _ _ c.in-Ok.is
     c.from_residual-in_err-append-2.ensures.1 c.in_err-append-2.ensures.err c.in_err-append-2.ensures.same
 
--- the slot has the lengths of what was told
+-- the slot has the lengths of the text and the sentence
 slot : (told : Told) (n m : ℕ) → n ≡ vec_len told.text → m ≡ vec_len told.sentence
     → ◌≡◌ {A = Answer} (record { status = told.status; text = n; sentence = m }) (slot_of (outcome_by told))
 slot told n m text sentence = cc

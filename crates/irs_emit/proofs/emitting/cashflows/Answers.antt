@@ -9,7 +9,8 @@ pub returns : goal.returns
 returns c =
     let p = c.args.part.now in
     twice c.args.out.now.items c.extend_from_slice.new.self.items c.extend_from_slice-3.new.self.items
-    (codes "{\"cashflowsMatchParameters\":\"true\",\"paymentCalculationPeriod\":[") _ c.in_ok-extend_from_slice.ensures.items
+    (codes "{\"cashflowsMatchParameters\":\"true\",\"paymentCalculationPeriod\":[") _
+    c.in_ok-extend_from_slice.ensures.items
     (twice c.extend_from_slice.new.self.items c.payments.new.out.items c.extend_from_slice-3.new.self.items
     (listed_text false (map (payment_value p) p.payments)) _ c.in_ok-payments.ensures
     (twice c.payments.new.out.items c.extend_from_slice-2.new.self.items c.extend_from_slice-3.new.self.items

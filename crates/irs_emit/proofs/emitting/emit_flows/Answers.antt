@@ -13,7 +13,8 @@ text_of c =
     let s = c.args.s.now in
     let a = c.extend_from_slice.new.self.items in
     let start : a ≡ codes "{\"swap\":{\"swapStream\":[" =
-    c.in_ok-extend_from_slice.ensures.items ∙ ap (λ t. t ++ codes "{\"swap\":{\"swapStream\":[") c.new-out.ensures.items in
+    c.in_ok-extend_from_slice.ensures.items
+    ∙ ap (λ t. t ++ codes "{\"swap\":{\"swapStream\":[") c.new-out.ensures.items in
     let streams : c.streams-2.new.out.items ≡ a ++ listed_text false (map stream_value s) =
     c.in_ok-streams.ensures ∙ ap (λ ps. a ++ listed_text false (map stream_value ps)) c.streams.ensures.value in
     twice a c.streams-2.new.out.items c.extend_from_slice-2.new.self.items (listed_text false (map stream_value s))

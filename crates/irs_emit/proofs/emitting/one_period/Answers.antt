@@ -22,7 +22,8 @@ returns-in_ok-period-in-Some-clause-text c =
     let j = c.args.place in
     let reset : option_map (λ r. r.now) c.get.result ≡ slice_get p.resets j =
     found c.resets.result.now j c.get.result look.1 look.3 ∙ ap (λ rs. slice_get rs j) c.resets.ensures.value in
-    let row = c.in_ok-period-in-Some.ensures ∙ ap (λ o. c.comma.new.out.items ++ compact_text (period_value c.in-Some.x o)) reset in
+    let row = c.in_ok-period-in-Some.ensures
+    ∙ ap (λ o. c.comma.new.out.items ++ compact_text (period_value c.in-Some.x o)) reset in
     period_listed p j c.in-Some.x c.args.later c.args.out.now.items c.comma.new.out.items c.period-in-Some.new.out.items
     c.in-Some.ensures.value c.in_ok-comma-in-Some.ensures row
 

@@ -10,5 +10,6 @@ returns c =
     twice c.args.out.now.items c.extend_from_slice.new.self.items c.extend_from_slice-2.new.self.items
     (codes "{\"cashflows\":") _ c.in_ok-extend_from_slice.ensures.items
     (twice c.extend_from_slice.new.self.items c.cashflows.new.out.items c.extend_from_slice-2.new.self.items
-    (compact_text (cashflows_value c.args.part.now)) (codes "}") c.in_ok-cashflows.ensures c.in_ok-extend_from_slice-2.ensures.items)
+    (compact_text (cashflows_value c.args.part.now)) (codes "}") c.in_ok-cashflows.ensures
+    c.in_ok-extend_from_slice-2.ensures.items)
     ∙ ap (λ t. c.args.out.now.items ++ t) (stream_text c.args.part.now)

@@ -12,7 +12,8 @@ unfolding period_back
 returns c =
     let x = c.args.x.now in
     let notional_fits : FitsSigned w128 x.notional = search rules in
-    let notional : c.notional.new.out.items ≡ c.extend_from_slice.new.self.items ++ compact_text (notional_leaf x.notional) =
+    let notional : c.notional.new.out.items ≡ c.extend_from_slice.new.self.items
+    ++ compact_text (notional_leaf x.notional) =
     simp to_z-of_z at c.in_ok-notional.ensures in
     twice c.args.out.now.items c.extend_from_slice.new.self.items c.extend_from_slice-4.new.self.items
     (codes "\"notionalAmount\":") _ c.in_ok-extend_from_slice.ensures.items

@@ -17,5 +17,6 @@ returns c =
     (twice c.known_rate.new.out.items c.extend_from_slice-2.new.self.items c.extend_from_slice-3.new.self.items
     (codes "\"rateObservation\":") _ c.in_ok-extend_from_slice-2.ensures.items
     (twice c.extend_from_slice-2.new.self.items c.observation.new.out.items c.extend_from_slice-3.new.self.items
-    (compact_text (observation_value c.args.r.now)) (codes "}") c.in_ok-observation.ensures c.in_ok-extend_from_slice-3.ensures.items)))
+    (compact_text (observation_value c.args.r.now)) (codes "}") c.in_ok-observation.ensures
+    c.in_ok-extend_from_slice-3.ensures.items)))
     ∙ ap (λ t. c.args.out.now.items ++ t) (definition_text x c.args.r.now)

@@ -21,4 +21,5 @@ returns c =
     (twice c.amount.new.out.items c.extend_from_slice-3.new.self.items c.extend_from_slice-4.new.self.items
     (codes ",\"unadjustedPrincipalExchangeDate\":") _ c.in_ok-extend_from_slice-3.ensures.items
     (twice c.extend_from_slice-3.new.self.items c.day-2.new.out.items c.extend_from_slice-4.new.self.items
-    (compact_text (day_leaf x.unadjusted)) (codes "}") c.in_ok-day-2.ensures c.in_ok-extend_from_slice-4.ensures.items)))))
+    (compact_text (day_leaf x.unadjusted)) (codes "}") c.in_ok-day-2.ensures
+    c.in_ok-extend_from_slice-4.ensures.items)))))

@@ -16,5 +16,6 @@ returns c =
     (twice c.known_amount.new.out.items c.extend_from_slice-2.new.self.items c.extend_from_slice-3.new.self.items
     (codes "\"currency\":") _ c.in_ok-extend_from_slice-2.ensures.items
     (twice c.extend_from_slice-2.new.self.items c.currency.new.out.items c.extend_from_slice-3.new.self.items
-    (compact_text (currency_leaf c.args.of)) (codes "}") c.in_ok-currency.ensures c.in_ok-extend_from_slice-3.ensures.items)))
+    (compact_text (currency_leaf c.args.of)) (codes "}") c.in_ok-currency.ensures
+    c.in_ok-extend_from_slice-3.ensures.items)))
     ∙ ap (λ t. c.args.out.now.items ++ t) (forecast_text c.args.of y)

@@ -29,4 +29,5 @@ returns c =
     (twice c.count.new.out.items c.extend_from_slice-4.new.self.items c.extend_from_slice-5.new.self.items
     (codes ",\"dayCountYearFraction\":") _ c.in_ok-extend_from_slice-4.ensures.items
     (twice c.extend_from_slice-4.new.self.items c.fraction.new.out.items c.extend_from_slice-5.new.self.items
-    (compact_text (fraction_leaf x.frac)) (codes ",") c.in_ok-fraction.ensures c.in_ok-extend_from_slice-5.ensures.items)))))))
+    (compact_text (fraction_leaf x.frac)) (codes ",") c.in_ok-fraction.ensures
+    c.in_ok-extend_from_slice-5.ensures.items)))))))

@@ -21,5 +21,6 @@ returns-clause-reads c = text_reads c.args.s.now c.close_tag.new.out.items c.str
 
 pub returns-clause-states : goal.returns-clause-states
 returns-clause-states c =
-    states c.args.s.now c.close_tag.new.out.items (text_reads c.args.s.now c.close_tag.new.out.items c.streams.ensures.bounds (text_of c))
+    states c.args.s.now c.close_tag.new.out.items
+    (text_reads c.args.s.now c.close_tag.new.out.items c.streams.ensures.bounds (text_of c))
     c.streams.ensures.bounds

@@ -6,14 +6,17 @@ use Rattle.irs_emit.proofs.Bounds.{paid_at}
 
 pub loop-j-preserved : goal.loop-j-preserved
 loop-j-preserved c =
-    mapped_more 3 (payment_node c.args.part.now) c.payments-paid.result.now c.loop-j.j c.index-paid-j.result c.args.out.now.items c.loop-j.out.items
+    mapped_more 3 (payment_node c.args.part.now) c.payments-paid.result.now c.loop-j.j c.index-paid-j.result
+    c.args.out.now.items c.loop-j.out.items
     c.payment.new.out.items c.loop-j-test.true c.index-paid-j.is c.loop-j.invariant c.in_ok-payment.ensures
 
 pub returns : goal.returns
 returns c =
-    let done = mapped_all 3 (payment_node c.args.part.now) c.payments-paid.result.now c.loop-j.j c.args.out.now.items c.loop-j.out.items c.loop-j-test.false
+    let done = mapped_all 3 (payment_node c.args.part.now) c.payments-paid.result.now c.loop-j.j c.args.out.now.items
+    c.loop-j.out.items c.loop-j-test.false
     c.loop-j.invariant in
-    done ∙ ap (λ xs. c.args.out.now.items ++ lines 3 (map (payment_node c.args.part.now) xs)) c.payments-paid.ensures.value
+    done ∙ ap (λ xs. c.args.out.now.items ++ lines 3 (map (payment_node c.args.part.now) xs))
+    c.payments-paid.ensures.value
 
 pub payment-requires : goal.payment-requires
 payment-requires c =

@@ -8,10 +8,12 @@ loop-place-init c =
 
 pub loop-place-preserved : goal.loop-place-preserved
 loop-place-preserved c =
-    next_period c.args.part.now c.args.first c.loop-place.place c.args.out.now.items c.loop-place.out.items c.one_period.new.out.items (omega arith)
+    next_period c.args.part.now c.args.first c.loop-place.place c.args.out.now.items c.loop-place.out.items
+    c.one_period.new.out.items (omega arith)
     c.loop-place.invariant c.in_ok-one_period.ensures
 
 pub returns : goal.returns
 returns c =
-    all_periods c.args.part.now c.args.first c.args.last c.loop-place.place c.args.out.now.items c.loop-place.out.items (omega arith) (omega arith)
+    all_periods c.args.part.now c.args.first c.args.last c.loop-place.place c.args.out.now.items c.loop-place.out.items
+    (omega arith) (omega arith)
     c.loop-place.invariant

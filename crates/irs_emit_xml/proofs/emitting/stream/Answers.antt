@@ -7,6 +7,8 @@ pub returns : goal.returns
 unfolding stream_node
 returns c =
     let p = c.args.part.now in
-    element_lines 1 (codes "swapStream") (cashflows_node p ∷ []) c.args.out.now.items c.open_tag.new.out.items c.cashflows.new.out.items
+    element_lines 1 (codes "swapStream") (cashflows_node p ∷ []) c.args.out.now.items c.open_tag.new.out.items
+    c.cashflows.new.out.items
     c.close_tag.new.out.items c.in_ok-open_tag.ensures
-    (one_line 2 (cashflows_node p) c.open_tag.new.out.items c.cashflows.new.out.items c.in_ok-cashflows.ensures) c.in_ok-close_tag.ensures
+    (one_line 2 (cashflows_node p) c.open_tag.new.out.items c.cashflows.new.out.items c.in_ok-cashflows.ensures)
+    c.in_ok-close_tag.ensures

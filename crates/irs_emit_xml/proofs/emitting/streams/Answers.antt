@@ -9,6 +9,7 @@ loop-j-preserved c =
 
 pub returns : goal.returns
 returns c =
-    let done = mapped_all 1 stream_node c.args.parts.now c.loop-j.j c.args.out.now.items c.loop-j.out.items c.loop-j-test.false
+    let done = mapped_all 1 stream_node c.args.parts.now c.loop-j.j c.args.out.now.items c.loop-j.out.items
+    c.loop-j-test.false
     c.loop-j.invariant in
     done

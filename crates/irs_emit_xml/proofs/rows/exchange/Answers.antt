@@ -9,9 +9,12 @@ returns c =
     let x = c.args.x.now in
     let adjusted = day_node (codes "adjustedPrincipalExchangeDate") x.adjusted in
     let amount = amount_node (codes "principalExchangeAmount") x.amount in
-    element_lines 3 (codes "principalExchange") (exchange_fields x) c.args.out.now.items c.open_tag.new.out.items c.amount.new.out.items c.close_tag.new.out.items
+    element_lines 3 (codes "principalExchange") (exchange_fields x) c.args.out.now.items c.open_tag.new.out.items
+    c.amount.new.out.items c.close_tag.new.out.items
     c.in_ok-open_tag.ensures
-    (then_lines 4 (day_node (codes "unadjustedPrincipalExchangeDate") x.unadjusted) (adjusted ∷ amount ∷ []) c.open_tag.new.out.items
+    (then_lines 4 (day_node (codes "unadjustedPrincipalExchangeDate") x.unadjusted) (adjusted ∷ amount ∷ [])
+    c.open_tag.new.out.items
     c.day.new.out.items c.amount.new.out.items c.in_ok-day.ensures
-    (then_lines 4 adjusted (amount ∷ []) c.day.new.out.items c.day-2.new.out.items c.amount.new.out.items c.in_ok-day-2.ensures
+    (then_lines 4 adjusted (amount ∷ []) c.day.new.out.items c.day-2.new.out.items c.amount.new.out.items
+    c.in_ok-day-2.ensures
     (one_line 4 amount c.day-2.new.out.items c.amount.new.out.items c.in_ok-amount.ensures))) c.in_ok-close_tag.ensures

@@ -7,7 +7,10 @@ pub returns : goal.returns
 unfolding forecast_node
 returns c =
     let y = c.args.y.now in
-    element_lines 4 (codes "forecastPaymentAmount") (forecast_fields c.args.of y) c.args.out.now.items c.open_tag.new.out.items
+    element_lines 4 (codes "forecastPaymentAmount") (forecast_fields c.args.of y) c.args.out.now.items
+    c.open_tag.new.out.items
     c.known_amount.new.out.items c.close_tag.new.out.items c.in_ok-open_tag.ensures
-    (then_lines 5 (currency_node (codes "currency") c.args.of) (known (amount_node (codes "amount")) y.amount) c.open_tag.new.out.items
-    c.currency.new.out.items c.known_amount.new.out.items c.in_ok-currency.ensures c.in_ok-known_amount.ensures) c.in_ok-close_tag.ensures
+    (then_lines 5 (currency_node (codes "currency") c.args.of) (known (amount_node (codes "amount")) y.amount)
+    c.open_tag.new.out.items
+    c.currency.new.out.items c.known_amount.new.out.items c.in_ok-currency.ensures c.in_ok-known_amount.ensures)
+    c.in_ok-close_tag.ensures

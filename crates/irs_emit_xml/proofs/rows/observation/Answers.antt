@@ -9,7 +9,8 @@ returns c =
     let r = c.args.r.now in
     let fixing = day_node (codes "adjustedFixingDate") r.fixing in
     let rate = known (rate_node (codes "observedRate")) r.observed in
-    element_lines 6 (codes "rateObservation") (observation_fields r) c.args.out.now.items c.open_tag.new.out.items c.known_rate.new.out.items
+    element_lines 6 (codes "rateObservation") (observation_fields r) c.args.out.now.items c.open_tag.new.out.items
+    c.known_rate.new.out.items
     c.close_tag.new.out.items c.in_ok-open_tag.ensures
     (then_lines 7 (day_node (codes "resetDate") r.reset) (fixing ∷ rate) c.open_tag.new.out.items c.day.new.out.items
     c.known_rate.new.out.items c.in_ok-day.ensures

@@ -3,5 +3,6 @@ use Rattle.irs_emit_xml.proofs.Lines.{close_pieces}
 
 pub returns : goal.returns
 returns c =
-    close_pieces c.args.level c.args.name.now c.args.out.now.items c.indent.new.out.items c.end_tag.new.out.items c.in_ok-indent.ensures
+    close_pieces c.args.level c.args.name.now c.args.out.now.items c.indent.new.out.items c.end_tag.new.out.items
+    c.in_ok-indent.ensures
     c.in_ok-end_tag.ensures

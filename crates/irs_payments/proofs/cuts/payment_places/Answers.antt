@@ -12,7 +12,7 @@ loop-i-init c =
     let s = c.args.s.now in
     let b = c.args.boundaries.now in
     let items : c.push.new.self.items ≡ 0 ∷ [] =
-    (c.in_ok-push.ensures {u = tt}).items ∙ ap (λ xs. xs ++ 0 ∷ []) c.new-places.ensures.items in
+    (c.in_ok-push.ensures {u = tt}).items ∙ ap (λ xs. xs ++ 0 ∷ []) (c.in_ok-places.ensures {u = tt}).items in
     subst (AreCuts s b 1) (sym items) (no_cuts s b)
 
 pub loop-i-preserved : goal.loop-i-preserved

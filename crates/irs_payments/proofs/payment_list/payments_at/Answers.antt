@@ -7,7 +7,7 @@ use Rattle.irs_payments.proofs.payment_list.payments_at.Goals as goal
 
 pub loop-j-init : goal.loop-j-init
 loop-j-init g c = record {
-  dated = rw c.new-list.ensures
+  dated = rw (c.in_ok-list.ensures {u = tt})
       (none_dated c.args.s.now (g.G.GoodDays.days c.args.days.now) c.args.unadjusted.now c.args.adjusted.now
       c.args.places.now c.requires.places);
   none = λ j low high _. omega (arith, low, high);
@@ -50,7 +50,7 @@ returns-in_err-beyond g c =
     let b = c.args.unadjusted.now in
     let a = c.args.adjusted.now in
     let cuts = c.args.places.now in
-    let p = err_from_is_err_and c.from_residual.result c.from_residual.ensures.1 in
+    let p = err_from_is_err_and c.from_residual-in_err-beyond.result c.from_residual-in_err-beyond.ensures.1 in
     rw (p.1, p.2)
     (handed_on c.in_err-beyond.field-0.0 _ (λ f. (n : ℕ) × IsDateFault s set a cuts n f)
     (lacking_breaks s set b a cuts c.loop-j.j c.payment-payment.result c.loop-j.auto.j c.loop-j-test.true

@@ -5,7 +5,7 @@ use Rattle.irs_resets.proofs.fixings.read_line.Goals as goal
 
 pub returns-in_err-is_new-clause-memory : goal.returns-in_err-is_new-clause-memory
 returns-in_err-is_new-clause-memory c = λ _. record {
-  index = c.in-Some.fixing.index.now;
+  index = c.in-Some.fixing.tail.index.now;
   slot = c.in-Some.fixing.slot;
   rate = c.in-Some.fixing.rate;
   spelt = c.in-Some.ensures.some;
@@ -20,7 +20,7 @@ returns-then-is_new-clause-meets c =
     let adds = rw c.if-is_new.true at c.in_ok-is_new.ensures.adds in
     inr (record {
       more = record {
-        index = c.in-Some.fixing.index.now;
+        index = c.in-Some.fixing.tail.index.now;
         slot = c.in-Some.fixing.slot;
         rate = c.in-Some.fixing.rate;
         spelt = spelt;
@@ -33,7 +33,7 @@ pub returns-else-is_new-clause-meets : goal.returns-else-is_new-clause-meets
 returns-else-is_new-clause-meets c = (
   refl,
   record {
-    index = c.in-Some.fixing.index.now;
+    index = c.in-Some.fixing.tail.index.now;
     slot = c.in-Some.fixing.slot;
     rate = c.in-Some.fixing.rate;
     spelt = c.in-Some.ensures.some;

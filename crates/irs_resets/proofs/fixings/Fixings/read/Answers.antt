@@ -29,6 +29,7 @@ loop-rest-preserved c = record {
       (seen_from (c.loop-rest.before + 1) (lines_of c.split_seen.result.1.now)) c.loop-rest.table c.in_ok-table.table
       c.loop-rest.invariant.so_far c.split_seen.ensures.lines c.in_ok-table.ensures.meets;
   room = omega (arith, c.split_seen.ensures.shorter, c.loop-rest.invariant.room);
+  tail = c.read_line.ensures.tail;
 }
 
 pub returns-clause-meets : goal.returns-clause-meets

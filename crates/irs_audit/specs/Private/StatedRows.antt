@@ -1,0 +1,19 @@
+-- Private: no public contract rests on this file.
+-- The rows that an audit compares with those of a schedule.
+use Rattle.std.specs.Prelude.{List, map}
+use Rattle.irs_audit.specs.FlowParts.{FlowPart}
+use Rattle.irs_audit.specs.StatedFlows.{stated_part}
+use Rattle.irs_audit.specs.declared.stated_rows.StatedRows.{StatedRows}
+use Rattle.irs_audit.specs.declared.stated_rows.StatedRows.TheVariants as rows
+use Rattle.irs_audit.specs.declared.stated_rows.StatedStreams.{StatedStreams}
+use Rattle.irs_audit.specs.declared.stated_rows.StatedStreams.TheVariants as streams
+
+-- the rows of flows, or those that state a stream of a schedule
+abbrev pub rows_in : StatedRows → FlowPart
+rows_in (rows.Flows f) = f.now
+rows_in (rows.Schedule p) = stated_part p.now
+
+-- the streams of flows, or those that state a schedule
+abbrev pub streams_in : StatedStreams → List FlowPart
+streams_in (streams.Flows fs) = fs.now
+streams_in (streams.Schedule ps) = map stated_part ps.now

@@ -1,0 +1,9 @@
+use Rattle.std.proofs.Common.{◌≡◌, ℕ, ◌<◌, Some, slice_get}
+use Rattle.irs_terms.specs.declared.stream.Stream.{Stream}
+use Rattle.irs_schedule.specs.CenterDays.{HasStream}
+use Rattle.irs_schedule.proofs.center_table.CenterTable.has_swap.Given as goal
+
+-- the table has the streams before this one
+abbrev pub invariant-loop-s : goal.invariant-loop-s
+invariant-loop-s l =
+    (i : ℕ) (s : Stream) → i < l.s-index → slice_get l.s-items i ≡ Some s → HasStream l.self s
