@@ -83,10 +83,12 @@ fn the_line_of_a_broken_rule(rt: HostRuntime) {
     }];
     let words = [lent(b"check"), lent(b"d.xml")];
     let (mut out, mut said) = ([b'#'; 64], [b'#'; 128]);
-    assert_eq!(rt; run(&rt, &words, &files, &mut out, &mut said), (2, 20, 67));
+    assert_eq!(rt; run(&rt, &words, &files, &mut out, &mut said), (2, 20, 81));
     assert!(rt; out.starts_with(b"refused K3 0 swap 0\n#"));
     assert!(rt;
-        said.starts_with(b"K3: swap isn't the text or the object that it has to be; see line 2#")
+        said.starts_with(
+            b"K3: swap isn't the text or the object that it has to be; it is a text; see line 2#"
+        )
     );
 }
 

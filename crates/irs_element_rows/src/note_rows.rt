@@ -12,7 +12,7 @@ use irs_base::{Broken, Text, read_date};
 use irs_cli::{Cause, RunCause};
 use irs_elements::codes::roll;
 use irs_json::parse;
-use irs_locate::{kind_of, line_of, member_of, shape_at, text_of};
+use irs_locate::{Shape, kind_of, line_of, member_of, shape_at, text_of};
 use irs_outside::MemSink;
 use irs_plain::put_sentence;
 use irs_resets::tenor;
@@ -115,6 +115,19 @@ fn spot_with(broken: Broken, line: Option<u32>, name: Option<Text>) -> Spot {
     }
 }
 
+// The spot that says the kind of a value, or a roll and a day.
+fn spot_of(shape: Option<Shape>, misfit: Option<Misfit>) -> Spot {
+    Spot {
+        member: None,
+        shape,
+        text: None,
+        kind: None,
+        center: None,
+        misfit,
+        line: None,
+    }
+}
+
 // Reports the sentence on a broken rule with this spot.
 fn tell_with(told: &mut Told, alloc: Global, broken: Broken, spot: Spot) -> Option<()> {
     let cause = Cause::Refused(Refusal::Rule(broken));
@@ -125,18 +138,20 @@ fn tell_with(told: &mut Told, alloc: Global, broken: Broken, spot: Spot) -> Opti
 // Reports the sentence with the kind of the value at the place in a JSON text.
 fn tell_shape(told: &mut Told, alloc: Global, broken: Broken, text: &str) -> Option<()> {
     let document = parse(alloc, text.as_bytes()).ok()?;
-    let mut spot = spot_with(broken, None, None);
-    spot.shape = shape_at(&document, broken.place);
-    tell_with(told, alloc, broken, spot)
+    let shape = shape_at(&document, broken.place);
+    tell_with(told, alloc, broken, spot_of(shape, None))
 }
 
 // Reports the sentence with `ROLL DAY`.
 fn tell_roll(told: &mut Told, alloc: Global, broken: Broken, text: &str) -> Option<()> {
     let (code, day) = text.split_once(' ')?;
     let (roll, day) = (roll(code)?, read_date(day.as_bytes())?);
-    let mut spot = spot_with(broken, None, None);
-    spot.misfit = Some(Misfit { roll, day });
-    tell_with(told, alloc, broken, spot)
+    tell_with(
+        told,
+        alloc,
+        broken,
+        spot_of(None, Some(Misfit { roll, day })),
+    )
 }
 
 // Reports the sentence on a broken rule with `LINE NAME`.
