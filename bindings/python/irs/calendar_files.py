@@ -76,7 +76,7 @@ def section(calendar: Calendar) -> str:
 
 
 def text_of(calendars: Sequence[Calendar]) -> str:
-    """A calendar file of these sections with its end line, which the engine has read; `BadInput` where it refuses it."""
+    """A calendar file of these sections with its end line, which the engine read; `BadInput` where it refuses it."""
     text = with_end("".join(section(calendar) for calendar in calendars))
     check_calendars([text])
     return text

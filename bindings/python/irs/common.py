@@ -29,8 +29,8 @@ NO_CALENDAR = b"refused K12 "
 class Common(NamedTuple):
     """The calendar files and the fixings that all trades have, as bytes or as paths that each worker reads once.
 
-    `calendars` are pairs of a name and the file. `stamp` differs if what the paths hold changes. With `require_end` each
-    calendar file and file of fixings has to end with a true end line, also those of the trades.
+    `calendars` are pairs of a name and the file. `stamp` differs if what the paths hold changes. With `require_end`
+    each calendar file and file of fixings has to end with a true end line, also those of the trades.
     """
 
     calendars: Tuple[Tuple[str, Union[bytes, Path]], ...] = ()

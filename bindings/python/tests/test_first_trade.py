@@ -128,8 +128,11 @@ class Sample(InAFolder):
         for code in ("EUTA", "USGS", "USNY"):
             made = ran(calendars.main, code, "--from", "2024", "--to", "2033").out
             stored = (TOP / "sample" / f"{code}.cal").read_text()
+            # The stored ones have no end line, so that they can be joined to one file.
+            lines = made.splitlines()
+            self.assertEqual(lines.pop(), f"# end {len(lines)}")
             self.assertEqual(
-                [line for line in made.splitlines() if " made " not in line],
+                [line for line in lines if " made " not in line],
                 [line for line in stored.splitlines() if " made " not in line],
             )
 

@@ -500,7 +500,12 @@ class Notes(unittest.TestCase):
             (b"<paymentDates>", b"\n\n<paymentDates><x/>", "K4: .. (stream 1); the member is x; see line 15"),
             (b"<swapStream>", b"<swapStream><formula/>", "K5: .. (stream 1); the member is formula; see line 2"),
             (b">15<", b">FRN<", "K5: calculationPeriodFrequency's rollConvention .. (stream 1); see line 10"),
-            (b"2025-01-15", b"2023-02-29", "K6: .. (stream 1); see line 6"),
+            (
+                b"2025-01-15",
+                b"2023-02-29",
+                "K6: .. (stream 1); the text is 2023-02-29; "
+                "it has to be a date YYYY-MM-DD from 1901-01-01 to 2299-12-31; see line 6",
+            ),
             # What isn't there: the line of the element that should have it.
             (b"<currency>USD</currency>", b"", "K2: .. (stream 1); see line 20"),
             (b"ACT/360", b"x</dayCountFraction><dayCountFraction>y", "K7: .. (stream 1); see line 24"),
