@@ -180,15 +180,15 @@ module _ (rows : List Row) (names : List (List ℕ)) where
   abbrev pub is_unknown : ℕ → List ℕ → Bool
   is_unknown r name = not (is_attribute name || is_known r name)
 
-  -- a name that is an attribute's or that no row has
-  abbrev pub is_apart : ℕ → List ℕ → Bool
-  is_apart r name = is_attribute name || not (is_known r name)
-
   -- c is the row of a member of the object at row r
   pub record IsMember (r c : ℕ) (row : Row) : Type 0 where
     pub found : slice_get rows c ≡ Some row
     pub parent : row.parent ≡ r
     pub later : r < c
+
+-- a name that is an attribute's or that no row has
+abbrev pub is_apart : List Row → List (List ℕ) → ℕ → List ℕ → Bool
+is_apart rows names r name = is_attribute name || not (is_known rows names r name)
 
 -- ---- leaves that break no rule
 
@@ -279,13 +279,15 @@ module _ (rows : List Row) (names : List (List ℕ)) (stream : ℕ) where
           → FaultAt c row.kind (index_in row.count i j) x f
           → FaultUnder c row i d f
 
-  -- those of the values ds of the member at row c, of which the j-th has the index at j
-  abbrev pub FaultAmong : ℕ → Kind → (ℕ → ℕ) → List Data → Broken → Type 0
-  FaultAmong c kind at ds f = (j : ℕ) × ((x : Data) × ((slice_get ds j ≡ Some x) × FaultAt c kind (at j) x f))
+-- those of the values ds of the member at row c, of which the j-th has the index at j
+abbrev pub FaultAmong : List Row → List (List ℕ) → ℕ → ℕ → Kind → (ℕ → ℕ) → List Data → Broken → Type 0
+FaultAmong rows names stream c kind at ds f =
+    (j : ℕ) × ((x : Data) × ((slice_get ds j ≡ Some x) × FaultAt rows names stream c kind (at j) x f))
 
-  -- those of the members of the object d at row r
-  abbrev pub MemberFault : ℕ → ℕ → Data → Broken → Type 0
-  MemberFault r i d f = (c : ℕ) × ((row : Row) × (IsMember rows names r c row × FaultUnder c row i d f))
+-- those of the members of the object d at row r
+abbrev pub MemberFault : List Row → List (List ℕ) → ℕ → ℕ → ℕ → Data → Broken → Type 0
+MemberFault rows names stream r i d f =
+    (c : ℕ) × ((row : Row) × (IsMember rows names r c row × FaultUnder rows names stream c row i d f))
 
 -- a rule that a table of elements can break: one of K2 to K7
 abbrev pub IsOfTables : Rule → Type 0
