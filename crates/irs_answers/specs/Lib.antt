@@ -21,3 +21,4 @@ pub mod Fronts
 pub mod Centers
 pub mod Spots
 pub mod Notes
+pub mod Private

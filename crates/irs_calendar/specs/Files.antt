@@ -1,11 +1,9 @@
 -- What the lines of a file hold, or the first line that is at fault.
-use Rattle.std.specs.Prelude.{◌≡◌, ℕ, ◌+◌, List, [], ◌∷◌, Result, Ok, Err}
+use Rattle.std.specs.Prelude.{ℕ, ◌+◌, List, [], ◌∷◌, Result, Ok, Err}
 use Rattle.irs_calendar.specs.declared.sections.Section.{Section}
 use Rattle.irs_calendar.specs.declared.part.Part.TheVariants.{Between}
 use Rattle.irs_calendar.specs.declared.part.State.{State}
 use Rattle.irs_calendar.specs.declared.machine.Fault.{Fault}
-use Rattle.irs_calendar.specs.declared.files.FileErr.{FileErr}
-use Rattle.irs_calendar.specs.declared.files.FileErr.TheVariants as errors
 use Rattle.irs_calendar.specs.Machine.{after_line, at_end}
 use Rattle.irs_calendar.specs.Words.{kind_of}
 use Rattle.irs_calendar.specs.EndLines.{seen_lines}
@@ -32,13 +30,3 @@ sections_in n s (l ∷ ls) = then_read (numbered n (after_line s (kind_of l))) (
 -- all of a file, after the sections of the files before it
 abbrev pub sections_of : List Section → List ℕ → Result (List Section) Place
 sections_of done bytes = sections_in 1 (record { done = done; part = Between }) (seen_lines bytes)
-
--- what was returned is what reading gives, unless memory ran out
-abbrev pub FileFails : {Y : Type 0} → FileErr → Result Y Place → Type 0
-FileFails errors.Memory read = Unit {0}
-FileFails (errors.Fault f n) read = read ≡ Err (f, n)
-
--- what a reader of a file returned is what reading gives, unless memory ran out
-abbrev pub GivesFile : {X : Type 0} → Result X FileErr → Result X Place → Type 0
-GivesFile (Ok x) read = read ≡ Ok x
-GivesFile (Err e) read = FileFails e read

@@ -5,8 +5,6 @@ use Rattle.irs_calendar.specs.declared.sections.Section.{Section}
 use Rattle.irs_calendar.specs.declared.part.Part.{Part}
 use Rattle.irs_calendar.specs.declared.part.Part.TheVariants.{Between, Named, Covered, Open}
 use Rattle.irs_calendar.specs.declared.part.State.{State}
-use Rattle.irs_calendar.specs.declared.part.Said.{Said as Given}
-use Rattle.irs_calendar.specs.declared.part.Said.TheVariants as given
 use Rattle.irs_base.specs.Limits.{most_holidays}
 use Rattle.irs_calendar.specs.declared.machine.Fault.{Fault}
 use Rattle.irs_calendar.specs.declared.machine.Fault.TheVariants.{Syntax, Repeat, TooMany}
@@ -21,15 +19,6 @@ pub data Said : Type 0 where
   Weekend : List Bool → Said
   Holiday : ℤ → Said
   Wrong : Said
-
--- what a reader was given, as words of the grammar
-abbrev pub said_of : Given → Said
-said_of given.Nothing = Nothing
-said_of (given.Center name) = Center name.now
-said_of (given.Cover a b) = Cover a b
-said_of (given.Weekend w) = Weekend w
-said_of (given.Holiday d) = Holiday d
-said_of given.Wrong = Wrong
 
 -- a new section, whose name is new
 abbrev pub begun : List Section → List ℕ → Result State Fault

@@ -1,3 +1,7 @@
+pub mod Rising
+pub mod EndLines
+pub mod Machine
+pub mod Files
 pub mod Splits
 pub mod Halves
 pub mod Weekends

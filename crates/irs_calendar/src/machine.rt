@@ -5,7 +5,8 @@
 //! holidays.
 ghost use Rattle.std.specs.Prelude.{◌≡◌, Ok};
 ghost use Rattle.irs_calendar.specs.Machine.{fits_section, begun, after_center, after_cover, after_weekend};
-ghost use Rattle.irs_calendar.specs.Machine.{after_holiday, after_line, said_of};
+ghost use Rattle.irs_calendar.specs.Machine.{after_holiday, after_line};
+ghost use Rattle.irs_calendar.specs.Private.Machine.{said_of};
 ghost use Rattle.irs_calendar.specs.Private.Given.{Gives};
 ghost use Rattle.irs_calendar.specs.declared.machine.StepErr.TheVariants.{Memory};
 

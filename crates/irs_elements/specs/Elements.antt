@@ -2,7 +2,7 @@
 use Rattle.irs_base.specs.Elements.{count}
 use Rattle.irs_base.specs.declared.places.Broken.{Broken}
 use Rattle.irs_base.specs.declared.places.Rule.{Rule}
-use Rattle.irs_base.specs.declared.places.Rule.TheVariants.{K2, K3, K4, K5, K6, K7}
+use Rattle.irs_base.specs.declared.places.Rule.TheVariants.{K2, K3, K4, K5, K7}
 use Rattle.irs_elements.specs.Leaves.{leaf_rule}
 use Rattle.irs_elements.specs.declared.table.Choice.{Choice}
 use Rattle.irs_elements.specs.declared.table.Choice.TheVariants.{Free, AtMostOne, AtMostOneOfThree, ExactlyOne}
@@ -11,7 +11,6 @@ use Rattle.irs_elements.specs.declared.table.Count.{Count}
 use Rattle.irs_elements.specs.declared.table.Count.TheVariants.{One, Maybe, OneTo, UpTo}
 use Rattle.irs_elements.specs.declared.table.Kind.{Kind}
 use Rattle.irs_elements.specs.declared.table.Kind.TheVariants.{Object, Leaf, Passed, Refused}
-use Rattle.irs_elements.specs.declared.table.Leaf.{Leaf as LeafKind}
 use Rattle.irs_elements.specs.declared.table.Row.{Row}
 use Rattle.irs_elements.specs.declared.walk.Unmet.{Unmet}
 use Rattle.irs_elements.specs.declared.walk.Unmet.TheVariants.{Both, Neither}
@@ -23,7 +22,7 @@ use Rattle.serde_json.specs.Data.{Data}
 use Rattle.serde_json.specs.Find.{as_str}
 use Rattle.std.specs.Borrow.{Bor}
 use Rattle.std.specs.List.{list_any, enumerate_from}
-use Rattle.std.specs.Prelude.{map, ◌≡◌, ℕ, Bool, true, false, not, ◌&&◌, ◌||◌, ◌==◌, ◌<◌, ◌≤◌, ◌+◌, List, [], ◌∷◌, length}
+use Rattle.std.specs.Prelude.{map, ◌≡◌, ℕ, Bool, true, false, not, ◌&&◌, ◌||◌, ◌==◌, ◌<◌, ◌≤◌, ◌+◌, List, [], length}
 use Rattle.std.specs.Prelude.{Option, Some, None, is_some, is_none, slice_get, codes, if◌then◌else◌, nat_lt}
 use Rattle.std.specs.Str.{bytes_eq}
 
@@ -119,10 +118,6 @@ abbrev pub place : List Row → ℕ → Rule → ℕ → ℕ → Broken
 place rows stream rule r index =
     record { rule = rule; place = record { stream = stream; elem = elem_at rows r; index = index } }
 
--- a broken rule, where the test is true
-abbrev pub fault_if : Bool → Broken → Option Broken
-fault_if b f = if b then Some f else None
-
 -- two members of a choice occur together, which has no index; none is an absence
 abbrev pub unmet_place : List Row → ℕ → ℕ → ℕ → Unmet → Broken
 unmet_place rows stream r i Both = place rows stream K7 r 0
@@ -133,11 +128,6 @@ unmet_place rows stream r i Neither = place rows stream K2 r i
 -- the names that the references lead to
 abbrev pub texts : List (Bor (List ℕ)) → List (List ℕ)
 texts names = map (λ n. n.now) names
-
--- the names of a value's elements, none where it is no object
-abbrev pub names_among : Option (List (List ℕ)) → List (List ℕ)
-names_among None = []
-names_among (Some names) = names
 
 -- a name, where there is one
 abbrev pub name_in : Option (List ℕ) → List ℕ
@@ -186,48 +176,7 @@ module _ (rows : List Row) (names : List (List ℕ)) where
     pub parent : row.parent ≡ r
     pub later : r < c
 
--- a name that is an attribute's or that no row has
-abbrev pub is_apart : List Row → List (List ℕ) → ℕ → List ℕ → Bool
-is_apart rows names r name = is_attribute name || not (is_known rows names r name)
-
--- ---- leaves that break no rule
-
--- whether a value stands alone, and is a leaf that breaks no rule
-abbrev pub are_one_right : LeafKind → List Data → Bool
-are_one_right k [] = false
-are_one_right k (d ∷ []) = is_none (leaf_rule k (leaf_of d))
-are_one_right k (d ∷ e ∷ ds) = false
-
--- the same of the values of a member
-abbrev pub is_one_right : LeafKind → Option Data → Bool
-is_one_right k None = false
-is_one_right k (Some m) = are_one_right k (items_of m)
-
--- whether a member of that kind is a leaf that occurs once and breaks no rule
-abbrev pub is_right : Kind → Option Data → Bool
-is_right (Object c) m = false
-is_right (Leaf k) m = is_one_right k m
-is_right Passed m = false
-is_right Refused m = false
-
--- whether the member at row c of the object d is such a leaf, and may occur
-abbrev pub is_right_leaf : List (List ℕ) → ℕ → Row → Data → Bool
-is_right_leaf names c row d = nat_lt 0 (most row.count) && is_right row.kind (child_of (name_at names c) d)
-
 -- ---- where the members of an object end
-
--- the row after the last member, where the table says it, else the row after the last one
-abbrev pub end_in : ℕ → Option ℕ → ℕ
-end_in all None = all
-end_in all (Some end) = end
-
--- the row after the last member of the object at row r, in a table of `all` rows
-abbrev pub end_at : ℕ → List ℕ → ℕ → ℕ
-end_at all ends r = end_in all (slice_get ends r)
-
--- each row is before the end of its parent's members
-abbrev pub EndsHold : List Row → List ℕ → Type 0
-EndsHold rows ends = (c : ℕ) (row : Row) → slice_get rows c ≡ Some row → c < end_at (length rows) ends row.parent
 
 module _ (rows : List Row) (names : List (List ℕ)) (stream : ℕ) where
   -- the rules that an object breaks beside those of its members
@@ -278,23 +227,3 @@ module _ (rows : List Row) (names : List (List ℕ)) (stream : ℕ) where
           → length (items_of m) ≤ most row.count → slice_get (items_of m) j ≡ Some x
           → FaultAt c row.kind (index_in row.count i j) x f
           → FaultUnder c row i d f
-
--- those of the values ds of the member at row c, of which the j-th has the index at j
-abbrev pub FaultAmong : List Row → List (List ℕ) → ℕ → ℕ → Kind → (ℕ → ℕ) → List Data → Broken → Type 0
-FaultAmong rows names stream c kind at ds f =
-    (j : ℕ) × ((x : Data) × ((slice_get ds j ≡ Some x) × FaultAt rows names stream c kind (at j) x f))
-
--- those of the members of the object d at row r
-abbrev pub MemberFault : List Row → List (List ℕ) → ℕ → ℕ → ℕ → Data → Broken → Type 0
-MemberFault rows names stream r i d f =
-    (c : ℕ) × ((row : Row) × (IsMember rows names r c row × FaultUnder rows names stream c row i d f))
-
--- a rule that a table of elements can break: one of K2 to K7
-abbrev pub IsOfTables : Rule → Type 0
-IsOfTables K2 = Unit {0}
-IsOfTables K3 = Unit {0}
-IsOfTables K4 = Unit {0}
-IsOfTables K5 = Unit {0}
-IsOfTables K6 = Unit {0}
-IsOfTables K7 = Unit {0}
-IsOfTables k = ⊥

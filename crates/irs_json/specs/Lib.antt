@@ -5,3 +5,4 @@ pub mod Names
 pub mod Trim
 pub mod Leaves
 pub mod Seen
+pub mod Private

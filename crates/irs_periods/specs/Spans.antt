@@ -34,10 +34,6 @@ given_anchor None None stub e t = stub_anchor stub e t
 given_anchor None (Some last) stub e t = e
 given_anchor (Some first) last stub e t = first
 
--- the anchor of a stream whose frequency isn't the whole term
-abbrev pub given_anchor_of : Stream → ℤ
-given_anchor_of s = given_anchor s.first_regular s.last_regular s.stub (first_day_of s) (termination_of s)
-
 -- for the term the anchor is the first day
 abbrev pub anchor_by : Bool → Option ℤ → Option ℤ → Option StubKind → ℤ → ℤ → ℤ
 anchor_by true first last stub e t = e
@@ -61,11 +57,6 @@ abbrev pub GivenSpan : Option ℤ → Option ℤ → Option StubKind → (ℤ �
 GivenSpan None None stub on e t first last = StubSpan stub on e t first last
 GivenSpan None (Some l) stub on e t first last = (first ≡ e) × (last ≡ l)
 GivenSpan (Some f) l stub on e t first last = (first ≡ f) × (last ≡ given_or l t)
-
--- the first and the last regular day of such a stream, by its grid days
-abbrev pub GivenSpanOf : Stream → (ℤ → Type 0) → ℤ → ℤ → Type 0
-GivenSpanOf s on first last =
-    GivenSpan s.first_regular s.last_regular s.stub on (first_day_of s) (termination_of s) first last
 
 -- for the term the span is the whole term
 abbrev pub SpanBy : Bool → Option ℤ → Option ℤ → Option StubKind → (ℤ → Type 0) → ℤ → ℤ → ℤ → ℤ → Type 0

@@ -1,7 +1,7 @@
 -- Parts that are empty say nothing.
 use Rattle.std.proofs.Common.{◌≡◌, ℕ, zero, suc, List, [], ◌∷◌, ◌++◌, drop, refl, ap}
 use Rattle.irs_base.specs.Members.{Every}
-use Rattle.irs_plain.specs.Parts.{part_text, said_by}
+use Rattle.irs_plain.specs.Private.Parts.{part_text, said_by}
 use Rattle.irs_plain.specs.declared.parts.Part.{Part}
 
 -- a part is empty

@@ -11,3 +11,4 @@ pub mod Visible
 pub mod Usage
 pub mod Slips
 pub mod WrongWords
+pub mod Private

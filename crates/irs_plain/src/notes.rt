@@ -9,7 +9,8 @@ ghost use Rattle.irs_plain.specs.Notes.{member_words as member_words_of, name_in
 ghost use Rattle.irs_plain.specs.Notes.{spot_texts, tenor_count as tenor_count_of, tenor_gap as tenor_gap_of};
 ghost use Rattle.irs_plain.specs.Notes.{tenor_letter as tenor_letter_of, text_words as text_words_of};
 ghost use Rattle.irs_plain.specs.Notes.{unfixed_on, unfixed_texts, unit_letter as unit_letter_of};
-ghost use Rattle.irs_plain.specs.Parts.{joined, part_text, said_by};
+ghost use Rattle.irs_plain.specs.Parts.{joined};
+ghost use Rattle.irs_plain.specs.Private.Parts.{part_text, said_by};
 ghost use Rattle.std.specs.Prelude.{◌≡◌, ◌∷◌, OnOk, OnErr};
 
 use crate::parts::{Part, put_parts};

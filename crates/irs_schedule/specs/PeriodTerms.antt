@@ -1,9 +1,7 @@
 -- What is worked out for the calculation periods of a stream, and the amounts of its payments.
 -- Periods are counted from 1. d is what they are worked out of.
-use Rattle.std.specs.Prelude.{◌≡◌, ℕ, ◌+◌, ◌-◌, ◌==◌, ◌<◌, ◌≤◌, List, length, Option, Some, None, option_map}
+use Rattle.std.specs.Prelude.{◌≡◌, ℕ, ◌+◌, ◌-◌, ◌==◌, List, length, Option, Some, None, option_map}
 use Rattle.std.specs.Prelude.{ℤ}
-use Rattle.irs_base.specs.DayLists.{AreDays}
-use Rattle.irs_base.specs.Listed.{IsRising}
 use Rattle.irs_base.specs.declared.line.Dec.{Dec}
 use Rattle.irs_terms.specs.Currencies.{decimals_of}
 use Rattle.irs_terms.specs.declared.results.Payment.{Payment}
@@ -13,12 +11,10 @@ use Rattle.irs_compound.specs.InForce.{InForce}
 use Rattle.irs_compound.specs.OvernightRates.{AreRatesIn}
 use Rattle.irs_compound.specs.Amounts.{AmountOf}
 use Rattle.irs_compound.specs.declared.periods.PeriodTerm.{PeriodTerm}
-use Rattle.irs_base.specs.Limits.{most_periods}
-use Rattle.irs_schedule.specs.declared.amounts.PeriodTable.{PeriodTable}
 use Rattle.irs_schedule.specs.declared.entries.PeriodEntry.{PeriodEntry}
 use Rattle.irs_schedule.specs.Periods.{observed_of}
 use Rattle.irs_schedule.specs.StreamDates.{StreamDates}
-use Rattle.irs_schedule.specs.StreamResets.{HasRates, rate_in}
+use Rattle.irs_schedule.specs.StreamResets.{rate_in}
 use Rattle.irs_base.specs.Members.{EachNumbered, day_at}
 
 -- notional, rates and fraction of period i; the last period is the last of the stream
@@ -60,18 +56,3 @@ pub record IsAmountFor (d : StreamDates) (p : Payment) (amount : Option Dec) : T
   pub terms : List PeriodTerm
   pub are_terms : AreTerms d p terms
   pub is_amount : IsAmountBy d.stream terms amount
-
--- the adjusted boundaries are days that rise, one for each unadjusted boundary, and rates keep their bounds
-pub record IsTable (d : StreamDates) : Type 0 where
-  pub some : 1 ≤ length d.adjusted
-  pub few : length d.unadjusted ≤ most_periods + 1
-  pub same_length : length d.adjusted ≡ length d.unadjusted
-  pub rises : IsRising d.adjusted
-  pub days : AreDays d.adjusted
-  pub rates : HasRates d.stream.leg (length d.adjusted - 1) d.resets d.rates
-
--- the payment's periods are periods of the table, one at least
-pub record HasPeriods (table : PeriodTable) (p : Payment) : Type 0 where
-  pub from_one : 1 ≤ p.first_period
-  pub some : p.first_period ≤ p.last_period
-  pub to_end : p.last_period < length table.unadjusted.now

@@ -4,7 +4,6 @@ use Rattle.irs_terms.specs.declared.results.Reset.{Reset}
 use Rattle.irs_terms.specs.declared.stream.Stream.{Stream}
 use Rattle.irs_observed.specs.declared.overnight_rate.OvernightRate.{OvernightRate}
 use Rattle.irs_schedule.specs.Parts.{Part}
-use Rattle.irs_schedule.specs.declared.amounts.PeriodTable.{PeriodTable}
 use Rattle.irs_schedule.specs.declared.layouts.Layout.{Layout}
 
 -- what the periods of a stream are worked out of: its terms, its unadjusted and adjusted boundaries, its resets.
@@ -33,7 +32,3 @@ layout_dates s l resets rates = dates_of s l.unadjusted l.adjusted resets rates
 -- the stream with the boundaries and the resets of its part
 abbrev pub part_dates : Stream → Part → List OvernightRate → StreamDates
 part_dates s p rates = dates_of s p.unadjusted p.adjusted p.resets rates
-
--- the stream with those of a table
-abbrev pub table_dates : Stream → PeriodTable → StreamDates
-table_dates s table = dates_of s table.unadjusted.now table.adjusted.now table.resets.now table.rates.now

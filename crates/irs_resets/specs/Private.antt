@@ -1,0 +1,6 @@
+pub mod Rates
+pub mod SlotOrder
+pub mod FixingFiles
+pub mod ResetDates
+pub mod ObservedRates
+pub mod Outcomes
