@@ -2,6 +2,7 @@
 from __future__ import annotations
 
 import json
+import re
 from typing import Callable, List, NamedTuple, Optional
 
 from .documents import is_xml
@@ -12,6 +13,9 @@ from .replies import Reply
 
 #: How many lines are shown before and after the one at fault, and how many characters of a line.
 AROUND, MOST = 3, 120
+
+#: The end of a sentence on a document in XML. A name in a sentence never comes last, so none passes for it.
+_NAMED_LINE = re.compile(r"(?:; see line (\d+)|\(reading stopped at line (\d+), column \d+\))\Z")
 
 _WHAT = {
     2: "The terms break a rule",
@@ -111,17 +115,28 @@ def _lines_of_bad_json(content: bytes) -> List[Line]:
     return []
 
 
-def _lines_of(content: bytes, unread: bool, find: Callable[[str], Optional[Spot]]) -> List[Line]:
-    # Places are found in JSON alone; of XML no line is shown.
+def _lines_of_xml(content: bytes, sentence: str) -> List[Line]:
+    """The lines around the one that the engine's sentence ends with; none where it names none."""
+    named = _NAMED_LINE.search(sentence)
+    return lines_around(content, int(named[1] or named[2])) if named else []
+
+
+def _lines_of(content: bytes, sentence: str, unread: bool, find: Callable[[str], Optional[Spot]]) -> List[Line]:
+    # Places are found in JSON alone; of XML the engine has the line.
     if is_xml(content):
-        return []
+        return _lines_of_xml(content, sentence)
     return _lines_of_bad_json(content) if unread else _lines_at(content, find(content.decode(errors="replace")))
 
 
 def _of_rule(reply: Reply) -> Refusal:
     why = Refused(reply.line, reply.sentence)
     content = reply.files[reply.words[1]].content
-    lines = _lines_of(content, why.rule == "K1", lambda text: element_spot(text, why.stream, why.path, why.index))
+    lines = _lines_of(
+        content,
+        reply.sentence,
+        why.rule == "K1",
+        lambda text: element_spot(text, why.stream, why.path, why.index),
+    )
     return Refusal(
         _WHAT[2],
         reply.line,
@@ -138,7 +153,9 @@ def _of_rule(reply: Reply) -> Refusal:
 def _of_flows(reply: Reply, kind: str, stream: int, path: str, index: int) -> Refusal:
     word = reply.words[3]
     content = reply.files[word].content
-    lines = _lines_of(content, kind == "notjson", lambda text: flow_spot(text, stream, path, index))
+    lines = _lines_of(
+        content, reply.sentence, kind == "notjson", lambda text: flow_spot(text, stream, path, index)
+    )
     return Refusal(_WHAT[3], reply.line, reply.sentence, "", stream, path.split("/"), index, word, lines)
 
 

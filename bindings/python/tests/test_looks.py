@@ -428,10 +428,13 @@ class Xml(unittest.TestCase):
             self.assertIsNotNone(getattr(look, name), name)
             self.assertEqual(getattr(look, name), getattr(other, name), name)
 
-    def test_a_refusal_shows_no_lines_of_it(self):
+    def test_a_refusal_marks_the_line_of_its_element(self):
         trade = example("xml_vanilla/terms.xml").replace(b"30E/360", b"31/360")
         refusal = look_at(Inputs(Named("t", trade), None, None, [named("xml_vanilla/target.cal")]), TODAY).refusal
-        self.assertEqual((refusal.rule, refusal.file, refusal.lines), ("K6", "t.xml", []))
+        self.assertEqual((refusal.rule, refusal.file), ("K6", "t.xml"))
+        (marked,) = [line for line in refusal.lines if line.marked]
+        self.assertEqual(marked.number, trade[: trade.index(b"31/360")].count(b"\n") + 1)
+        self.assertIn("31/360", marked.text)
 
 
 class Show(unittest.TestCase):
@@ -739,6 +742,18 @@ class Refusals(unittest.TestCase):
             line, refusal = self.marked("audit", Inputs(named("fixed_leg/terms.json"), None, flows))
             self.assertIn(new.decode(), line)
 
+    def test_a_document_in_xml(self):
+        """The line is the one that the engine's sentence names, by the element or where reading stopped."""
+        terms = example("xml_fixed_leg/terms.xml")
+        for old, new in (
+            (b"<paymentDates>", b"<paymentDates><x/>"),
+            (b">15<", b">FRN<"),
+            (b"ACT/360", b"ACT/361"),
+            (b"<paymentDates>", b"<paymentDates><"),
+        ):
+            line, _ = self.marked("check", Inputs(Named("t.xml", terms.replace(old, new))))
+            self.assertIn(new.decode(), line)
+
     def test_what_is_no_json(self):
         line, _ = self.marked("check", Inputs(Named("t", b'{"a":1,\n"b":2,\n"c" 3}')))
         self.assertEqual(line, '"c" 3}')
@@ -763,8 +778,8 @@ class Refusals(unittest.TestCase):
         self.assertEqual(refusal.sentence, "big.json has more than 4,194,304 bytes")
 
     def test_every_rule_of_the_pages_examples_has_a_place(self):
-        """Each refused example of the folder gives a marked line, but for those of an unreadable
-        file and of a document in XML, whose sentence has the line."""
+        """Each refused example of the folder gives a marked line, but for that of an unreadable
+        file."""
         for folder in sorted(EXAMPLES.iterdir()):
             words_of = (folder / "command").read_text().split() if (folder / "command").is_file() else []
             status = (folder / "status").read_text().strip() if (folder / "status").is_file() else "0"
@@ -777,8 +792,7 @@ class Refusals(unittest.TestCase):
                 asked = Inputs(files[0], by_name.get(names[1]), flows, [by_name[name] for name in rest])
                 refusal = refusal_of(ask(words_of[1], asked))
                 self.assertEqual(refusal.line + "\n", (folder / "output").read_text())
-                marked = 0 if names[0].endswith(".xml") else 1
-                self.assertEqual(sum(line.marked for line in refusal.lines), marked, folder.name)
+                self.assertEqual(sum(line.marked for line in refusal.lines), 1, folder.name)
 
 
 @needs("jinja2")
