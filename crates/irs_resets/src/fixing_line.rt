@@ -3,15 +3,17 @@
 //! DATE is `YYYY-MM-DD` in range. RATE is a decimal of 9 places and at most 10 in size. TENOR is `-`
 //! or a frequency other than the term. INDEX is the rest of the line, at least one byte and at most
 //! [`MOST_INDEX`], none of them a control byte. The format is our rule.
-ghost use Rattle.std.specs.Prelude.{◌≡◌, ◌≢◌, ◌↔◌, ◌≤◌, ℕ, ℤ, List, Option, All, IsTrue, IfSome, IfNone};
+ghost use Rattle.std.specs.Prelude.{◌≡◌, ◌≢◌, ◌↔◌, ◌≤◌, ℕ, ℤ, List, Option, Some, All, IsTrue, IfSome, IfNone};
+ghost use Rattle.irs_base.specs.Dates.{date_at};
 ghost use Rattle.irs_terms.specs.declared.frequency.Frequency.{Frequency as AtTenor};
+ghost use Rattle.irs_resets.specs.Words.{behind_gap, word};
 ghost use Rattle.irs_resets.specs.FixingLines.{IsRateText, IsIndexText, IsTail, Spells};
 ghost use Rattle.irs_resets.specs.declared.store.Slot.{Slot as AtSlot};
 
 use crate::store::Slot;
 use crate::tenors::{IndexTenor, tenor};
 use crate::words::{first_word, trim_end};
-use irs_base::{MOST_INDEX, MOST_RATE, date, read_dec};
+use irs_base::{Day, MOST_INDEX, MOST_RATE, date, is_gap, read_dec, skip_gap};
 
 /// What a line says from its third word on.
 #[derive(Clone, Copy)]
@@ -59,6 +61,21 @@ fn is_index(bytes: &[u8]) -> bool
     !bytes.is_empty() && bytes.len() <= MOST_INDEX && has_no_control(bytes)
 }
 
+// The day that the first word spells, and what comes after the gap that follows this word.
+fn first_date(line: &[u8]) -> (Option<Day>, &[u8])
+    ensures day { result.0 ≡ date_at (word line.now) }
+    ensures rest { result.1.now ≡ behind_gap line.now }
+{
+    // A date has ten bytes and none of them is a gap. So in most lines nothing else can be the first word.
+    if line.len() > 10 && is_gap(line[10]) {
+        if let Some(day) = date(&line[..10]) {
+            return (Some(day), skip_gap(&line[10..]));
+        }
+    }
+    let (text, rest) = first_word(line);
+    (date(text), rest)
+}
+
 // The tenor and the index that the bytes spell.
 fn tail_of(text: &[u8]) -> Option<Tail<'_>>
     ensures some { IfSome result (λ t. (t.text.now ≡ text.now) × IsTail t.text.now t.tenor t.index.now) }
@@ -95,9 +112,11 @@ pub fn fixing_line<'a>(line: &'a [u8], last: Option<Tail<'a>>) -> Option<FixingL
     ensures some { IfSome result (λ f. Spells line.now f.tail.index.now f.slot f.rate) }
     ensures none { IfNone result ((index : List ℕ) (slot : AtSlot) (rate : ℤ) → Spells line.now index slot rate → ⊥) }
 {
-    let (date_text, rest) = first_word(line);
+    let (date, rest) = first_date(line);
     let (rate_text, rest) = first_word(rest);
-    let date = date(date_text)?;
+    let Some(date) = date else {
+        return None;
+    };
     let rate = rate(rate_text)?;
     let tail = tail_by(rest, last)?;
     Some(FixingLine {
