@@ -25,15 +25,17 @@ pub fn put_optional(line: &mut Line, v: Option<Dec>)
     }
 }
 
-// The text of an adjusted day. Mostly it is the unadjusted day, whose text is known already.
-fn adjusted_digits(adjusted: Day, unadjusted: Day, digits: [u8; 10]) -> [u8; 10]
-    requires { digits ≡ day_text unadjusted }
-    ensures { result ≡ day_text adjusted }
+// An adjusted day. Mostly it is the unadjusted day, whose text is known already.
+fn put_adjusted(line: &mut Line, adjusted: Day, unadjusted: Day, digits: &[u8; 10])
+    requires same { digits.now ≡ day_text unadjusted }
+    requires room { length line.old + 11 ≤ 512 }
+    ensures text { line.new ≡ line.old ++ 32 ∷ day_text adjusted }
+    ensures grows { length line.new ≡ length line.old + 11 }
 {
     if adjusted == unadjusted {
-        digits
+        line.put_field(digits);
     } else {
-        day_digits(adjusted)
+        line.put_day(adjusted);
     }
 }
 
@@ -46,7 +48,7 @@ fn put_moved(line: &mut Line, unadjusted: Day, adjusted: Day)
 {
     let digits = day_digits(unadjusted);
     line.put_field(&digits);
-    line.put_field(&adjusted_digits(adjusted, unadjusted, digits));
+    put_adjusted(line, adjusted, unadjusted, &digits);
 }
 
 // The start and the end of a period, and both after their adjustment.
@@ -59,8 +61,8 @@ fn put_span(line: &mut Line, start: Day, end: Day, adjusted_start: Day, adjusted
     let (from, to) = (day_digits(start), day_digits(end));
     line.put_field(&from);
     line.put_field(&to);
-    line.put_field(&adjusted_digits(adjusted_start, start, from));
-    line.put_field(&adjusted_digits(adjusted_end, end, to));
+    put_adjusted(line, adjusted_start, start, &from);
+    put_adjusted(line, adjusted_end, end, &to);
 }
 
 /// Appends a space and a fraction, not reduced, as `NUMERATOR/DENOMINATOR`.
