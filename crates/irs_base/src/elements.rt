@@ -3,7 +3,7 @@
 //! The first broken rule is sought in the order of the table. First comes what lies outside the
 //! streams, then the elements of a stream of a trade (FpML's InterestRateStream), then those of
 //! another party's cash flows. The table and its order are our rule.
-ghost use Rattle.std.specs.Prelude.{◌≡◌, ◌<◌, ◌≤◌, ℕ, Some, SomeIff, map, slice_get, length, true, drop};
+ghost use Rattle.std.specs.Prelude.{◌≡◌, ◌<◌, ◌≤◌, ℕ, [], ◌∷◌, Some, SomeIff, map, slice_get, length, true, drop, take};
 ghost use Rattle.irs_base.specs.Elements.{fits_from, count};
 ghost use Rattle.irs_base.specs.PathList.{printed};
 ghost use Rattle.irs_base.specs.Paths.{path_of, longest_path};
@@ -238,9 +238,12 @@ pub fn paths_listed()
 
 /// The table is whole: each element comes after its parent. Its path is its parent's path, a `/` and
 /// its own name, or the name alone directly below the stream. No two elements of one parent have the
-/// same name, so no path is there twice.
+/// same name, so no path is there twice. The first three are the document, the swap in it, and the
+/// stream in the swap; their paths are their names.
 pub fn table_fits()
-    ensures { fits_from (map (λ p. p.now) PATHS) 3 (drop 3 PARENTS) (drop 3 (map (λ n. n.now) NAMES))
+    ensures parents { take 3 PARENTS ≡ 0 ∷ 0 ∷ 1 ∷ [] }
+    ensures names { take 3 (map (λ n. n.now) NAMES) ≡ take 3 printed }
+    ensures fits { fits_from (map (λ p. p.now) PATHS) 3 (drop 3 PARENTS) (drop 3 (map (λ n. n.now) NAMES))
         (drop 3 (map (λ p. p.now) PATHS)) ≡ true }
 {}
 
