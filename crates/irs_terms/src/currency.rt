@@ -1,7 +1,7 @@
 //! Currencies: three capital letters, and how many decimals an amount has.
 //!
-//! The table of decimals is our rule; it holds the currencies of ISO 4217 that have 0 or 3 decimals
-//! in swaps.
+//! The table of decimals is our rule. It holds ten currencies of ISO 4217, with 0 or 3 decimals; every
+//! other has 2.
 ghost use Rattle.std.specs.Prelude.{◌≡◌};
 ghost use Rattle.irs_terms.specs.Currencies.{decimals_of};
 
