@@ -16,7 +16,7 @@ use Rattle.irs_terms.specs.declared.amounts.Leg.TheVariants.{Floating}
 use Rattle.irs_terms.specs.declared.frequency.Frequency.{Frequency}
 use Rattle.irs_terms.specs.declared.stream.Stream.{Stream}
 use Rattle.irs_terms.specs.declared.stream_list.Swap.{Swap}
-use Rattle.irs_calendar.specs.GoodDays.{DaySet}
+use Rattle.irs_calendar.specs.GoodDays.{DaySet, SameDays}
 use Rattle.irs_calendar.specs.declared.sections.Section.{Section}
 use Rattle.irs_resets.specs.Rates.{RateTable}
 use Rattle.irs_rules.proofs.Kept.{lawful_stream, terms_kept}
@@ -87,7 +87,8 @@ module _ (swap : Swap) (cal : List Section) (parts : List Part) (h : IsUnfixed s
     terms = h.terms;
     dates = h.dated;
     schedule = h.schedule;
-    reset_set = e;
+    reset_set =
+        subst (SameDays days) e (record { first = refl; last = refl; test = λ d inside. refl });
   }
 
   -- the request for the rate of a stub is lawful

@@ -50,7 +50,7 @@ is_with_days a h = record {
   terms = h.terms;
   dates = h.dates;
   schedule = h.schedule;
-  reset_set = refl;
+  reset_set = record { first = refl; last = refl; test = λ d inside. refl };
 }
 
 -- ---- the stub is there

@@ -7,7 +7,7 @@ use Rattle.irs_base.specs.declared.places.Fault.{Fault}
 use Rattle.irs_terms.specs.Lawful.{IsLawful}
 use Rattle.irs_terms.specs.declared.amounts.FloatTerms.{FloatTerms}
 use Rattle.irs_terms.specs.declared.stream_list.Swap.{Swap}
-use Rattle.irs_calendar.specs.GoodDays.{DaySet}
+use Rattle.irs_calendar.specs.GoodDays.{DaySet, SameDays}
 use Rattle.irs_calendar.specs.declared.sections.Section.{Section}
 use Rattle.irs_resets.specs.Rates.{RateTable}
 use Rattle.irs_rules.specs.TermsRules.{BreaksNone}
@@ -34,8 +34,9 @@ pub record Asked : Type 0 where
 abbrev pub asked : Swap → ℕ → List Part → DaySet → RateTable → Asked
 asked swap number parts days rates = record { swap = swap; number = number; parts = parts; days = days; rates = rates }
 
--- The stream floats without calculationParameters, and the parts are the schedule of the swap without fixings, by calendars with which no rule is
--- broken. The days are the business days of the stream's reset dates in these calendars.
+-- The stream floats without calculationParameters, and the parts are the schedule of the swap without fixings, by
+-- calendars with which no rule is broken. The days are the business days of the stream's reset dates in these calendars:
+-- they have the same cover and agree on each day of it.
 pub record IsAsked (a : Asked) : Type 0 where
   pub lawful : IsLawful a.swap
   pub floats : Floats a.swap a.number
@@ -43,7 +44,7 @@ pub record IsAsked (a : Asked) : Type 0 where
   pub terms : BreaksNone a.swap calendars
   pub dates : DatedKept a.swap calendars []
   pub schedule : IsSchedule a.swap calendars [] a.parts
-  pub reset_set : a.days ≡ reset_days calendars floats.1.stream
+  pub reset_set : SameDays a.days (reset_days calendars floats.1.stream)
 
 -- what the daily rates of the stream are compounded from
 pub record HasSource (a : Asked) (source : DailySource) : Type 0 where
