@@ -20,7 +20,8 @@ use Rattle.irs_read.specs.Meaning.{streams_in, swap_in}
 use Rattle.irs_read.specs.Reading.{Means}
 use Rattle.irs_terms.specs.Lawful.{IsLawful}
 use Rattle.irs_terms.specs.declared.stream_list.Swap.{Swap}
-use Rattle.irs_calendar.specs.Calendars.{Spot, spot_of}
+use Rattle.irs_calendar.specs.FirstFaults.{Spot}
+use Rattle.irs_calendar.specs.Calendars.{spot_of}
 use Rattle.irs_calendar.specs.FirstFaults.{IsFirstFault as IsFirstCalendarFault}
 use Rattle.irs_calendar.specs.Grammar.{CalFiles}
 use Rattle.irs_calendar.specs.declared.calendars.CalErr.{CalErr}

@@ -5,7 +5,7 @@ use Rattle.irs_base.specs.Paths.{path_of}
 use Rattle.irs_base.specs.Rules.{rule_number}
 use Rattle.irs_base.specs.declared.places.Broken.{Broken}
 use Rattle.irs_base.specs.declared.places.Rule.TheVariants.{K1}
-use Rattle.irs_calendar.specs.Calendars.{Spot}
+use Rattle.irs_calendar.specs.FirstFaults.{Spot}
 use Rattle.irs_calendar.specs.declared.machine.Fault.{Fault}
 use Rattle.irs_calendar.specs.declared.machine.Fault.TheVariants.{Syntax, Repeat, TooMany}
 use Rattle.irs_resets.specs.declared.fixings.FixErr.{FixErr}

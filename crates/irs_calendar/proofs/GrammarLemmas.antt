@@ -17,7 +17,8 @@ use Rattle.irs_calendar.specs.declared.part.State.{State}
 use Rattle.irs_calendar.specs.declared.machine.Fault.{Fault}
 use Rattle.irs_calendar.specs.Rising.{all_before}
 use Rattle.irs_calendar.specs.Sections.{is_named, AreDistinct}
-use Rattle.irs_calendar.specs.Machine.{Said, Nothing, Center, Cover, Weekend, Holiday, Wrong, begun, after_center}
+use Rattle.irs_calendar.specs.Words.{Said, Nothing, Center, Cover, Weekend, Holiday, Wrong}
+use Rattle.irs_calendar.specs.Machine.{begun, after_center}
 use Rattle.irs_calendar.specs.Machine.{after_cover, after_weekend, after_holiday, after_line, at_end, fits_section}
 use Rattle.irs_calendar.specs.Words.{kind_of}
 use Rattle.irs_calendar.specs.Files.{numbered, sections_in, sections_of}

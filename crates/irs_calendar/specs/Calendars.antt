@@ -1,19 +1,13 @@
 -- What calendar files hold, and the sections that names pick.
 use Rattle.std.specs.Prelude.{◌≡◌, ℕ, ◌+◌, List, [], ◌∷◌, Option, Some, None, Result, Ok, Err}
 use Rattle.irs_calendar.specs.declared.sections.Section.{Section}
-use Rattle.irs_calendar.specs.declared.machine.Fault.{Fault}
 use Rattle.irs_calendar.specs.declared.machine.Fault.TheVariants.{Syntax, Repeat, TooMany}
 use Rattle.irs_calendar.specs.declared.calendars.CalErr.{CalErr}
 use Rattle.irs_calendar.specs.declared.calendars.CalErr.TheVariants as errors
 use Rattle.irs_calendar.specs.declared.calendars.SelErr.{SelErr}
 use Rattle.irs_calendar.specs.declared.calendars.SelErr.TheVariants as choices
 use Rattle.irs_calendar.specs.Files.{Place, sections_of}
-
--- a fault, the file's position and the line
-pub record Spot : Type 0 where
-  pub fault : Fault
-  pub file : ℕ
-  pub line : ℕ
+use Rattle.irs_calendar.specs.FirstFaults.{Spot}
 
 -- what reading gives for the file of that number
 abbrev pub in_file : {A : Type 0} → ℕ → Result A Place → Result A Spot

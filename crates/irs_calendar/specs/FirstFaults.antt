@@ -5,11 +5,15 @@ use Rattle.irs_calendar.specs.EndLines.{seen_lines}
 use Rattle.irs_calendar.specs.declared.sections.Section.{Section}
 use Rattle.irs_calendar.specs.declared.machine.Fault.{Fault}
 use Rattle.irs_calendar.specs.declared.machine.Fault.TheVariants.{Syntax, Repeat, TooMany}
-use Rattle.irs_calendar.specs.Calendars.{Spot}
 use Rattle.irs_calendar.specs.Grammar.{said_lines, spelt, RisesWithin, AreLawful, CalFiles}
-use Rattle.irs_calendar.specs.Machine.{Center, Holiday}
 use Rattle.irs_calendar.specs.Sections.{is_named, AreDistinct}
-use Rattle.irs_calendar.specs.Words.{kind_of}
+use Rattle.irs_calendar.specs.Words.{Center, Holiday, kind_of}
+
+-- a fault, the file's position and the line
+pub record Spot : Type 0 where
+  pub fault : Fault
+  pub file : ℕ
+  pub line : ℕ
 
 -- the files spell the earlier sections, and the lines of one more file spell its own
 pub record Spells (files lines : List (List ℕ)) (earlier own : List Section) : Type 0 where

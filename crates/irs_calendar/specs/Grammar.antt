@@ -3,8 +3,7 @@ use Rattle.std.specs.Prelude.{◌≡◌, ℕ, ◌≤◌, List, [], ◌∷◌, �
 use Rattle.irs_calendar.specs.EndLines.{seen_lines}
 use Rattle.irs_calendar.specs.declared.sections.Section.{Section}
 use Rattle.irs_base.specs.Limits.{most_holidays}
-use Rattle.irs_calendar.specs.Machine.{Said, Nothing, Center, Cover, Weekend, Holiday, Wrong}
-use Rattle.irs_calendar.specs.Words.{kind_of}
+use Rattle.irs_calendar.specs.Words.{Said, Nothing, Center, Cover, Weekend, Holiday, Wrong, kind_of}
 use Rattle.irs_calendar.specs.Sections.{AreDistinct}
 
 -- what one more line in front says, unless it says nothing

@@ -10,17 +10,9 @@ use Rattle.irs_calendar.specs.declared.part.Said.TheVariants as given
 use Rattle.irs_base.specs.Limits.{most_holidays}
 use Rattle.irs_calendar.specs.declared.machine.Fault.{Fault}
 use Rattle.irs_calendar.specs.declared.machine.Fault.TheVariants.{Syntax, Repeat, TooMany}
+use Rattle.irs_calendar.specs.Words.{Said, Nothing, Center, Cover, Weekend, Holiday, Wrong}
 use Rattle.irs_calendar.specs.Rising.{all_before}
 use Rattle.irs_calendar.specs.Sections.{is_named}
-
--- what one line says
-pub data Said : Type 0 where
-  Nothing : Said
-  Center : List ℕ → Said
-  Cover : ℤ → ℤ → Said
-  Weekend : List Bool → Said
-  Holiday : ℤ → Said
-  Wrong : Said
 
 -- what a reader was given, as words of the grammar
 abbrev pub said_of : Given → Said

@@ -1,13 +1,21 @@
 -- What the fields of a line say.
 use Rattle.std.specs.Prelude.{ℕ, Bool, true, false, ◌&&◌, ◌==◌, List, [], ◌∷◌, length, ℤ, Option, Some, None, nat_le}
-use Rattle.std.specs.Prelude.{slice_index_or, slice_set, if◌then◌else◌}
+use Rattle.std.specs.Prelude.{codes, slice_index_or, slice_set, if◌then◌else◌}
 use Rattle.std.specs.List.{list_all}
 use Rattle.std.specs.Ordering.{int_cmp, is_le}
 use Rattle.std.specs.Str.{bytes_eq}
 use Rattle.irs_base.specs.Dates.{date_at}
 use Rattle.irs_base.specs.Limits.{most_name}
 use Rattle.irs_base.specs.Fields.{begins_space, fields}
-use Rattle.irs_calendar.specs.Machine.{Said, Nothing, Center, Cover, Weekend, Holiday, Wrong}
+
+-- what one line says
+pub data Said : Type 0 where
+  Nothing : Said
+  Center : List ℕ → Said
+  Cover : ℤ → ℤ → Said
+  Weekend : List Bool → Said
+  Holiday : ℤ → Said
+  Wrong : Said
 
 -- from ! to ~
 abbrev pub is_plain : ℕ → Bool
@@ -39,13 +47,13 @@ said_cover (a ∷ b ∷ c ∷ cs) = Wrong
 -- the place in the week, from Monday
 abbrev pub place_of : List ℕ → Option ℕ
 place_of n =
-    if bytes_eq n (77 ∷ 79 ∷ 78 ∷ []) then Some 0
-    else (if bytes_eq n (84 ∷ 85 ∷ 69 ∷ []) then Some 1
-    else (if bytes_eq n (87 ∷ 69 ∷ 68 ∷ []) then Some 2
-    else (if bytes_eq n (84 ∷ 72 ∷ 85 ∷ []) then Some 3
-    else (if bytes_eq n (70 ∷ 82 ∷ 73 ∷ []) then Some 4
-    else (if bytes_eq n (83 ∷ 65 ∷ 84 ∷ []) then Some 5
-    else (if bytes_eq n (83 ∷ 85 ∷ 78 ∷ []) then Some 6
+    if bytes_eq n (codes "MON") then Some 0
+    else (if bytes_eq n (codes "TUE") then Some 1
+    else (if bytes_eq n (codes "WED") then Some 2
+    else (if bytes_eq n (codes "THU") then Some 3
+    else (if bytes_eq n (codes "FRI") then Some 4
+    else (if bytes_eq n (codes "SAT") then Some 5
+    else (if bytes_eq n (codes "SUN") then Some 6
     else None))))))
 
 -- different names, each of which marks its day
@@ -76,9 +84,9 @@ no_days = false ∷ false ∷ false ∷ false ∷ false ∷ false ∷ false ∷ 
 -- what a line says by its first field: center, cover, weekend, else a date
 abbrev pub said_by : List ℕ → List (List ℕ) → Said
 said_by w ws =
-    if bytes_eq w (99 ∷ 101 ∷ 110 ∷ 116 ∷ 101 ∷ 114 ∷ []) then said_center ws
-    else (if bytes_eq w (99 ∷ 111 ∷ 118 ∷ 101 ∷ 114 ∷ []) then said_cover ws
-    else (if bytes_eq w (119 ∷ 101 ∷ 101 ∷ 107 ∷ 101 ∷ 110 ∷ 100 ∷ []) then weekend_of (Some no_days) ws
+    if bytes_eq w (codes "center") then said_center ws
+    else (if bytes_eq w (codes "cover") then said_cover ws
+    else (if bytes_eq w (codes "weekend") then weekend_of (Some no_days) ws
     else said_holiday w ws))
 
 -- the line begins with `#`

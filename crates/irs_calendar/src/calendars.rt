@@ -14,16 +14,16 @@ ghost use Rattle.irs_calendar.specs.Sections.{is_named, AreDistinct};
 ghost use Rattle.irs_calendar.specs.Selected.{sections_named, day_set_of, first_missing, CoversCommon};
 ghost use Rattle.irs_calendar.specs.declared.sections.Section.{Section};
 ghost use Rattle.irs_calendar.specs.declared.calendars.SelErr.TheVariants.{Memory as NoMemory};
-ghost use Rattle.irs_calendar.specs.Calendars.{Spot, calendars_in, in_file, spot_of, GivesAll, SelFails};
+ghost use Rattle.irs_calendar.specs.Calendars.{calendars_in, in_file, spot_of, GivesAll, SelFails};
 ghost use Rattle.irs_calendar.specs.Grammar.{CalFiles};
-ghost use Rattle.irs_calendar.specs.FirstFaults.{IsFirstFault, HaveOneFirstFault, AreSpeltOrFaulty};
+ghost use Rattle.irs_calendar.specs.FirstFaults.{IsFirstFault, HaveOneFirstFault, AreSpeltOrFaulty, Spot};
 
-use crate::RunSet;
 use crate::chosen::chosen_days;
 use crate::files::{FileErr, read_file};
 use crate::machine::Fault;
 use crate::section_list::SectionList;
 use crate::sections::Section;
+use crate::{GoodDays, RunSet};
 use irs_base::{Memory, Names, Text};
 use std::alloc::{AllocFailed, Global};
 use std::marker::Model;
@@ -162,8 +162,6 @@ impl Calendars {
     pub fn read(alloc: Global, files: &[Vec<u8>]) -> Result<Calendars, CalErr>
         requires few { length files.now ≤ most_files }
         requires short { All (λ f. length f.items ≤ most_bytes) files.now }
-        // What is read line after line: all sections, or the first fault.
-        ensures lines { GivesAll result (calendars_in 1 [] (map (λ f. f.items) files.now)) }
         // The files spell the sections, by the grammar.
         ensures spelt { IfOk result (λ c. CalFiles (map (λ f. f.items) files.now) c) }
         // Files with a faulty line spell no sections.
@@ -172,8 +170,9 @@ impl Calendars {
         // An error is at the first fault: the lines before it can go on, and with the faulty line
         // nothing can.
         ensures first { IfErr result (λ e. IfSome (spot_of e) (IsFirstFault (map (λ f. f.items) files.now))) }
-        // Where sections are read there is no fault.
-        ensures faultless { IfOk result (λ c. (s : Spot) → IsFirstFault (map (λ f. f.items) files.now) s → ⊥) }
+        // Files that spell sections have no first fault, whatever the memory.
+        ensures faultless { (ss : List Section) → CalFiles (map (λ f. f.items) files.now) ss
+            → (s : Spot) → IsFirstFault (map (λ f. f.items) files.now) s → ⊥ }
         // Files spell sections or have a first fault, whatever the memory.
         ensures decided { AreSpeltOrFaulty (map (λ f. f.items) files.now) }
         // At most one fault is the first.
@@ -197,7 +196,7 @@ impl Calendars {
     pub fn select(&self, alloc: Global, names: &Names) -> Result<RunSet, SelErr>
         requires { length names.now ≤ most_centers }
         ensures found { IsOk result → first_missing self.now 1 names.now ≡ None }
-        ensures days { IfOk result (λ s. SameDays (set_of_runs s) (day_set_of self.now names.now)) }
+        ensures days { IfOk result (λ s. SameDays (⟦<RunSet as GoodDays>⟧.days s) (day_set_of self.now names.now)) }
         // A day is in the cover exactly where each named section's cover has it.
         ensures cover { IfOk result (λ s. CoversCommon (sections_named self.now names.now) (set_of_runs s)) }
         ensures missing { IfErr result (λ e. SelFails e (first_missing self.now 1 names.now)) }

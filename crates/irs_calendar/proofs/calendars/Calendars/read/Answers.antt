@@ -2,7 +2,8 @@ use Rattle.std.proofs.Common.{◌≡◌, ℕ, List, [], IfSome, IsSome, Option, 
 use Rattle.std.proofs.lemmas.Result.{err_from_is_err_and}
 use Rattle.irs_calendar.specs.declared.sections.Section.{Section}
 use Rattle.irs_calendar.specs.declared.calendars.CalErr.{CalErr}
-use Rattle.irs_calendar.specs.Calendars.{Spot, calendars_in, spot_of, SpotFails}
+use Rattle.irs_calendar.specs.FirstFaults.{Spot}
+use Rattle.irs_calendar.specs.Calendars.{calendars_in, spot_of, SpotFails}
 use Rattle.irs_calendar.specs.Grammar.{CalFiles}
 use Rattle.irs_calendar.proofs.DistinctLemmas.{calendars_apart}
 use Rattle.irs_calendar.proofs.CalendarLemmas.{texts}
@@ -48,11 +49,12 @@ returns-in_err-sections-clause-first c =
     let p = err_from_is_err_and c.from_residual.result c.from_residual.ensures.1 in
     rw (p.1, p.2) (first_of (spot_of c.in_err-sections.field-0.0) (texts c.args.files.now) c.in_err-sections.ensures)
 
+pub returns-in_err-sections-clause-faultless : goal.returns-in_err-sections-clause-faultless
+returns-in_err-sections-clause-faultless c =
+    λ ss spelt s first. faulty_spell_none (texts c.args.files.now) s ss first spelt
+
 pub returns-clause-faultless : goal.returns-clause-faultless
-returns-clause-faultless c = λ s first.
-    let apart = calendars_apart 1 [] (texts c.args.files.now) c.in_ok-sections.sections tt c.in_ok-sections.ensures in
-    faulty_spell_none (texts c.args.files.now) s c.in_ok-sections.sections first
-    (read_is_spelt (texts c.args.files.now) c.in_ok-sections.sections apart c.in_ok-sections.ensures)
+returns-clause-faultless c = λ ss spelt s first. faulty_spell_none (texts c.args.files.now) s ss first spelt
 
 pub returns-in_err-sections-clause-decided : goal.returns-in_err-sections-clause-decided
 returns-in_err-sections-clause-decided c = spelt_or_faulty (texts c.args.files.now)
