@@ -21,3 +21,4 @@ pub mod StubLemmas
 pub mod MessageLemmas
 pub mod OneAnswer
 pub mod NoteLemmas
+pub mod ListLemmas

@@ -19,6 +19,7 @@ pub mod Common
 pub mod Found
 pub mod Fronts
 pub mod Centers
+pub mod Listed
 pub mod Misfits
 pub mod Spots
 pub mod Notes

@@ -1,5 +1,5 @@
 -- What a sentence adds to what a reply says, and when that is so.
-use Rattle.std.specs.Prelude.{◌≡◌, Bool, true, false, List, Option, Some, None}
+use Rattle.std.specs.Prelude.{◌≡◌, ℕ, Bool, true, false, List, Option, Some, None}
 use Rattle.irs_base.specs.declared.places.Broken.{Broken}
 use Rattle.irs_audit.specs.Verdicts.{unfixed_count}
 use Rattle.irs_schedule.specs.Parts.{Part}
@@ -70,12 +70,12 @@ pub record IsPassedNote (t : Task) (g : Given) (n : Note) : Type 0 where
 
 -- ---- a refusal
 
--- where the document breaks this rule
-abbrev pub IsRuleNote : SourceText → Broken → Note → Type 0
-IsRuleNote w b note.Nothing = ⊥
-IsRuleNote w b (note.Unfixed u) = ⊥
-IsRuleNote w b (note.Spot s) = IsSpot w b s
-IsRuleNote w b (note.Front f) = ⊥
+-- where the document breaks this rule, with calendar files of these bytes
+abbrev pub IsRuleNote : SourceText → List (List ℕ) → Broken → Note → Type 0
+IsRuleNote w files b note.Nothing = ⊥
+IsRuleNote w files b (note.Unfixed u) = ⊥
+IsRuleNote w files b (note.Spot s) = IsSpot w files b s
+IsRuleNote w files b (note.Front f) = ⊥
 
 -- how a text begins, where that tells why it isn't JSON
 abbrev pub front_note : Option Front → Note
@@ -87,15 +87,16 @@ abbrev pub IsUnreadNote : SourceText → Unread → Note → Type 0
 IsUnreadNote w (unread.Json line column) n = n ≡ front_note (front_of w.bytes)
 IsUnreadNote w (unread.Xml line column) n = n ≡ note.Nothing
 
--- what is added to a refusal: where the document breaks a rule, or how its text begins
-abbrev pub IsRefusalNote : SourceText → Refusal → Note → Type 0
-IsRefusalNote w (refusal.Unreadable u) n = IsUnreadNote w u n
-IsRefusalNote w (refusal.Rule b) n = IsRuleNote w b n
-IsRefusalNote w (refusal.Calendars e) n = n ≡ note.Nothing
-IsRefusalNote w (refusal.Fixings e) n = n ≡ note.Nothing
-IsRefusalNote w (refusal.UnreadableFlows u) n = n ≡ note.Nothing
-IsRefusalNote w (refusal.Flows e) n = n ≡ note.Nothing
-IsRefusalNote w refusal.Memory n = n ≡ note.Nothing
+-- what is added to a refusal: where the document breaks a rule, or how its text begins; with calendar files of
+-- these bytes
+abbrev pub IsRefusalNote : SourceText → List (List ℕ) → Refusal → Note → Type 0
+IsRefusalNote w files (refusal.Unreadable u) n = IsUnreadNote w u n
+IsRefusalNote w files (refusal.Rule b) n = IsRuleNote w files b n
+IsRefusalNote w files (refusal.Calendars e) n = n ≡ note.Nothing
+IsRefusalNote w files (refusal.Fixings e) n = n ≡ note.Nothing
+IsRefusalNote w files (refusal.UnreadableFlows u) n = n ≡ note.Nothing
+IsRefusalNote w files (refusal.Flows e) n = n ≡ note.Nothing
+IsRefusalNote w files refusal.Memory n = n ≡ note.Nothing
 
 -- ---- the note of a reply
 
@@ -105,4 +106,4 @@ IsNoteOf t g Done n = IsPassedNote t g n
 IsNoteOf t g (Uncompared k) n = IsPassedNote t g n
 IsNoteOf t g (NotAgreed d) n = IsPassedNote t g n
 IsNoteOf t g Breaks n = IsPassedNote t g n
-IsNoteOf t g (Refused r) n = IsRefusalNote g.document r n
+IsNoteOf t g (Refused r) n = IsRefusalNote g.document g.calendars r n

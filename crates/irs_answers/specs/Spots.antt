@@ -13,9 +13,11 @@ use Rattle.irs_locate.specs.Texts.{IsTextOf}
 use Rattle.irs_locate.specs.declared.kinds.Shape.{Shape}
 use Rattle.irs_answers.specs.Centers.{IsCenterIn}
 use Rattle.irs_answers.specs.Forms.{SourceText, TextReads}
+use Rattle.irs_answers.specs.Listed.{IsListOf}
 use Rattle.irs_answers.specs.Misfits.{IsMisfitIn}
 use Rattle.irs_answers.specs.declared.forms.Form.{Form}
 use Rattle.irs_answers.specs.declared.forms.Form.TheVariants.{Json, Xml}
+use Rattle.irs_answers.specs.declared.listed.Listed.{Listed}
 use Rattle.irs_answers.specs.declared.misfits.Misfit.{Misfit}
 use Rattle.irs_answers.specs.declared.spots.Spot.{Spot}
 
@@ -103,14 +105,20 @@ abbrev pub IsCenterIf : Bool → SourceText → Place → Option (List ℕ) → 
 IsCenterIf true w place center = IfSome center (IsCenterIn w place)
 IsCenterIf false w place center = center ≡ None
 
+-- the centres that the calendar files have, for a rule that is about the name of a centre; none where memory ran out
+abbrev pub IsListIf : Bool → List (List ℕ) → Option Listed → Type 0
+IsListIf true files list = IfSome list (IsListOf files)
+IsListIf false files list = list ≡ None
+
 -- ---- all of them
 
--- where the document breaks a rule
-pub record IsSpot (w : SourceText) (b : Broken) (s : Spot) : Type 0 where
+-- where the document breaks a rule, with calendar files of these bytes
+pub record IsSpot (w : SourceText) (files : List (List ℕ)) (b : Broken) (s : Spot) : Type 0 where
   pub member : IsMemberIf (is_of_member b.rule) w b s.member
   pub shape : IsShapeIf (is_of_shape b.rule) w b.place s.shape
   pub text : IsTextIf (is_of_text b.rule) w b.place s.text
   pub kind : IsKindIf (is_of_text b.rule) b.place.elem s.kind
   pub center : IsCenterIf (is_of_center b.rule) w b.place s.center
+  pub listed : IsListIf (is_of_center b.rule) files s.listed
   pub misfit : IsMisfitIf (is_of_roll b.rule) w b.place s.misfit
   pub line : IsLineIn w.form w.bytes b.place s.line

@@ -86,19 +86,26 @@ pub fn reply_by(
 {
     match carry_out(alloc, task, files, common) {
         Ok(noted) => Ok(noted),
-        Err(refusal) => refused_reply(alloc, &files.document, refusal),
+        Err(refusal) => refused_reply(alloc, &files.document, common, refusal),
     }
 }
 
 // The reply that a refusal is, and where the document breaks a rule.
-fn refused_reply(alloc: Global, document: &Source, refusal: Refusal) -> Result<NotedReply, Memory>
+fn refused_reply(
+    alloc: Global,
+    document: &Source,
+    common: &Common,
+    refusal: Refusal,
+) -> Result<NotedReply, Memory>
+    requires { AreRead common.now }
     ensures answer { IfOk result (λ r. answer_of refusal ≡ Some (reply_status r.reply, reply_text r.reply)) }
     ensures judged { IfOk result (λ r. IsJudged r.reply) }
     ensures refused { IfOk result (λ r. r.reply ≡ Refused refusal) }
-    ensures noted { IfOk result (λ r. IsRefusalNote (source_by document.now) refusal r.note) }
+    ensures noted { let calendars = (given_by common.now.files).calendars in
+        IfOk result (λ r. IsRefusalNote (source_by document.now) calendars refusal r.note) }
 {
     let reply = refusal.reply()?;
-    let note = refusal_note(alloc, document, &refusal);
+    let note = refusal_note(alloc, document, common, &refusal);
     Ok(NotedReply { reply, note })
 }
 

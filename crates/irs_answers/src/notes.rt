@@ -5,11 +5,14 @@ ghost use Rattle.irs_audit.specs.Verdicts.{unfixed_count};
 ghost use Rattle.irs_unfixed.specs.Counts.{payment_count};
 ghost use Rattle.irs_unfixed.specs.Missing.{IsMadeFrom, made_from};
 ghost use Rattle.irs_unfixed.specs.Missing.{fixing_of as missing_fixing, place_of as missing_place};
+ghost use Rattle.irs_answers.specs.Common.{AreRead};
 ghost use Rattle.irs_answers.specs.Forms.{source_by};
 ghost use Rattle.irs_answers.specs.Found.{facts_by};
+ghost use Rattle.irs_answers.specs.Given.{given_by};
 ghost use Rattle.irs_answers.specs.Notes.{IsAmountsNote, IsFixedNote, IsRefusalNote, IsUnreadNote, fixing_of};
 ghost use Rattle.irs_answers.specs.Notes.{front_note as front_note_of, made_by, place_of};
 
+use crate::common::Common;
 use crate::due::Found;
 use crate::forms::{Source, Unread};
 use crate::fronts::{Front, front_of};
@@ -115,13 +118,20 @@ fn counted(alloc: Global, schedule: &Schedule, missing: &Missing<'_>) -> Result<
 
 // ---- a broken rule
 
-/// What a sentence adds to a refusal: where the document breaks a rule, or how its text begins.
-pub(crate) fn refusal_note(alloc: Global, document: &Source, refusal: &Refusal) -> Note
-    ensures { IsRefusalNote (source_by document.now) refusal.now result }
+/// What a sentence adds to a refusal: where the document breaks a rule, or how its text begins. The calendar
+/// files were read before.
+pub(crate) fn refusal_note(
+    alloc: Global,
+    document: &Source,
+    common: &Common,
+    refusal: &Refusal,
+) -> Note
+    requires { AreRead common.now }
+    ensures { IsRefusalNote (source_by document.now) (given_by common.now.files).calendars refusal.now result }
 {
     match refusal {
         Refusal::Unreadable(unread) => unread_note(document, *unread),
-        Refusal::Rule(broken) => Note::Spot(spot_of(alloc, document, broken)),
+        Refusal::Rule(broken) => Note::Spot(spot_of(alloc, document, common, broken)),
         Refusal::Calendars(_) => Note::Nothing,
         Refusal::Fixings(_) => Note::Nothing,
         Refusal::UnreadableFlows(_) => Note::Nothing,

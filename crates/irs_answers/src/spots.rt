@@ -1,13 +1,18 @@
 //! Where in the text of a document a rule is broken, beyond its place: what the sentence on a refusal adds. That it
 //! is said is our rule.
 ghost use Rattle.std.specs.Prelude.{◌≡◌, IfSome};
+ghost use Rattle.irs_answers.specs.Common.{AreRead};
 ghost use Rattle.irs_answers.specs.Forms.{source_by};
-ghost use Rattle.irs_answers.specs.Spots.{IsCenterIf, IsKindAt, IsKindIf, IsLineIn, IsMemberIf, IsMemberIn, IsMisfitIf};
+ghost use Rattle.irs_answers.specs.Given.{given_by};
+ghost use Rattle.irs_answers.specs.Spots.{IsCenterIf, IsKindAt, IsKindIf, IsLineIn, IsListIf, IsMemberIf, IsMemberIn};
+ghost use Rattle.irs_answers.specs.Spots.{IsMisfitIf};
 ghost use Rattle.irs_answers.specs.Spots.{IsShapeIf, IsShapeIn, IsSpot, IsTextIf, IsTextIn, is_of_center, is_of_member};
 ghost use Rattle.irs_answers.specs.Spots.{is_of_roll, is_of_shape, is_of_text};
 
 use crate::centers::center_at;
+use crate::common::Common;
 use crate::forms::{Form, Source, read_document};
+use crate::listed::{Listed, listed_centers};
 use crate::misfits::{Misfit, misfit_at};
 use irs_base::{Broken, Elem, Memory, Place, Rule, Text};
 use irs_locate::{Leaf, Shape, kind_of, line_of, member_of, shape_at, text_of};
@@ -27,15 +32,18 @@ pub struct Spot {
     pub kind: Option<Leaf>,
     /// The name of the centre, for K12.
     pub center: Option<Text>,
+    /// The centres that the calendar files have, for K12.
+    pub listed: Option<Listed>,
     /// The roll and the day that it doesn't fit, for K30.
     pub misfit: Option<Misfit>,
     /// The line of the element in FpML XML, from 1.
     pub line: Option<u32>,
 }
 
-/// Where the document breaks a rule.
-pub(crate) fn spot_of(alloc: Global, document: &Source, broken: &Broken) -> Spot
-    ensures { IsSpot (source_by document.now) broken.now result }
+/// Where the document breaks a rule. The calendar files were read before.
+pub(crate) fn spot_of(alloc: Global, document: &Source, common: &Common, broken: &Broken) -> Spot
+    requires { AreRead common.now }
+    ensures { IsSpot (source_by document.now) (given_by common.now.files).calendars broken.now result }
 {
     Spot {
         member: member_in(alloc, document, broken),
@@ -43,6 +51,7 @@ pub(crate) fn spot_of(alloc: Global, document: &Source, broken: &Broken) -> Spot
         text: text_in(alloc, document, broken),
         kind: kind_in(broken),
         center: center_in(alloc, document, broken),
+        listed: listed_in(alloc, common, broken),
         misfit: misfit_in(alloc, document, broken),
         line: line_in(document, &broken.place),
     }
@@ -193,6 +202,18 @@ fn center_in(alloc: Global, document: &Source, broken: &Broken) -> Option<Text>
 {
     if is_of_center(broken.rule) {
         center_at(alloc, document, broken.place)
+    } else {
+        None
+    }
+}
+
+// The centres that the calendar files have, for a rule that is about the name of a centre.
+fn listed_in(alloc: Global, common: &Common, broken: &Broken) -> Option<Listed>
+    requires { AreRead common.now }
+    ensures { IsListIf (is_of_center broken.now.rule) (given_by common.now.files).calendars result }
+{
+    if is_of_center(broken.rule) {
+        listed_centers(alloc, common)
     } else {
         None
     }

@@ -1,10 +1,14 @@
 -- The sections of calendar files: what each says of its centre.
-use Rattle.std.specs.Prelude.{◌≡◌, ℕ, Bool, false, not, ◌&&◌, List, [], ◌∷◌, Option, ℤ, slice_index_or}
+use Rattle.std.specs.Prelude.{◌≡◌, ℕ, Bool, false, not, ◌&&◌, List, [], ◌∷◌, Option, map, ℤ, slice_index_or}
 use Rattle.std.specs.List.{list_all, list_any, find}
 use Rattle.std.specs.Str.{bytes_eq}
 use Rattle.irs_base.specs.Days.{weekday_at}
 use Rattle.irs_calendar.specs.declared.sections.Section.{Section}
 use Rattle.irs_calendar.specs.Rising.{is_listed}
+
+-- the names of the sections, in their order
+abbrev pub center_names : List Section → List (List ℕ)
+center_names ss = map (λ s. s.name) ss
 
 -- a section has that name
 abbrev pub is_named : List ℕ → List Section → Bool

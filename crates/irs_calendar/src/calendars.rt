@@ -5,12 +5,12 @@
 //! SUN, and then the holidays. The holidays rise strictly inside the cover. The last line may be an
 //! end line. The format is ours.
 ghost use Rattle.std.specs.Prelude.{◌≡◌, ◌≤◌, List, [], length, map, Some, Ok, All, IsOk, IfOk, IfErr};
-ghost use Rattle.std.specs.Prelude.{IfSome, IsSome, None};
+ghost use Rattle.std.specs.Prelude.{IfSome, IsSome, None, option_copied, slice_get};
 ghost use Rattle.irs_base.specs.Limits.{most_bytes, most_centers, most_files};
 ghost use Rattle.irs_calendar.specs.Runs.{set_of_runs};
 ghost use Rattle.irs_calendar.specs.Files.{sections_of};
 ghost use Rattle.irs_calendar.specs.GoodDays.{SameDays};
-ghost use Rattle.irs_calendar.specs.Sections.{is_named, AreDistinct};
+ghost use Rattle.irs_calendar.specs.Sections.{center_names, is_named, AreDistinct};
 ghost use Rattle.irs_calendar.specs.Selected.{sections_named, day_set_of, first_missing, CoversCommon};
 ghost use Rattle.irs_calendar.specs.declared.sections.Section.{Section};
 ghost use Rattle.irs_calendar.specs.declared.calendars.SelErr.TheVariants.{Memory as NoMemory};
@@ -187,6 +187,21 @@ impl Calendars {
         ensures { result ≡ is_named name.now self.now }
     {
         self.sections.has_name(name.as_slice())
+    }
+
+    /// How many centres there are. No memory is taken.
+    pub fn center_count(&self) -> usize
+        ensures { result ≡ length self.now }
+    {
+        self.sections.len()
+    }
+
+    /// The name of the centre at that place, counted from 0 in the order of the files; none past the last. No memory
+    /// is taken.
+    pub fn center(&self, place: usize) -> Option<&Text>
+        ensures { option_copied result ≡ slice_get (center_names self.now) place }
+    {
+        self.sections.name_at(place)
     }
 
     /// The business days of the centres with these names. The cover is what their covers have in

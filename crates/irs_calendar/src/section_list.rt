@@ -1,10 +1,10 @@
 //! The sections of calendar files in order, found by the names of their centres.
-ghost use Rattle.std.specs.Prelude.{◌≡◌, [], ◌∷◌, ◌++◌, IfOk};
+ghost use Rattle.std.specs.Prelude.{◌≡◌, [], ◌∷◌, ◌++◌, IfOk, length, slice_get};
 ghost use Rattle.std.specs.Option.{option_copied};
-ghost use Rattle.irs_calendar.specs.Sections.{is_named, section_named, AreDistinct};
+ghost use Rattle.irs_calendar.specs.Sections.{center_names, is_named, section_named, AreDistinct};
 
 use crate::sections::Section;
-use irs_base::Memory;
+use irs_base::{Memory, Text};
 use std::alloc::Global;
 use std::collections::BTreeMap;
 use std::marker::Model;
@@ -57,6 +57,23 @@ impl SectionList {
     {
         match self.places.get(name) {
             Some(place) => Some(&self.sections[*place]),
+            None => None,
+        }
+    }
+
+    /// How many sections there are.
+    pub fn len(&self) -> usize
+        ensures { result ≡ length self.now }
+    {
+        self.sections.len()
+    }
+
+    /// The name of the section at that place, counted from 0.
+    pub fn name_at(&self, place: usize) -> Option<&Text>
+        ensures { option_copied result ≡ slice_get (center_names self.now) place }
+    {
+        match self.sections.get(place) {
+            Some(section) => Some(&section.name),
             None => None,
         }
     }

@@ -1,7 +1,9 @@
--- Parts that are empty say nothing.
-use Rattle.std.proofs.Common.{◌≡◌, ℕ, zero, suc, List, [], ◌∷◌, ◌++◌, drop, refl, ap}
+-- Parts that are empty say nothing, and a text at the end is said last.
+use Rattle.std.proofs.Common.{◌≡◌, ℕ, zero, suc, List, [], ◌∷◌, ◌++◌, drop, refl, sym, ap, ◌∙◌}
+use Rattle.std.proofs.Common.{append_assoc}
+use Rattle.std.proofs.lemmas.List.{append-nil}
 use Rattle.irs_base.specs.Members.{Every}
-use Rattle.irs_plain.specs.Parts.{part_text, said_by}
+use Rattle.irs_plain.specs.Parts.{joined, part_text, said_by}
 use Rattle.irs_plain.specs.declared.parts.Part.{Part}
 
 -- a part is empty
@@ -22,3 +24,9 @@ dropped_empty (suc n) (p ∷ ps) h = dropped_empty n ps h.1
 pub said_front : (first rest : List Part) → Every IsEmpty rest → said_by (first ++ rest) ≡ said_by first
 said_front [] rest h = empty_said rest h
 said_front (p ∷ ps) rest h = ap (λ (t : List ℕ). part_text p ++ t) (said_front ps rest h)
+
+-- texts and then one more
+pub joined_last : (texts : List (List ℕ)) (last : List ℕ) → joined (texts ++ last ∷ []) ≡ joined texts ++ last
+joined_last [] last = append-nil last
+joined_last (text ∷ texts) last =
+    ap (λ (t : List ℕ). text ++ t) (joined_last texts last) ∙ sym (append_assoc text (joined texts) last)

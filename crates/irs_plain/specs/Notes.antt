@@ -23,10 +23,11 @@ use Rattle.irs_terms.specs.declared.codes.RollCode.TheVariants.{Eom, Dom, Imm, O
 use Rattle.irs_terms.specs.declared.frequency.Frequency.{Frequency}
 use Rattle.irs_terms.specs.declared.frequency.Unit.{Unit as FrequencyUnit}
 use Rattle.irs_terms.specs.declared.frequency.Unit.TheVariants.{D, W, M, Y, T}
+use Rattle.irs_plain.specs.Centers.{centers_text}
 use Rattle.irs_plain.specs.Values.{value_words}
 use Rattle.irs_plain.specs.Visible.{dots, shown_front}
-use Rattle.std.specs.Prelude.{ℕ, ◌&&◌, Bool, true, false, List, [], ◌∷◌, Option, Some, None, codes, decimal}
-use Rattle.std.specs.Prelude.{if◌then◌else◌}
+use Rattle.std.specs.Prelude.{ℕ, ◌&&◌, Bool, true, false, List, [], ◌∷◌, ◌++◌, Option, Some, None, codes}
+use Rattle.std.specs.Prelude.{decimal, if◌then◌else◌}
 
 -- ---- payments without an amount
 
@@ -180,6 +181,10 @@ spot_on s day =
 abbrev pub spot_texts : Spot → List (List ℕ)
 spot_texts s = spot_on s (day_in s.misfit)
 
+-- the same, and then the centres that the calendar files have
+abbrev pub spot_added : Spot → List (List ℕ)
+spot_added s = spot_texts s ++ centers_text s.listed ∷ []
+
 -- ---- how a text begins that isn't JSON
 
 -- what is said of that
@@ -197,7 +202,7 @@ front_texts f = front_words f ∷ []
 abbrev pub added : Note → List (List ℕ)
 added Nothing = []
 added (OfPayments u) = codes "; " ∷ unfixed_texts u
-added (OfRule s) = spot_texts s
+added (OfRule s) = spot_added s
 added (OfText f) = front_texts f
 
 -- what is said where there is no sentence before it

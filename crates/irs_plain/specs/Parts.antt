@@ -1,7 +1,7 @@
 -- A sentence as parts that are written one after the other.
 use Rattle.irs_plain.specs.Visible.{shown_front}
 use Rattle.irs_plain.specs.declared.parts.Part.{Part}
-use Rattle.irs_plain.specs.declared.parts.Part.TheVariants.{Text, Number, Shown}
+use Rattle.irs_plain.specs.declared.parts.Part.TheVariants.{Text, Number, Count, Shown}
 use Rattle.irs_plain.specs.declared.parts.Sentence.{Sentence}
 use Rattle.std.specs.Prelude.{ℕ, List, [], ◌∷◌, ◌++◌, map, decimal}
 
@@ -18,6 +18,7 @@ most_parts = 13
 abbrev pub part_text : Part → List ℕ
 part_text (Text text) = text.now
 part_text (Number n) = decimal n
+part_text (Count n) = decimal n
 part_text (Shown name) = shown_front name.now
 
 -- what parts say

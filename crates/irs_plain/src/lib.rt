@@ -2,6 +2,7 @@
 //! and `--version` are here too.
 #![tactic(auto)]
 
+mod centers;
 mod cuts;
 mod elements;
 mod help;

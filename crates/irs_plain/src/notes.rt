@@ -9,8 +9,8 @@ ghost use Rattle.irs_plain.specs.Notes.{is_done as is_done_of, is_silent_reply a
 ghost use Rattle.irs_plain.specs.Notes.{line_number as line_number_of, line_words as line_words_of};
 ghost use Rattle.irs_plain.specs.Notes.{member_words as member_words_of, name_in as name_in_of, note_of, noted};
 ghost use Rattle.irs_plain.specs.Notes.{roll_code as roll_code_of, roll_in as roll_in_of, roll_intro as roll_intro_of};
-ghost use Rattle.irs_plain.specs.Notes.{shape_of as shape_of_value, shape_words as shape_words_of, spot_on};
-ghost use Rattle.irs_plain.specs.Notes.{spot_texts, tenor_count as tenor_count_of, tenor_gap as tenor_gap_of};
+ghost use Rattle.irs_plain.specs.Notes.{shape_of as shape_of_value, shape_words as shape_words_of, spot_added};
+ghost use Rattle.irs_plain.specs.Notes.{spot_on, spot_texts, tenor_count as tenor_count_of, tenor_gap as tenor_gap_of};
 ghost use Rattle.irs_plain.specs.Notes.{tenor_letter as tenor_letter_of, text_words as text_words_of};
 ghost use Rattle.irs_plain.specs.Notes.{unfixed_on, unfixed_texts, unit_letter as unit_letter_of};
 ghost use Rattle.irs_plain.specs.Notes.{value_in as value_in_of, value_intro as value_intro_of};
@@ -18,6 +18,7 @@ ghost use Rattle.irs_plain.specs.Notes.{weekday_name as weekday_name_of};
 ghost use Rattle.irs_plain.specs.Parts.{joined, part_text, said_by};
 ghost use Rattle.std.specs.Prelude.{◌≡◌, ◌∷◌, OnOk, OnErr};
 
+use crate::centers::put_centers;
 use crate::parts::{Part, put_parts};
 use crate::values::value_words;
 use crate::visible::dots;
@@ -315,8 +316,19 @@ fn spot_parts<'a>(spot: &'a Spot, day: &'a [u8]) -> [Part<'a>; 18]
     ]
 }
 
-// Writes that.
+// Writes that, and then the centres that the calendar files have.
 fn put_spot<S: Sink>(out: &mut S, spot: &Spot) -> Result<(), PutFailed>
+    ensures ok { OnOk result (Grew (S.written out.old) (S.written out.new) (joined (spot_added spot.now))) }
+    ensures quiet { OnOk result (S.faults out.new ≡ S.faults out.old) }
+    ensures err { OnErr result (GrewByFront (S.written out.old) (S.written out.new) (joined (spot_added spot.now))) }
+    ensures rose { OnErr result (Rose (S.faults out.old) (S.faults out.new)) }
+{
+    put_where(out, spot)?;
+    put_centers(out, &spot.listed)
+}
+
+// Writes the former.
+fn put_where<S: Sink>(out: &mut S, spot: &Spot) -> Result<(), PutFailed>
     ensures ok { OnOk result (Grew (S.written out.old) (S.written out.new) (joined (spot_texts spot.now))) }
     ensures quiet { OnOk result (S.faults out.new ≡ S.faults out.old) }
     ensures err { OnErr result (GrewByFront (S.written out.old) (S.written out.new) (joined (spot_texts spot.now))) }

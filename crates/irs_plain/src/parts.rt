@@ -17,6 +17,8 @@ pub(crate) enum Part<'a> {
     Text(&'a [u8]),
     /// A number, in decimal digits.
     Number(u32),
+    /// A count, in decimal digits.
+    Count(usize),
     /// The first bytes of a name from a document, as they are shown.
     Shown(&'a [u8]),
 }
@@ -94,12 +96,24 @@ fn put_part<S: Sink>(out: &mut S, part: &Part<'_>) -> Result<(), PutFailed>
     match part {
         Part::Text(text) => out.put(text),
         Part::Number(n) => put_number(out, *n),
+        Part::Count(n) => put_count(out, *n),
         Part::Shown(name) => put_shown(out, name),
     }
 }
 
 // Writes a number in decimal digits.
 fn put_number<S: Sink>(out: &mut S, n: u32) -> Result<(), PutFailed>
+    ensures ok { OnOk result (Grew (S.written out.old) (S.written out.new) (decimal n)) }
+    ensures quiet { OnOk result (S.faults out.new ≡ S.faults out.old) }
+    ensures err { OnErr result (GrewByFront (S.written out.old) (S.written out.new) (decimal n)) }
+    ensures rose { OnErr result (Rose (S.faults out.old) (S.faults out.new)) }
+{
+    let mut digits = itoa::Buffer::new();
+    out.put(digits.format(n).as_bytes())
+}
+
+// Writes a count in decimal digits.
+fn put_count<S: Sink>(out: &mut S, n: usize) -> Result<(), PutFailed>
     ensures ok { OnOk result (Grew (S.written out.old) (S.written out.new) (decimal n)) }
     ensures quiet { OnOk result (S.faults out.new ≡ S.faults out.old) }
     ensures err { OnErr result (GrewByFront (S.written out.old) (S.written out.new) (decimal n)) }

@@ -1,0 +1,20 @@
+-- The centres that the calendar files have, as a sentence lists them.
+use Rattle.std.specs.Prelude.{◌≡◌, ℕ, ◌-◌, List, [], ◌∷◌, length, take}
+use Rattle.irs_calendar.specs.Grammar.{CalFiles}
+use Rattle.irs_calendar.specs.Sections.{center_names}
+use Rattle.irs_calendar.specs.declared.sections.Section.{Section}
+use Rattle.irs_answers.specs.declared.listed.Listed.{Listed}
+use Rattle.irs_answers.specs.declared.listed.Listed.TheVariants.{NoFile, Named}
+
+-- the most names that are listed
+abbrev pub most_listed : ℕ
+most_listed = 16
+
+-- the centres of sections: the first names in the order of the files, and how many more there are
+abbrev pub listed : List Section → Listed
+listed cal = Named (take most_listed (center_names cal)) (length cal - most_listed)
+
+-- the list is that of the sections that the files spell; without a file it says so
+abbrev pub IsListOf : List (List ℕ) → Listed → Type 0
+IsListOf [] list = list ≡ NoFile
+IsListOf (f ∷ fs) list = (cal : List Section) × CalFiles (f ∷ fs) cal × (list ≡ listed cal)
