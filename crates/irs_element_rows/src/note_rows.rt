@@ -2,13 +2,13 @@
 //! where a document breaks a rule, or how its text begins, and say the sentence. The others have a
 //! document and a broken rule. They say the line of its element in FpML XML. Or they say the name of the
 //! member that K4 or K5 means, or the text of the leaf. Or they say the sentence with the kind of the value (K3),
-//! or with a roll and a day (K30).
+//! with a roll and a day (K30), or with the centres that the calendar files have (K12).
 use crate::order_rows::broken_of;
 use crate::told::Told;
 use crate::words::words_of;
 use crate::xml_texts::bytes_of;
-use irs_answers::{Front, Misfit, Note, Refusal, Spot, Unfixed, Unread};
-use irs_base::{Broken, Text, read_date};
+use irs_answers::{Front, Listed, Misfit, Note, Refusal, Spot, Unfixed, Unread};
+use irs_base::{Broken, Names, Text, read_date};
 use irs_cli::{Cause, RunCause};
 use irs_elements::codes::roll;
 use irs_json::parse;
@@ -110,6 +110,7 @@ fn spot_with(broken: Broken, line: Option<u32>, name: Option<Text>) -> Spot {
         text,
         kind,
         center,
+        listed: None,
         misfit: None,
         line,
     }
@@ -123,6 +124,7 @@ fn spot_of(shape: Option<Shape>, misfit: Option<Misfit>) -> Spot {
         text: None,
         kind: None,
         center: None,
+        listed: None,
         misfit,
         line: None,
     }
@@ -158,6 +160,29 @@ fn tell_roll(told: &mut Told, alloc: Global, broken: Broken, text: &str) -> Opti
 fn tell_spot(told: &mut Told, alloc: Global, broken: Broken, text: &str) -> Option<()> {
     let (line, name) = text.split_once(' ')?;
     let spot = spot_with(broken, line_in(line)?, name_in(alloc, name)?);
+    tell_with(told, alloc, broken, spot)
+}
+
+// `none` for no file, or `MORE` and the names of centres.
+fn listed_in(alloc: Global, text: &str) -> Option<Listed> {
+    if text == "none" {
+        return Some(Listed::NoFile);
+    }
+    let words = words_of(alloc, text)?;
+    let more = words.first()?.parse::<usize>().ok()?;
+    let mut names = Names::new(alloc);
+    for word in &words[1..] {
+        names
+            .push(Text::from_bytes(alloc, word.as_bytes()).ok()?)
+            .ok()?;
+    }
+    Some(Listed::Named(names, more))
+}
+
+// Reports the sentence with the centres that the calendar files have.
+fn tell_listed(told: &mut Told, alloc: Global, broken: Broken, text: &str) -> Option<()> {
+    let mut spot = spot_of(None, None);
+    spot.listed = Some(listed_in(alloc, text)?);
     tell_with(told, alloc, broken, spot)
 }
 
@@ -200,6 +225,7 @@ fn tell_of_rule(told: &mut Told, alloc: Global, question: &str, text: &str) -> O
         "text" => tell_text(told, alloc, broken, text),
         "shape" => tell_shape(told, alloc, broken, text),
         "roll" => tell_roll(told, alloc, broken, text),
+        "centres" => tell_listed(told, alloc, broken, text),
         _ => None,
     }
 }
