@@ -105,7 +105,11 @@ fn name_parts<'a>(before: &'a [u8], name: &'a Text) -> [Part<'a>; 3]
     ensures { said_by result ≡ name_after before.now name.now }
 {
     let name = name.as_slice();
-    [Part::Text(before), Part::Shown(name), Part::Text(dots(name))]
+    [
+        Part::Text(before),
+        Part::Shown(name),
+        Part::Text(dots(name)),
+    ]
 }
 
 // Writes that.
@@ -136,5 +140,9 @@ fn put_more<S: Sink>(out: &mut S, more: usize) -> Result<(), PutFailed>
 fn count_parts<'a>(more: usize) -> [Part<'a>; 3]
     ensures { said_by result ≡ count_text more }
 {
-    [Part::Text(b" and "), Part::Count(more), Part::Text(b" more")]
+    [
+        Part::Text(b" and "),
+        Part::Count(more),
+        Part::Text(b" more"),
+    ]
 }

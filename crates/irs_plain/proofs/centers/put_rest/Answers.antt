@@ -17,4 +17,4 @@ returns-clause-err g c =
     on_err_then c.put_more.result c.put_more.ensures.err
     (through_last_part (g.S.Sink.written c.args.out.now) (g.S.Sink.written c.put_others.new.out)
     (g.S.Sink.written c.put_more.new.out) rest (first ++ rest)
-    (record { front = first; grew = c.in_ok-put_others.ensures.ok; is = refl; }))
+    (record { front = first; grew = c.in_ok-put_others.ensures.ok; is = refl }))

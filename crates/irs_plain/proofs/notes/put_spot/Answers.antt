@@ -41,4 +41,4 @@ returns-clause-err g c =
     on_err_then c.put_centers.result c.put_centers.ensures.err (λ k.
     subst (λ (t : List ℕ). GrewByFront before now t) (sym (joined_last texts last))
     (through_last_part before between now last (joined texts ++ last)
-    (record { front = joined texts; grew = c.in_ok-put_where.ensures.ok; is = refl; }) k))
+    (record { front = joined texts; grew = c.in_ok-put_where.ensures.ok; is = refl }) k))
