@@ -3,7 +3,7 @@ ghost use Rattle.std.specs.Prelude.{◌≡◌, IfOk, IfSome, take};
 ghost use Rattle.irs_calendar.specs.Sections.{center_names};
 ghost use Rattle.irs_answers.specs.Common.{AreRead};
 ghost use Rattle.irs_answers.specs.Given.{given_by};
-ghost use Rattle.irs_answers.specs.Listed.{IsListOf, listed as listed_of, most_listed};
+ghost use Rattle.irs_answers.specs.Listed.{IsListOf, listed, most_listed};
 
 use crate::common::Common;
 use irs_base::{Memory, Names};
@@ -33,12 +33,12 @@ pub(crate) fn listed_centers(alloc: Global, common: &Common) -> Option<Listed>
     let Ok(calendars) = common.calendars() else {
         return None;
     };
-    listed(alloc, calendars)
+    list_of(alloc, calendars)
 }
 
 // The centres of calendars. None where memory ran out.
-fn listed(alloc: Global, calendars: &Calendars) -> Option<Listed>
-    ensures { IfSome result (λ list. list ≡ listed_of calendars.now) }
+fn list_of(alloc: Global, calendars: &Calendars) -> Option<Listed>
+    ensures { IfSome result (λ list. list ≡ listed calendars.now) }
 {
     let Ok(names) = first_names(alloc, calendars) else {
         return None;
