@@ -107,7 +107,8 @@ module _ (t : Task) (g : Given) where
 
   -- what is added to a refusal
   pub refused_noted : {E : Type 0} (r : Result NotedReply E) (e : Refusal) → IfOk r (λ x. x.reply ≡ Refused e)
-      → IfOk r (λ x. IsRefusalNote g.document g.calendars e x.note) → IfOk r (λ x. IsNoteOf t g (cause_of x.reply) x.note)
+      → IfOk r (λ x. IsRefusalNote g.document g.calendars e x.note)
+      → IfOk r (λ x. IsNoteOf t g (cause_of x.reply) x.note)
   refused_noted (Ok x) e is h = subst (λ (y : Reply). IsNoteOf t g (cause_of y) x.note) (sym is) h
   refused_noted (Err m) e is h = tt
 

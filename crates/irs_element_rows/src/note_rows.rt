@@ -2,7 +2,7 @@
 //! where a document breaks a rule, or how its text begins, and say the sentence. The others have a
 //! document and a broken rule. They say the line of its element in FpML XML. Or they say the name of the
 //! member that K4 or K5 means, or the text of the leaf. Or they say the sentence with the kind of the value (K3),
-//! with a roll and a day (K30), or with the centres that the calendar files have (K12).
+//! or with a roll and a day (K30). Or they say it with the centres that the calendar files have (K12).
 use crate::order_rows::broken_of;
 use crate::told::Told;
 use crate::words::words_of;

@@ -59,7 +59,8 @@ fn put_from<S: Sink>(
 ) -> Result<(), PutFailed>
     ensures ok { OnOk result (Grew (S.written out.old) (S.written out.new) (names_text (name.now ∷ others.now) more)) }
     ensures quiet { OnOk result (S.faults out.new ≡ S.faults out.old) }
-    ensures err { OnErr result (GrewByFront (S.written out.old) (S.written out.new) (names_text (name.now ∷ others.now) more)) }
+    ensures err { OnErr result
+        (GrewByFront (S.written out.old) (S.written out.new) (names_text (name.now ∷ others.now) more)) }
     ensures rose { OnErr result (Rose (S.faults out.old) (S.faults out.new)) }
 {
     put_name(out, b"; the calendar files have ", name)?;
@@ -70,7 +71,8 @@ fn put_from<S: Sink>(
 fn put_rest<S: Sink>(out: &mut S, others: &[Text], more: usize) -> Result<(), PutFailed>
     ensures ok { OnOk result (Grew (S.written out.old) (S.written out.new) (other_names others.now ++ more_text more)) }
     ensures quiet { OnOk result (S.faults out.new ≡ S.faults out.old) }
-    ensures err { OnErr result (GrewByFront (S.written out.old) (S.written out.new) (other_names others.now ++ more_text more)) }
+    ensures err { OnErr result
+        (GrewByFront (S.written out.old) (S.written out.new) (other_names others.now ++ more_text more)) }
     ensures rose { OnErr result (Rose (S.faults out.old) (S.faults out.new)) }
 {
     put_others(out, others)?;

@@ -7,7 +7,8 @@ pub returns-in_err-put_name-clause-err : goal.returns-in_err-put_name-clause-err
 returns-in_err-put_name-clause-err g c =
     on_err c.from_residual.result
     (first_part (g.S.Sink.written c.args.out.now) (g.S.Sink.written c.put_name.new.out)
-    (name_after (codes "; the calendar files have ") c.args.name.now) (other_names c.args.others.now ++ more_text c.args.more)
+    (name_after (codes "; the calendar files have ") c.args.name.now)
+    (other_names c.args.others.now ++ more_text c.args.more)
     c.in_err-put_name.ensures.err)
 
 pub returns-clause-ok : goal.returns-clause-ok
