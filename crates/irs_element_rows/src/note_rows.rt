@@ -169,12 +169,14 @@ fn listed_in(alloc: Global, text: &str) -> Option<Listed> {
         return Some(Listed::NoFile);
     }
     let words = words_of(alloc, text)?;
-    let more = words.first()?.parse::<usize>().ok()?;
+    let [more, others @ ..] = words.as_slice() else {
+        return None;
+    };
+    let more = more.as_str().parse::<usize>().ok()?;
     let mut names = Names::new(alloc);
-    for word in &words[1..] {
-        names
-            .push(Text::from_bytes(alloc, word.as_bytes()).ok()?)
-            .ok()?;
+    for name in others {
+        let name = Text::from_bytes(alloc, name.as_bytes()).ok()?;
+        names.push(name).ok()?;
     }
     Some(Listed::Named(names, more))
 }
