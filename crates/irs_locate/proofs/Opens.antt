@@ -36,7 +36,7 @@ piece_is text n p m is e =
 
 -- ---- an element that is passed over
 
--- from the end of an opening tag on so many elements are open inside of those around its own
+-- from the end of an opening tag on `depth` elements are open inside of those around its own
 abbrev pub Nests : List ℕ → ℕ → ℕ → ℕ → Type 0
 Nests text start at depth = (lists : Open) → Within text start ([] ∷ lists)
     → (inner : Open) × ((length inner ≡ depth) × Within text at (inner ++ lists))
@@ -121,8 +121,8 @@ nests_end text start at next d one nests on lists w =
 
 -- ---- the way to an element
 
--- the tag at `found` is that of the last element on the way that was entered, and nothing in it is open at `at`: so
--- far it holds elements of some names, and fewer than the number of the next step have its name
+-- the tag at `found` is that of the last element on the way that was entered, and nothing in it is open at `at`. So
+-- far it holds elements of some names. Fewer than the number of the next step have its name
 pub record Reached (text root : List ℕ) (place : Place) (found at count left : ℕ) (next : Step) : Type 0 where
   pub names : List (List ℕ)
   pub name : List ℕ

@@ -10,7 +10,7 @@ use Rattle.std.specs.Str.{bytes_eq}
 
 -- ---- lines
 
--- the line after the bytes that begin in this line: LF ends a line. The last number stands for all lines beyond it too
+-- the line after the bytes that begin in this line: LF ends a line. All lines beyond the last number have it too
 abbrev pub lines_from : ℕ → List ℕ → ℕ
 lines_from line [] = line
 lines_from line (b ∷ bs) = if b == 10 then lines_from (min (line + 1) (2 ^ 32 - 1)) bs else lines_from line bs
@@ -22,8 +22,9 @@ line_after bytes = lines_from 1 bytes
 -- ---- open elements
 
 -- The elements that are open at a place of the text, as lists of names. The first list has the names of the elements
--- so far in the innermost open element, the last one first; the second those in the element around it, and so on. The
--- last list has those of the document itself. So the first name of each list but the first is that of an open element.
+-- so far in the innermost open element, the last one first. The second has those in the element around it, and so on.
+-- The last list has those of the document itself. So the first name of each list but the first is that of an open
+-- element.
 abbrev pub Open : Type 0
 Open = List (List (List ℕ))
 
@@ -90,8 +91,8 @@ is_end (Some p) = is_closing p.mark
 
 -- ---- the line of an element
 
--- an element with this tag has no element for the next step of the way in it: it ends at once; or it ends where it
--- holds elements of these names, and fewer than the step's number have its name; or the text can't be read to its end
+-- an element with this tag has no element for the next step of the way in it. It ends at once. Or it ends where it
+-- holds elements of these names, and fewer than the step's number have its name. Or the text can't be read to its end
 pub data Lacks (text : List ℕ) (lists : Open) (next : Step) : Option Piece → Type 0 where
   ended_at_once : (name : List ℕ) (size : ℕ) → Lacks text lists next (Some (record { mark = empty name; size = size }))
   too_few : (tag : Option Piece) (n : ℕ) (names : List (List ℕ)) → Within text n (names ∷ lists)
@@ -137,7 +138,7 @@ PassesOver text start lists None = Within text start ([] ∷ lists)
 abbrev pub HasNone : List ℕ → Type 0
 HasNone text = (n : ℕ) × (Within text n ([] ∷ []) × (is_end (piece_of (drop n text)) ≡ true))
 
--- the line is that of the element at the place, or of the last one on the way that is there; 1 where there is none
+-- the line is that of the element at the place, or of the last one on the way that is there, and 1 without any
 pub data IsLineOf (text : List ℕ) (place : Place) : ℕ → Type 0 where
   element : (at : ℕ) → IsLast text place at → IsLineOf text place (line_after (take at text))
   nothing : HasNone text → IsLineOf text place 1

@@ -24,8 +24,8 @@ root_in d =
     if has (codes "swap") d then codes "swap" else
     (if has (codes "trade") d then codes "trade" else codes "dataDocument")
 
--- the value e lies in d at the end of these steps: each leads to the value with its number among those of its name,
--- which are the items of an array, or a single value
+-- the value e lies in d at the end of these steps. Each leads to the value with its number among those of its name.
+-- These are the items of an array, or a single value
 pub data LiesAt : List Step → Data → Data → Type 0 where
   here : (d : Data) → LiesAt [] d d
   below : (step : Step) (steps : List Step) (d x e : Data)
@@ -63,8 +63,8 @@ is_out t r name =
     list_any (λ (c, row). is_refused row.kind && (row.parent == r && bytes_eq (name_at t.names c) name))
     (enumerate_from 0 t.rows)
 
--- the first of these names that breaks the rule with this number in an object at row r: for K4 one that is no
--- attribute's and that the table doesn't know, for K5 one that is out of the profile
+-- the first of these names that breaks the rule with this number in an object at row r. For K4 it is no attribute's,
+-- and the table doesn't know it. For K5 it is out of the profile
 unfoldable pub first_odd : ℕ → Known → ℕ → List (List ℕ) → Option (List ℕ)
 first_odd k t r names =
     if k == 4 then find (is_unknown t.rows t.names r) names else (if k == 5 then find (is_out t r) names else None)

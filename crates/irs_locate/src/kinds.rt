@@ -11,7 +11,7 @@ use irs_base::{Elem, Place};
 use irs_elements::{Kind, Leaf, Row};
 use irs_json::Value;
 
-/// What kind of value stands in a document.
+/// What kind of value there is in a document.
 #[derive(Clone, Copy)]
 pub enum Shape {
     /// `null`.

@@ -100,7 +100,7 @@ fn past_element(text: &[u8], start: usize) -> Option<usize>
     }
 }
 
-// Where the last element of the text is that is on the way to a place; the root has been entered, and this is
+// Where the last element of the text is that is on the way to a place. The root has been entered, and this is
 // the next step.
 fn last_below(text: &[u8], place: &Place, root: Tag<'_>, first: Step<'_>) -> usize
     requires root { IsRootTag text.now root }
@@ -176,8 +176,8 @@ fn last_on_way(text: &[u8], place: &Place, root: Tag<'_>) -> usize
 }
 
 /// The line, from 1, of the element at a place in a document in FpML XML. Where the element isn't there, it
-/// is that of the last element on the way to it that is there, and 1 where there is none. Beyond the last
-/// u32 lines aren't counted.
+/// is that of the last element on the way to it that is. It is 1 where none is. Beyond the last u32 lines
+/// aren't counted.
 pub fn line_of(text: &[u8], place: Place) -> u32
     ensures { IsLineOf text.now place result }
 {

@@ -234,9 +234,9 @@ pub(crate) fn value_at<'a>(document: &'a Value, place: &Place) -> Option<&'a Val
     None
 }
 
-/// For K4 the name of the first member of the object at the place that the table doesn't know, for K5 that
-/// of the first one that is out of the profile, in the order of `irs_json::members`. `None` exactly where
-/// no member breaks the rule so, and thus for every other rule.
+/// For K4 the name of the first member of the object at the place that the table doesn't know. For K5 it is
+/// that of the first one that is out of the profile. The order is that of `irs_json::members`. `None` comes
+/// exactly where no member breaks the rule so, and thus for every other rule.
 pub fn member_of<'a>(document: &'a Value, broken: Broken) -> Option<&'a str>
     ensures is { IfSome result (λ m. IsMemberOf (view document.now) broken m.now) }
     ensures found { (name : List ℕ) → IsMemberOf (view document.now) broken name
