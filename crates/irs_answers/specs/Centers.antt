@@ -23,8 +23,8 @@ names_at s elem =
     else (if elem == elements.reset_dates_adjustments then reset_names s.reset
     else (if elem == elements.applicable_business_days then applicable_names s.leg else None)))))))
 
--- the name is that of the centre at the place in the swap: in its stream, at its position among those of its element,
--- both counted from 1
+-- the name is that of the centre at the place in the swap. It is in the place's stream, at its position among those of
+-- its element, both counted from 1
 pub record IsCenterAt (swap : Swap) (place : Place) (name : List ℕ) : Type 0 where
   pub stream : Stream
   pub names : List (List ℕ)

@@ -45,8 +45,8 @@ no_text = json_text []
 abbrev pub IsReadable : SourceText → Type 0
 IsReadable w = (v : Data) × TextReads w v
 
--- how a text has no reading is said in its form; the line and the column are those of a byte of the text, or of its end,
--- where the text has fewer than 2^32 - 1 bytes
+-- how a text has no reading is said in its form. The line and the column are those of a byte of the text or of its end.
+-- That is said of texts below 2^32 - 1 bytes
 abbrev pub StopsIn : SourceText → Unread → Type 0
 StopsIn w (unread.Json line column) = (w.form ≡ Json) × (length w.bytes < 2 ^ 32 - 1 → LiesInJson w.bytes line column)
 StopsIn w (unread.Xml line column) = (w.form ≡ Xml) × (length w.bytes < 2 ^ 32 - 1 → LiesIn w.bytes line column)

@@ -1,4 +1,4 @@
--- How the text of a document that isn't JSON begins, where that tells why it isn't.
+-- How the text of a document that isn't JSON begins, where that shows why it isn't.
 use Rattle.std.specs.Prelude.{ℕ, ◌==◌, ◌||◌, nat_eq, Bool, false, not, List, [], ◌∷◌, Option, Some, None, if◌then◌else◌}
 use Rattle.std.specs.List.{find, starts_with}
 use Rattle.irs_answers.specs.declared.fronts.Front.{Front}
@@ -21,6 +21,6 @@ is_opening (Some b) = b == 60
 abbrev pub is_markup : List ℕ → Bool
 is_markup bytes = is_opening (find is_dark bytes)
 
--- how a text begins, where that tells why it isn't JSON
+-- how a text begins, where that shows why it isn't JSON
 abbrev pub front_of : List ℕ → Option Front
 front_of bytes = if has_mark bytes then Some Mark else (if is_markup bytes then Some Markup else None)

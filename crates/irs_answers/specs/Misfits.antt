@@ -9,8 +9,8 @@ use Rattle.irs_terms.specs.declared.stream_list.Swap.{Swap}
 use Rattle.irs_answers.specs.Forms.{SourceText, TextReads}
 use Rattle.irs_answers.specs.declared.misfits.Misfit.{Misfit}
 
--- the roll is that of the stream at the place in the swap, counted from 1, and the day is the one from which the
--- stream's periods are counted
+-- the roll is that of the stream at the place in the swap, counted from 1. The day is the one from which the stream's
+-- periods are counted
 pub record IsMisfitAt (swap : Swap) (place : Place) (m : Misfit) : Type 0 where
   pub stream : Stream
   pub is_stream : slice_get swap.streams (place.stream - 1) ≡ Some stream

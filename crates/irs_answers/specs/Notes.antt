@@ -77,7 +77,7 @@ IsRuleNote w files b (note.Unfixed u) = ⊥
 IsRuleNote w files b (note.Spot s) = IsSpot w files b s
 IsRuleNote w files b (note.Front f) = ⊥
 
--- how a text begins, where that tells why it isn't JSON
+-- how a text begins, where that shows why it isn't JSON
 abbrev pub front_note : Option Front → Note
 front_note None = note.Nothing
 front_note (Some f) = note.Front f

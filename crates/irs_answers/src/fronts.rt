@@ -1,4 +1,4 @@
-//! How the text of a document that isn't JSON begins, where that tells why it isn't. That it is said is our rule.
+//! How the text of a document that isn't JSON begins, where that shows why it isn't. That it is said is our rule.
 ghost use Rattle.std.specs.List.{find};
 ghost use Rattle.std.specs.Prelude.{◌≡◌, option_copied};
 ghost use Rattle.irs_answers.specs.Fronts.{front_of as front_in, has_mark as has_mark_of, is_dark as is_dark_of};
@@ -13,7 +13,7 @@ pub enum Front {
     Markup,
 }
 
-/// How a text begins, where that tells why it isn't JSON.
+/// How a text begins, where that shows why it isn't JSON.
 pub(crate) fn front_of(bytes: &[u8]) -> Option<Front>
     ensures { result ≡ front_in bytes.now }
 {

@@ -1,5 +1,5 @@
-//! What a sentence adds to what a reply says: which payments have no amount, where in its text a document breaks a
-//! rule, and how a text begins that isn't JSON. That it is said is our rule.
+//! What a sentence adds to what a reply says. It is which payments have no amount, where in its text a document
+//! breaks a rule, or how a text begins that isn't JSON. That it is said is our rule.
 ghost use Rattle.std.specs.Prelude.{◌≡◌, IfOk};
 ghost use Rattle.irs_audit.specs.Verdicts.{unfixed_count};
 ghost use Rattle.irs_unfixed.specs.Counts.{payment_count};
@@ -150,7 +150,7 @@ fn unread_note(document: &Source, unread: Unread) -> Note
     }
 }
 
-// How a text begins, where that tells why it isn't JSON.
+// How a text begins, where that shows why it isn't JSON.
 fn front_note(front: Option<Front>) -> Note
     ensures { result ≡ front_note_of front }
 {
