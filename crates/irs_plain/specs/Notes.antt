@@ -165,8 +165,8 @@ abbrev pub line_number : Option ℕ → List ℕ
 line_number None = []
 line_number (Some line) = decimal line
 
--- the member, the kind of the value, the text and what it has to be, the centre, the roll with the day of this text,
--- and the line
+-- the parts of a spot: the member, the kind of the value, the text and what it has to be. Then come the centre, the roll
+-- with the day of this text, and the line
 abbrev pub spot_on : Spot → List ℕ → List (List ℕ)
 spot_on s day =
     member_words s.member ∷ shown_front (name_in s.member) ∷ dots (name_in s.member)

@@ -90,8 +90,8 @@ abbrev pub column_stopped : Unread → List ℕ
 column_stopped (unread.Json line column) = decimal column
 column_stopped (unread.Xml line column) = decimal column
 
--- what a row of the table says of a text without a reading in the file of this name, after three opening texts; and where
--- the reading stopped
+-- what a row of the table says of a text without a reading in the file of this name, after three opening texts. It also
+-- says where the reading stopped
 abbrev pub unread_as : List ℕ → List ℕ → List ℕ → List ℕ → ℕ → Unread → List (List ℕ)
 unread_as one two three file row u =
     one ∷ two ∷ three

@@ -1,5 +1,5 @@
-//! What a sentence adds to what a reply says: how many payments have no amount, with the fixing that the first of
-//! them lacks; where in its text a document breaks a rule; and how a text begins that isn't JSON.
+//! What a sentence adds to what a reply says. It is how many payments have no amount, with the fixing that the
+//! first of them lacks. Or it is where in its text a document breaks a rule, or how a text begins that isn't JSON.
 ghost use Rattle.irs_base.specs.Texts.{day_text};
 ghost use Rattle.irs_outside.specs.Outside.{Grew, GrewByFront, Rose};
 ghost use Rattle.irs_plain.specs.Notes.{added as added_of, alone as alone_of, center_words as center_words_of};
@@ -286,8 +286,8 @@ fn line_number<'a>(line: Option<u32>) -> Part<'a>
     }
 }
 
-// The member, the kind of the value, the text and what it has to be, the centre, the roll with the day of this
-// text, and the line.
+// The parts of a spot: the member, the kind of the value, the text and what it has to be. Then come the centre,
+// the roll with the day of this text, and the line.
 fn spot_parts<'a>(spot: &'a Spot, day: &'a [u8]) -> [Part<'a>; 18]
     ensures { said_by result ≡ joined (spot_on spot.now day.now) }
 {

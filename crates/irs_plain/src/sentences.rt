@@ -555,8 +555,8 @@ fn say<'a>(words: &'a [String], cause: &RunCause) -> Sentence<'a>
     }
 }
 
-/// Whether there is nothing to say of what a run comes to. That is so where the command is done, each payment has
-/// its amount, as far as the command states amounts, and an audit has compared each amount.
+/// Whether there is nothing to say of what a run comes to. That is so where the command is done, and an audit has
+/// compared each amount. As far as the command states amounts, each payment has its amount.
 pub fn is_silent(cause: &RunCause) -> bool
     ensures { result ≡ is_silent_of cause.now }
 {
