@@ -1,5 +1,5 @@
-//! Where in a document a rule is broken. It is the line of an element in FpML XML, the name of the member that
-//! K4 or K5 means, or the text of a leaf (K6). That a sentence says so is our rule.
+//! Where in a document a rule is broken: the line of an element, the name of a member, or the text of a leaf.
+//! That a sentence says so is our rule.
 #![tactic(auto)]
 
 mod kinds;
