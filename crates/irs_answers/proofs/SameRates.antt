@@ -28,8 +28,8 @@ use Rattle.irs_schedule.specs.DatedRules.{DatedBroken, DatedKept}
 use Rattle.irs_schedule.specs.DaySets.{StreamSets, stream_sets}
 use Rattle.irs_schedule.specs.Outcomes.{resets_over, schedule_of, stream_of}
 use Rattle.irs_schedule.specs.Parts.{Part}
-use Rattle.irs_schedule.specs.Schedules.{IsPart, IsSchedule}
-use Rattle.irs_schedule.specs.StreamResets.{AreResetsBy, AreResetsIn, resets_by, resets_in}
+use Rattle.irs_schedule.specs.Schedules.{IsPart, IsSchedule, AreResetsBy, AreResetsIn}
+use Rattle.irs_schedule.specs.StreamResets.{resets_by, resets_in}
 use Rattle.irs_schedule.proofs.RateLemmas.{with_rates}
 
 -- where one table has the rates of another, the other has its rates

@@ -20,9 +20,8 @@ use Rattle.irs_resets.specs.ResetDates.{IsPeriod}
 use Rattle.irs_resets.specs.ResetRules.{FinalUnmet, GivesFinal, GivesInitial, InitialUnmet}
 use Rattle.irs_average.proofs.KeptResets.{no_resets_broken}
 use Rattle.irs_schedule.specs.DaySets.{reset_days, stream_sets}
-use Rattle.irs_schedule.specs.Layouts.{IsLayout}
+use Rattle.irs_schedule.specs.Schedules.{IsLayout, IsPart}
 use Rattle.irs_schedule.specs.Parts.{Part}
-use Rattle.irs_schedule.specs.Schedules.{IsPart}
 use Rattle.irs_overnight.specs.Overnight.{Asked, IsAsked, asked}
 use Rattle.irs_overnight.specs.declared.derived.DerivedRow.{DerivedRow}
 use Rattle.irs_overnight.proofs.SourceLemmas.{partner, same_stream, some_part}

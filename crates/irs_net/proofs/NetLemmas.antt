@@ -12,7 +12,7 @@ use Rattle.std.proofs.lemmas.Map.Views.{IsSome-lookup_from_Contains, list_any-fr
 use Rattle.irs_base.specs.Members.{Every}
 use Rattle.irs_base.specs.declared.line.Dec.{Dec}
 use Rattle.irs_terms.specs.Currencies.{decimals_of}
-use Rattle.irs_schedule.specs.PeriodTerms.{dec_of}
+use Rattle.irs_schedule.specs.Schedules.{dec_of}
 use Rattle.irs_schedule.proofs.PlaceLemmas.{decimals_few}
 use Rattle.irs_net.specs.Nets.{HasPlaces, IsNet, IsSumOf, key_order, same_key, part_key, row_key, known_sum}
 use Rattle.irs_net.specs.Nets.{unknown_count}

@@ -10,7 +10,7 @@ use Rattle.irs_base.specs.Members.{Every}
 use Rattle.irs_terms.specs.Currencies.{decimals_of}
 use Rattle.irs_terms.specs.declared.currency.Currency.{Currency}
 use Rattle.irs_schedule.specs.Parts.{Part}
-use Rattle.irs_schedule.specs.PeriodTerms.{dec_of}
+use Rattle.irs_schedule.specs.Schedules.{dec_of}
 use Rattle.irs_net.specs.NetParts.{parts_of}
 use Rattle.irs_net.specs.declared.parts.NetPart.{NetPart}
 use Rattle.irs_net.specs.declared.table.NetRow.{NetRow}

@@ -16,7 +16,8 @@ use Rattle.irs_rules.specs.TermsKept.{TermsKept}
 use Rattle.irs_schedule.specs.DaySets.{StreamSets}
 use Rattle.irs_schedule.specs.Layouts.{IsKeptLayout}
 use Rattle.irs_schedule.specs.Outcomes.{events_of, payment_dates_of, resets_over}
-use Rattle.irs_schedule.specs.StreamResets.{AreResetsIn, resets_in}
+use Rattle.irs_schedule.specs.Schedules.{AreResetsIn}
+use Rattle.irs_schedule.specs.StreamResets.{resets_in}
 use Rattle.irs_schedule.specs.declared.layouts.Layout.{Layout}
 use Rattle.irs_schedule.specs.declared.stream.StreamEvents.{StreamEvents}
 use Rattle.irs_schedule.proofs.RateLemmas.{resets_are, resets_in_determined, with_rates}

@@ -28,14 +28,14 @@ use Rattle.irs_rules.specs.TermsRules.{BreaksTerms}
 use Rattle.irs_rules.proofs.Kept.{lawful_stream, terms_kept}
 use Rattle.irs_schedule.specs.DatedRules.{DatedBroken, DatedKept}
 use Rattle.irs_schedule.specs.DaySets.{StreamSets, stream_sets}
-use Rattle.irs_schedule.specs.Layouts.{IsKeptLayout, IsLayout}
+use Rattle.irs_schedule.specs.Layouts.{IsKeptLayout}
+use Rattle.irs_schedule.specs.Schedules.{IsLayout, IsPeriodEntry, AreResetsIn, IsPart, IsPaymentEntry, IsSchedule}
+use Rattle.irs_schedule.specs.Schedules.{payment_of}
 use Rattle.irs_schedule.specs.Outcomes.{entries_of, events_of, layout_of, part_over, passed_at, resets_over, schedule_of}
 use Rattle.irs_schedule.specs.Outcomes.{stream_of}
 use Rattle.irs_schedule.specs.Parts.{Part}
-use Rattle.irs_schedule.specs.PeriodTerms.{IsPeriodEntry}
-use Rattle.irs_schedule.specs.Schedules.{IsPart, IsPaymentEntry, IsSchedule, payment_of}
 use Rattle.irs_schedule.specs.StreamDates.{layout_dates}
-use Rattle.irs_schedule.specs.StreamResets.{AreResetsIn, with_factors}
+use Rattle.irs_schedule.specs.StreamResets.{with_factors}
 use Rattle.irs_schedule.specs.declared.entries.PaymentEntry.{PaymentEntry}
 use Rattle.irs_schedule.specs.declared.entries.PeriodEntry.{PeriodEntry}
 use Rattle.irs_schedule.specs.declared.layouts.Layout.{Layout}

@@ -21,9 +21,7 @@ use Rattle.irs_compound.proofs.Outcomes.{payment_determined}
 use Rattle.irs_payments.specs.Payments.{Covers}
 use Rattle.irs_schedule.specs.Outcomes.{entries_of, entry_of, passed_at, paying}
 use Rattle.irs_schedule.specs.Parts.{HasAmount}
-use Rattle.irs_schedule.specs.PeriodTerms.{AreTerms, IsAmountFor, dec_of}
-use Rattle.irs_schedule.specs.Schedules.{IsPaymentEntry, payment_of}
-use Rattle.irs_schedule.specs.StreamDates.{StreamDates}
+use Rattle.irs_schedule.specs.Schedules.{AreTerms, IsAmountFor, dec_of, StreamDates, IsPaymentEntry, payment_of}
 use Rattle.irs_schedule.specs.declared.entries.PaymentEntry.{PaymentEntry}
 use Rattle.irs_schedule.proofs.RateLemmas.{AreAbove}
 use Rattle.irs_schedule.proofs.TermsThere.{amount_by, terms_by, terms_fit, terms_there}

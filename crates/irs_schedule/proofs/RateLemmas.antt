@@ -33,8 +33,8 @@ use Rattle.irs_observed.specs.declared.overnight_rate.OvernightRate.TheVariants.
 use Rattle.irs_observed.proofs.OvernightOutcomes.{one_overnight, overnight_dated, overnight_determined, rates_above}
 use Rattle.irs_compound.specs.OvernightRates.{IsAbove}
 use Rattle.irs_schedule.specs.KeptTerms.{is_daily, is_floating}
-use Rattle.irs_schedule.specs.StreamResets.{AreResetsBy, AreResetsIn, HasRates, rate_in, resets_alone}
-use Rattle.irs_schedule.specs.StreamResets.{resets_by, resets_in}
+use Rattle.irs_schedule.specs.Schedules.{AreResetsBy, AreResetsIn, rate_in}
+use Rattle.irs_schedule.specs.StreamResets.{HasRates, resets_alone, resets_by, resets_in}
 
 -- resets and rates by their lists
 abbrev pub with_rates : List Reset → List OvernightRate → OvernightResets

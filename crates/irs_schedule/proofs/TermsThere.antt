@@ -24,10 +24,9 @@ use Rattle.irs_compound.specs.declared.periods.PeriodTerm.{PeriodTerm}
 use Rattle.irs_compound.proofs.FractionFits.{fraction_is_fit}
 use Rattle.irs_payments.proofs.PlaceLemmas.{rises_at}
 use Rattle.irs_schedule.specs.KeptTerms.{kept_of}
-use Rattle.irs_schedule.specs.Periods.{count_of, observed_of, period_by, periods_by}
-use Rattle.irs_schedule.specs.PeriodTerms.{IsPeriodTerm, IsPeriodEntry, AreTerms, IsAmountBy, dec_of}
-use Rattle.irs_schedule.specs.StreamDates.{StreamDates}
-use Rattle.irs_schedule.specs.StreamResets.{rate_in}
+use Rattle.irs_schedule.specs.Periods.{count_of, period_by, periods_by}
+use Rattle.irs_schedule.specs.Schedules.{observed_of, IsPeriodTerm, IsPeriodEntry, AreTerms, IsAmountBy, dec_of}
+use Rattle.irs_schedule.specs.Schedules.{StreamDates, rate_in}
 use Rattle.irs_schedule.proofs.RateLemmas.{AreAbove}
 
 -- the terms of period i as a function

@@ -20,11 +20,8 @@ use Rattle.irs_compound.specs.Private.OvernightLaws.{one_rates_in}
 use Rattle.irs_compound.specs.declared.periods.PeriodTerm.{PeriodTerm}
 use Rattle.irs_schedule.specs.declared.entries.PaymentEntry.{PaymentEntry}
 use Rattle.irs_schedule.specs.declared.entries.PeriodEntry.{PeriodEntry}
-use Rattle.irs_schedule.specs.Periods.{observed_of}
-use Rattle.irs_schedule.specs.PeriodTerms.{IsPeriodTerm, IsPeriodEntry, AreTerms, IsAmountBy, IsAmountFor, dec_of}
-use Rattle.irs_schedule.specs.Schedules.{IsPaymentEntry, payment_of}
-use Rattle.irs_schedule.specs.StreamDates.{StreamDates}
-use Rattle.irs_schedule.specs.StreamResets.{rate_in}
+use Rattle.irs_schedule.specs.Schedules.{observed_of, StreamDates, rate_in, IsPeriodTerm, IsPeriodEntry, AreTerms}
+use Rattle.irs_schedule.specs.Schedules.{IsAmountBy, IsAmountFor, dec_of, IsPaymentEntry, payment_of}
 use Rattle.irs_schedule.proofs.RateLemmas.{AreAbove}
 use Rattle.irs_schedule.proofs.TermsThere.{terms_fit}
 

@@ -1,4 +1,4 @@
--- The boundaries of a stream's calculation periods, unadjusted and adjusted, over its regular span.
+-- The layouts of streams that break no rule of the span or of the boundaries.
 use Rattle.std.specs.Prelude.{◌+◌, ◌≤◌, length}
 use Rattle.irs_base.specs.Limits.{most_periods}
 use Rattle.irs_base.specs.Listed.{IsRising}
@@ -9,12 +9,6 @@ use Rattle.irs_periods.specs.SpanRules.{SpanKept}
 use Rattle.irs_periods.specs.Spans.{Regular}
 use Rattle.irs_schedule.specs.DaySets.{StreamSets}
 use Rattle.irs_schedule.specs.declared.layouts.Layout.{Layout}
-
--- the span is the stream's regular one, and the lists are its boundaries and these adjusted
-pub record IsLayout (sets : StreamSets) (s : Stream) (l : Layout) : Type 0 where
-  pub regular : Regular s l.span
-  pub unadjusted : Boundaries s l.span l.unadjusted
-  pub adjusted : AdjustedList s sets.boundaries l.unadjusted l.adjusted
 
 -- a layout of a stream that breaks no rule of the span or of the boundaries.
 -- The roll fits, there aren't too many periods, and the adjusted boundaries rise.

@@ -21,9 +21,9 @@ use Rattle.irs_compound.specs.Outcomes.{payment_amount_of}
 use Rattle.irs_schedule.specs.DaySets.{StreamSets, stream_sets}
 use Rattle.irs_schedule.specs.KeptTerms.{is_daily, is_floating, kept_of}
 use Rattle.irs_schedule.specs.Parts.{Part}
-use Rattle.irs_schedule.specs.PeriodTerms.{AreTerms, dec_of}
+use Rattle.irs_schedule.specs.Schedules.{AreTerms, dec_of, StreamDates}
 use Rattle.irs_schedule.specs.Periods.{periods_by}
-use Rattle.irs_schedule.specs.StreamDates.{StreamDates, layout_dates}
+use Rattle.irs_schedule.specs.StreamDates.{layout_dates}
 use Rattle.irs_schedule.specs.StreamResets.{resets_in, with_factors}
 use Rattle.irs_schedule.specs.declared.entries.PaymentEntry.{PaymentEntry}
 use Rattle.irs_schedule.specs.declared.layouts.Layout.{Layout}

@@ -1,5 +1,5 @@
 -- What is worked out for a calculation period, counted from 1.
-use Rattle.std.specs.Prelude.{ℕ, ◌-◌, ◌==◌, Bool, ℤ, List, length, map, Option, option_map, option_and_then, slice_get}
+use Rattle.std.specs.Prelude.{ℕ, ◌-◌, ◌==◌, Bool, ℤ, List, length, map, Option, option_map, slice_get}
 use Rattle.std.specs.List.{range_with_len}
 use Rattle.irs_terms.specs.declared.results.Reset.{Reset}
 use Rattle.irs_daycount.specs.Fractions.{days_of, fraction_of}
@@ -9,6 +9,7 @@ use Rattle.irs_observed.specs.declared.overnight_rate.OvernightRate.{OvernightRa
 use Rattle.irs_schedule.specs.declared.entries.PeriodEntry.{PeriodEntry}
 use Rattle.irs_schedule.specs.declared.kept_terms.KeptTerms.{KeptTerms}
 use Rattle.irs_base.specs.Members.{day_at}
+use Rattle.irs_schedule.specs.Schedules.{observed_of}
 
 -- how many periods lie between boundaries
 abbrev pub count_of : List ℤ → ℕ
@@ -17,10 +18,6 @@ count_of boundaries = length boundaries - 1
 -- period i starts on boundary i - 1
 abbrev pub start_of : List ℤ → ℕ → ℤ
 start_of boundaries i = day_at boundaries (i - 1)
-
--- the rate that was observed for period i
-abbrev pub observed_of : List Reset → ℕ → Option ℤ
-observed_of resets i = option_and_then (λ r. r.observed) (slice_get resets (i - 1))
 
 -- a period from its adjusted start to its adjusted end, by whether it is the last one, its unadjusted start and its
 -- observed rate

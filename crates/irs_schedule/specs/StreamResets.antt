@@ -1,6 +1,6 @@
--- The resets of a stream with its observed rates: with calculation parameters those of daily rates, not rounded.
-use Rattle.std.specs.Prelude.{◌≡◌, ◌⊎◌, ℕ, ◌+◌, ◌-◌, ◌*◌, ◌^◌, ◌≤◌, Bool, if◌then◌else◌, List, [], length}
-use Rattle.std.specs.Prelude.{Option, Some, None, IfSome, slice_get, unsigned_abs, ◌<◌, Result, Ok, Err}
+-- The resets of a stream with its observed rates, as a stage, and what holds of them.
+use Rattle.std.specs.Prelude.{◌≡◌, ◌⊎◌, ℕ, ◌+◌, ◌*◌, ◌^◌, ◌≤◌, Bool, if◌then◌else◌, List, [], length, Option, Some}
+use Rattle.std.specs.Prelude.{None, IfSome, slice_get, unsigned_abs, ◌<◌, Result, Ok, Err}
 use Rattle.irs_base.specs.Limits.{most_rate}
 use Rattle.irs_base.specs.Members.{Every}
 use Rattle.irs_base.specs.Order.{First, comes_before}
@@ -16,27 +16,15 @@ use Rattle.irs_terms.specs.declared.results.Reset.{Reset}
 use Rattle.irs_calendar.specs.GoodDays.{DaySet}
 use Rattle.irs_resets.specs.Outcomes.{resets_of}
 use Rattle.irs_resets.specs.Rates.{RateTable}
-use Rattle.irs_resets.specs.Resets.{IsResets, ResetSource}
+use Rattle.irs_resets.specs.Resets.{ResetSource}
 use Rattle.irs_observed.specs.ObservedRates.{most_observed}
 use Rattle.irs_observed.specs.Outcomes.{overnight_resets_of}
 use Rattle.irs_observed.specs.OvernightRates.{HasBounds}
-use Rattle.irs_observed.specs.OvernightResets.{AreOvernightResets, daily_source}
+use Rattle.irs_observed.specs.OvernightResets.{daily_source}
 use Rattle.irs_observed.specs.declared.daily_resets.OvernightResets.{OvernightResets}
 use Rattle.irs_observed.specs.declared.overnight_rate.OvernightRate.{OvernightRate}
 use Rattle.irs_observed.specs.declared.overnight_rate.OvernightRate.TheVariants.{OutOfRange}
 use Rattle.irs_schedule.specs.KeptTerms.{is_daily}
-
--- x are the resets of a floating stream and its observed rates by its calculation parameters.
--- Without these its rates are those of the resets alone.
-abbrev pub AreResetsBy : FloatTerms → Option CalculationParameters → ResetSource → DaySet → RateTable → OvernightResets → Type 0
-AreResetsBy float None source applicable fix x = IsResets source fix x.resets × (x.rates ≡ [])
-AreResetsBy float (Some parameters) source applicable fix x =
-    AreOvernightResets (daily_source source applicable float parameters) fix x
-
--- the same by what the stream pays
-abbrev pub AreResetsIn : Leg → ResetSource → DaySet → RateTable → OvernightResets → Type 0
-AreResetsIn (Fixed values) source applicable fix x = IsResets source fix x.resets × (x.rates ≡ [])
-AreResetsIn (Floating float) source applicable fix x = AreResetsBy float float.parameters source applicable fix x
 
 -- the resets alone, as a stage
 abbrev pub resets_alone : ResetSource → RateTable → Spec OvernightResets Fault
@@ -46,7 +34,8 @@ resets_alone source fix = record {
 }
 
 -- the resets with the observed rates, as a stage, by the calculation parameters
-abbrev pub resets_by : FloatTerms → Option CalculationParameters → ResetSource → DaySet → RateTable → Spec OvernightResets Fault
+abbrev pub resets_by : FloatTerms → Option CalculationParameters → ResetSource → DaySet → RateTable
+    → Spec OvernightResets Fault
 resets_by float None source applicable fix = resets_alone source fix
 resets_by float (Some parameters) source applicable fix =
     overnight_resets_of (daily_source source applicable float parameters) fix
@@ -55,10 +44,6 @@ resets_by float (Some parameters) source applicable fix =
 abbrev pub resets_in : Leg → ResetSource → DaySet → RateTable → Spec OvernightResets Fault
 resets_in (Fixed values) source applicable fix = resets_alone source fix
 resets_in (Floating float) source applicable fix = resets_by float float.parameters source applicable fix
-
--- the observed rate of period i that isn't rounded; none without calculation parameters
-abbrev pub rate_in : List OvernightRate → ℕ → Option OvernightRate
-rate_in rates i = slice_get rates (i - 1)
 
 -- ---- bounds
 

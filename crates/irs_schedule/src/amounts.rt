@@ -9,7 +9,8 @@ ghost use Rattle.irs_observed.specs.declared.overnight_rate.OvernightRate.TheVar
 ghost use Rattle.irs_payments.specs.Payments.{Covers};
 ghost use Rattle.irs_schedule.specs.Outcomes.{entries_of, entry_of, passed_at, paying};
 ghost use Rattle.irs_schedule.specs.Parts.{HasAmount};
-ghost use Rattle.irs_schedule.specs.PeriodTerms.{AreTerms, HasPeriods, IsPeriodTerm, IsTable, dec_of};
+ghost use Rattle.irs_schedule.specs.Schedules.{AreTerms, IsPeriodTerm, dec_of};
+ghost use Rattle.irs_schedule.specs.PeriodTerms.{HasPeriods, IsTable};
 ghost use Rattle.irs_schedule.specs.StreamDates.{table_dates};
 ghost use Rattle.irs_schedule.specs.StreamResets.{FactorPassesAt, IsFirstPassing, first_refusal, with_factors};
 

@@ -36,7 +36,7 @@ use Rattle.irs_observed.specs.declared.overnight_rate.OvernightRate.{OvernightRa
 use Rattle.irs_observed.specs.declared.overnight_rate.OvernightRate.TheVariants.{Stated as StatedRate, Absent}
 use Rattle.irs_schedule.specs.DaySets.{applicable_days}
 use Rattle.irs_schedule.specs.Parts.{Part}
-use Rattle.irs_schedule.specs.Periods.{observed_of}
+use Rattle.irs_schedule.specs.Schedules.{observed_of}
 use Rattle.irs_schedule.specs.StreamResets.{resets_by, resets_in}
 use Rattle.irs_schedule.proofs.RateLemmas.{with_rates}
 use Rattle.irs_unfixed.specs.AbsentDays.{HasAbsentDay, IsAbsentDay}

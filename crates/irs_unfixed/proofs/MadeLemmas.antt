@@ -18,12 +18,12 @@ use Rattle.irs_schedule.specs.DaySets.{applicable_days, stream_sets}
 use Rattle.irs_schedule.specs.KeptTerms.{kept_of}
 use Rattle.irs_schedule.specs.Outcomes.{resets_over, stream_of}
 use Rattle.irs_schedule.specs.Parts.{Part}
-use Rattle.irs_schedule.specs.PeriodTerms.{IsAmountFor, IsPeriodTerm}
-use Rattle.irs_schedule.specs.Periods.{observed_of, period_by, periods_by}
-use Rattle.irs_schedule.specs.RowsOf.{no_period}
+use Rattle.irs_schedule.specs.Schedules.{IsAmountFor, IsPeriodTerm, observed_of, StreamDates, part_dates, rate_in}
 use Rattle.irs_schedule.specs.Schedules.{IsPaymentEntry, payment_of}
-use Rattle.irs_schedule.specs.StreamDates.{StreamDates, layout_dates, part_dates}
-use Rattle.irs_schedule.specs.StreamResets.{resets_in, rate_in}
+use Rattle.irs_schedule.specs.Periods.{period_by, periods_by}
+use Rattle.irs_schedule.specs.RowsOf.{no_period}
+use Rattle.irs_schedule.specs.StreamDates.{layout_dates}
+use Rattle.irs_schedule.specs.StreamResets.{resets_in}
 use Rattle.irs_schedule.specs.declared.entries.PaymentEntry.{PaymentEntry}
 use Rattle.irs_schedule.specs.declared.entries.PeriodEntry.{PeriodEntry}
 use Rattle.irs_schedule.proofs.LayoutRules.{layout_kept}

@@ -5,7 +5,7 @@ use Rattle.std.specs.Prelude.{pos, ◌+ℤ◌, unsigned_abs}
 use Rattle.std.specs.List.{list_any}
 use Rattle.irs_base.specs.Limits.{most_exchanges, most_periods, most_streams}
 use Rattle.irs_terms.specs.Currencies.{decimals_of}
-use Rattle.irs_schedule.specs.PeriodTerms.{dec_of}
+use Rattle.irs_schedule.specs.Schedules.{dec_of}
 use Rattle.irs_net.specs.Nets.{same_key, part_key, known_sum, known_units, unknown_count}
 use Rattle.irs_net.specs.declared.parts.NetPart.{NetPart}
 use Rattle.irs_net.specs.declared.table.NetRow.{NetRow}

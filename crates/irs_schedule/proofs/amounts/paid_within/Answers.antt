@@ -3,7 +3,8 @@ use Rattle.irs_base.specs.Outcomes.{Determined}
 use Rattle.irs_payments.specs.Payments.{Covers}
 use Rattle.irs_schedule.specs.Outcomes.{entries_of}
 use Rattle.irs_schedule.specs.PeriodTerms.{IsTable}
-use Rattle.irs_schedule.specs.StreamDates.{StreamDates, table_dates}
+use Rattle.irs_schedule.specs.Schedules.{StreamDates}
+use Rattle.irs_schedule.specs.StreamDates.{table_dates}
 use Rattle.irs_terms.specs.StepDates.{AllStepsRise}
 use Rattle.irs_terms.specs.declared.results.Payment.{Payment}
 use Rattle.std.specs.Prelude.{List}

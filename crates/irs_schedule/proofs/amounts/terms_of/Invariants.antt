@@ -1,5 +1,5 @@
 use Rattle.std.proofs.Common.{◌≡◌, ◌+◌, length}
-use Rattle.irs_schedule.specs.PeriodTerms.{IsPeriodTerm}
+use Rattle.irs_schedule.specs.Schedules.{IsPeriodTerm}
 use Rattle.irs_schedule.specs.StreamDates.{table_dates}
 use Rattle.irs_base.specs.Members.{EachNumbered}
 use Rattle.irs_schedule.proofs.amounts.terms_of.Given as goal
