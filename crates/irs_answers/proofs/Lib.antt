@@ -15,6 +15,8 @@ pub mod FileLimits
 pub mod AccrueLemmas
 pub mod AccrueSame
 pub mod FlowLemmas
+pub mod EmittedLemmas
+pub mod PrintedLemmas
 pub mod NetLemmas
 pub mod DerivedLemmas
 pub mod StubLemmas

@@ -7,8 +7,9 @@ use Rattle.irs_schedule.specs.Parts.{Part}
 use Rattle.irs_audit.specs.FlowFaults.{FlowFault}
 use Rattle.irs_audit.specs.FlowParts.{FlowPart}
 use Rattle.irs_audit.specs.FlowReading.{FlowsOf, kind_of}
-use Rattle.irs_audit.specs.Verdicts.{IsVerdict}
+use Rattle.irs_audit.specs.Verdicts.{IsVerdict, row_count, unfixed_count}
 use Rattle.irs_audit.specs.declared.departures.Verdict.{Verdict}
+use Rattle.irs_audit.specs.declared.departures.Verdict.TheVariants.{Yes}
 use Rattle.irs_audit.specs.declared.error.ShapeKind.TheVariants.{NotJson}
 use Rattle.irs_breaks.specs.BreakLists.{HasBreak, IsBreakList}
 use Rattle.irs_breaks.specs.BreakTexts.{breaks_text}
@@ -39,6 +40,10 @@ DueFlows Due w status text =
 abbrev pub DueVerdict : List Part → OfFlows
 DueVerdict s flows status text =
     (w : Verdict) × Only (IsVerdict flows s) w × Is (verdict_status w) (verdict_text w) status text
+
+-- the audit of the text against the schedule is yes, with the counts of the schedule's rows
+abbrev pub IsAuditedYes : List Part → SourceText → Type 0
+IsAuditedYes s w = DueFlows (DueVerdict s) w 0 (verdict_text (Yes (row_count s) (unfixed_count s)))
 
 -- 1 where there is a break, and 0 where there is none
 abbrev pub IsStatusOf : Findings → ℕ → Type 0

@@ -178,3 +178,7 @@ pub record Passes (t : Task) (g : Given) (f : Facts) : Type 0 where
   pub terms : KeepsTerms f.swap f.cal
   pub dated : DatedKept f.swap f.cal (rates_for t f.table)
   pub schedule : Only (IsSchedule f.swap f.cal (rates_for t f.table)) f.parts
+
+-- every list in the relations of dates, fractions and amounts has this text
+abbrev pub IsTextOfEach : Facts → List ℕ → Type 0
+IsTextOfEach f text = (s : List Part) → IsSchedule f.swap f.cal f.table s → text ≡ text_of s

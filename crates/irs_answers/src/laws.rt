@@ -1,0 +1,29 @@
+//! Laws: the audit of emitted cash flows is yes, and every list in the relations of a schedule has the
+//! text that `schedule` prints.
+ghost use Rattle.std.specs.Prelude.{◌≡◌, ℕ, List};
+ghost use Rattle.irs_schedule.specs.Parts.{IsWithin, Part};
+ghost use Rattle.irs_emit.specs.Emitted.{emit_text};
+ghost use Rattle.irs_emit_xml.specs.Flows.{flows_text};
+ghost use Rattle.irs_answers.specs.CashFlows.{IsAuditedYes};
+ghost use Rattle.irs_answers.specs.Due.{DueFor, Facts, IsTextOfEach, Passes};
+ghost use Rattle.irs_answers.specs.Forms.{json_text, xml_text};
+ghost use Rattle.irs_answers.specs.Given.{Given};
+ghost use Rattle.irs_answers.specs.declared.tasks.Task.TheVariants.{Schedule};
+
+/// The audit of emitted cash flows against their schedule is yes, with the number of its rows and that of its
+/// payments without an amount. That is due for the text that `emit` prints and for that of `emit-xml`. The
+/// function does nothing; its contract is the law.
+#[tactic(auto, using(crate::proofs::EmittedLemmas::json_audited, crate::proofs::EmittedLemmas::xml_audited))]
+pub fn emitted_flows_are_audited()
+    ensures json { (s : List Part) → IsWithin s → IsAuditedYes s (json_text (emit_text s)) }
+    ensures xml { (s : List Part) → IsWithin s → IsAuditedYes s (xml_text (flows_text s)) }
+{}
+
+/// Where the files of `schedule` pass every step, the status is 0. The text that is due is that of every list
+/// in the relations of dates, fractions and amounts, for what the files say. The function does nothing; its
+/// contract is the law.
+#[tactic(auto, using(crate::proofs::PrintedLemmas::printed))]
+pub fn every_schedule_has_the_printed_text()
+    ensures { (g : Given) (f : Facts) (status : ℕ) (text : List ℕ) → Passes Schedule g f
+        → DueFor Schedule g status text → (status ≡ 0) × IsTextOfEach f text }
+{}
