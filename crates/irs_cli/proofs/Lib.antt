@@ -4,6 +4,7 @@ pub mod CommandLemmas
 pub mod FileLemmas
 pub mod FetchLemmas
 pub mod RunLemmas
+pub mod CompleteLemmas
 pub mod HandedReplies
 pub mod OneAnswer
 pub mod SharingLemmas

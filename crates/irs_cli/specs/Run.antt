@@ -93,3 +93,13 @@ pub record Ran (ws : Words) (files : Source) (out : Written) (status : ℕ) : Ty
   -- a fault of the files or of the sink is reported by the status
   pub files_cause : files.before < files.after → status ≢ 6 → status ≢ 7 → status ≡ 5
   pub out_cause : out.before < out.after → status ≡ 6
+
+-- no fetch and no write failed
+abbrev pub IsFaultless : Source → Written → Type 0
+IsFaultless files out = ¬ (Rose files.before files.after) × ¬ (Rose out.before out.after)
+
+-- out of memory, and nothing was written; or a status and exactly its text are what is due
+abbrev pub IsComplete : Words → Source → Written → ℕ → Type 0
+IsComplete ws files out status =
+    ((status ≡ 7) × (out.new ≡ out.old))
+    ⊎ ((text : List ℕ) × Due ws files.told status text × Grew out.old out.new text)

@@ -5,6 +5,7 @@
 mod causes;
 mod commands;
 mod fetching;
+mod laws;
 mod naming;
 mod page;
 mod params;
@@ -22,6 +23,7 @@ pub use irs_bulk::{bulk_calendar, bulk_doc};
 pub use irs_outside::{
     FetchErr, Files, MemFiles, MemSink, PutFailed, RealFiles, RealSink, Sink, SureFiles, SureSink,
 };
+pub use laws::a_run_without_faults_is_complete;
 pub use naming::{file_name, files_are_named};
 pub use program::{cause_of_run, reply_for, run, run_with};
 pub use sharing::read_common;
