@@ -1,12 +1,12 @@
--- How long paths are.
+-- How long paths are, and that the list of them is whole.
 use Rattle.std.proofs.Common.{◌≡◌, ℕ, zero, suc, ◌≤◌, Bool, true, nat_le, List, [], ◌∷◌, length, map, slice_get, Some}
-use Rattle.std.proofs.Common.{refl, sym, ap, subst, arith}
+use Rattle.std.proofs.Common.{codes, refl, sym, ap, subst, arith}
 use Rattle.std.specs.List.{list_all}
 use Rattle.std.proofs.lemmas.Bool.Decides.{nat_tests}
 use Rattle.std.proofs.lemmas.Option.{same_Some}
-use Rattle.irs_base.specs.Elements.{name_in}
+use Rattle.irs_base.specs.Elements.{name_in, named}
 use Rattle.irs_base.specs.PathList.{paths, printed}
-use Rattle.irs_base.specs.Paths.{path_of, longest_path}
+use Rattle.irs_base.specs.Paths.{are_whole, path_of, longest_path}
 use Rattle.irs_base.specs.declared.elements.TheConstants.{PATHS}
 use Rattle.irs_base.proofs.Orders.{both_true}
 
@@ -37,3 +37,13 @@ paths_are = refl
 pub path_found : (i : ℕ) (p : List ℕ) → slice_get (map (λ p. p.now) PATHS) i ≡ Some p → p ≡ path_of i
 unfolding path_of
 path_found i p e = sym (ap name_in (subst (λ (ps : List (List ℕ)). slice_get ps i ≡ Some p) paths_are e))
+
+-- no path stands twice, and each that is no name continues an earlier one
+pub paths_whole : are_whole [] printed ≡ true
+unfolding paths printed
+paths_whole = refl
+
+-- the elements that are named have their paths
+pub named_paths : map (λ e. path_of e.0) named ≡ map (λ e. codes e.1) named
+unfolding named path_of paths printed
+named_paths = refl

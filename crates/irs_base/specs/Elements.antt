@@ -1,7 +1,6 @@
--- The table of elements: its places, and what makes it whole.
-use Rattle.std.specs.Prelude.{ℕ, ◌+◌, nat_lt, Bool, true, false, not, ◌&&◌, ◌||◌, ◌==◌, List, [], ◌∷◌, ◌++◌, Option}
-use Rattle.std.specs.Prelude.{Some, None, slice_get, if◌then◌else◌}
-use Rattle.std.specs.Str.{bytes_eq}
+-- The table of elements: the places of those that rules and readers name.
+use Prim.Native.String.{String}
+use Rattle.std.specs.Prelude.{ℕ, List, [], ◌∷◌, Option, Some, None}
 
 -- how many elements there are
 abbrev pub count : ℕ
@@ -11,24 +10,6 @@ count = 167
 abbrev pub name_in : Option (List ℕ) → List ℕ
 name_in (Some p) = p
 name_in None = []
-
--- the path of a child: its name alone right below the stream, else its parent's path and its name
-abbrev pub path_below : List (List ℕ) → ℕ → List ℕ → List ℕ
-path_below paths parent name = if parent == 2 then name else name_in (slice_get paths parent) ++ 47 ∷ name
-
--- no later element of the same parent has the name
-abbrev pub no_twin : ℕ → List ℕ → List ℕ → List (List ℕ) → Bool
-no_twin parent name [] names = true
-no_twin parent name (p ∷ ps) [] = true
-no_twin parent name (p ∷ ps) (n ∷ ns) = (not (p == parent) || not (bytes_eq n name)) && no_twin parent name ps ns
-
--- from the place n on, each element comes after its parent, has its path, and has no twin
-abbrev pub fits_from : List (List ℕ) → ℕ → List ℕ → List (List ℕ) → List (List ℕ) → Bool
-fits_from all n [] [] [] = true
-fits_from all n (parent ∷ parents) (name ∷ names) (path ∷ paths) =
-    nat_lt parent n && bytes_eq path (path_below all parent name) && no_twin parent name parents names
-    && fits_from all (n + 1) parents names paths
-fits_from all n parents names paths = false
 
 -- the places of the elements that rules and readers name
 abbrev pub document : ℕ
@@ -249,3 +230,63 @@ cashflows = 141
 -- `calculationPeriod`
 abbrev pub flow_period : ℕ
 flow_period = 152
+
+-- the same with their paths
+unfoldable pub named : List (ℕ × String)
+named =
+    (document, "document")
+    ∷ (swap, "swap")
+    ∷ (swap_stream, "swapStream")
+    ∷ (payer_party_reference, "payerPartyReference")
+    ∷ (calculation_period_dates, "calculationPeriodDates")
+    ∷ (effective_date, "calculationPeriodDates/effectiveDate")
+    ∷ (effective_date_adjustments, "calculationPeriodDates/effectiveDate/dateAdjustments")
+    ∷ (effective_date_centers_reference, "calculationPeriodDates/effectiveDate/dateAdjustments/businessCentersReference")
+    ∷ (termination_date, "calculationPeriodDates/terminationDate")
+    ∷ (termination_date_adjustments, "calculationPeriodDates/terminationDate/dateAdjustments")
+    ∷ (termination_date_centers_reference, "calculationPeriodDates/terminationDate/dateAdjustments/businessCentersReference")
+    ∷ (period_dates_adjustments, "calculationPeriodDates/calculationPeriodDatesAdjustments")
+    ∷ (period_dates_centers_reference, "calculationPeriodDates/calculationPeriodDatesAdjustments/businessCentersReference")
+    ∷ (first_period_start_date, "calculationPeriodDates/firstPeriodStartDate")
+    ∷ (first_period_start_adjustments, "calculationPeriodDates/firstPeriodStartDate/dateAdjustments")
+    ∷ (first_period_start_centers_reference, "calculationPeriodDates/firstPeriodStartDate/dateAdjustments/businessCentersReference")
+    ∷ (first_regular_period_start_date, "calculationPeriodDates/firstRegularPeriodStartDate")
+    ∷ (last_regular_period_end_date, "calculationPeriodDates/lastRegularPeriodEndDate")
+    ∷ (calculation_period_frequency, "calculationPeriodDates/calculationPeriodFrequency")
+    ∷ (payment_dates, "paymentDates")
+    ∷ (payment_dates_reference, "paymentDates/calculationPeriodDatesReference")
+    ∷ (payment_frequency, "paymentDates/paymentFrequency")
+    ∷ (first_payment_date, "paymentDates/firstPaymentDate")
+    ∷ (last_regular_payment_date, "paymentDates/lastRegularPaymentDate")
+    ∷ (payment_days_offset, "paymentDates/paymentDaysOffset")
+    ∷ (payment_dates_adjustments, "paymentDates/paymentDatesAdjustments")
+    ∷ (payment_dates_centers_reference, "paymentDates/paymentDatesAdjustments/businessCentersReference")
+    ∷ (reset_dates, "resetDates")
+    ∷ (reset_dates_reference, "resetDates/calculationPeriodDatesReference")
+    ∷ (fixing_dates, "resetDates/fixingDates")
+    ∷ (fixing_dates_centers_reference, "resetDates/fixingDates/businessCentersReference")
+    ∷ (fixing_dates_relative_to, "resetDates/fixingDates/dateRelativeTo")
+    ∷ (reset_frequency, "resetDates/resetFrequency")
+    ∷ (reset_dates_adjustments, "resetDates/resetDatesAdjustments")
+    ∷ (reset_dates_centers_reference, "resetDates/resetDatesAdjustments/businessCentersReference")
+    ∷ (calculation_period_amount, "calculationPeriodAmount")
+    ∷ (notional_step_date, "calculationPeriodAmount/calculation/notionalSchedule/notionalStepSchedule/step/stepDate")
+    ∷ (fixed_rate_step_date, "calculationPeriodAmount/calculation/fixedRateSchedule/step/stepDate")
+    ∷ (index_tenor, "calculationPeriodAmount/calculation/floatingRateCalculation/indexTenor")
+    ∷ (multiplier_step_date, "calculationPeriodAmount/calculation/floatingRateCalculation/floatingRateMultiplierSchedule/step/stepDate")
+    ∷ (spread_step_date, "calculationPeriodAmount/calculation/floatingRateCalculation/spreadSchedule/step/stepDate")
+    ∷ (initial_rate, "calculationPeriodAmount/calculation/floatingRateCalculation/initialRate")
+    ∷ (calculation_parameters, "calculationPeriodAmount/calculation/floatingRateCalculation/calculationParameters")
+    ∷ (applicable_business_days, "calculationPeriodAmount/calculation/floatingRateCalculation/calculationParameters/applicableBusinessDays")
+    ∷ (day_count_fraction, "calculationPeriodAmount/calculation/dayCountFraction")
+    ∷ (compounding_method, "calculationPeriodAmount/calculation/compoundingMethod")
+    ∷ (stub_amount, "stubCalculationPeriodAmount")
+    ∷ (stub_amount_reference, "stubCalculationPeriodAmount/calculationPeriodDatesReference")
+    ∷ (initial_stub, "stubCalculationPeriodAmount/initialStub")
+    ∷ (initial_stub_floating_rate, "stubCalculationPeriodAmount/initialStub/floatingRate")
+    ∷ (final_stub, "stubCalculationPeriodAmount/finalStub")
+    ∷ (final_stub_floating_rate, "stubCalculationPeriodAmount/finalStub/floatingRate")
+    ∷ (principal_exchanges, "principalExchanges")
+    ∷ (cashflows, "cashflows")
+    ∷ (flow_period, "calculationPeriod")
+    ∷ []

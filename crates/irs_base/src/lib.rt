@@ -27,7 +27,7 @@ pub use day::{Civil, Day, DayName, FIRST_DAY, LAST_DAY, ahead, civil_of, day_of,
 pub use day_list::DayList;
 pub use decimals::{decimal_parts, number_of_parts, read_dec};
 pub use digits::power_of_ten;
-pub use elements::{ELEMENTS, Elem, PATHS, paths_listed, table_fits};
+pub use elements::{ELEMENTS, Elem, PATHS, elements_named, paths_fit, paths_listed};
 pub use fields::{first_field, is_gap, skip_gap};
 pub use file_dates::date;
 pub use limits::{

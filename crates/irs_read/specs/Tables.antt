@@ -1,13 +1,19 @@
 -- When the rows of a table fit together.
-use Rattle.irs_base.specs.Elements.{no_twin}
 use Rattle.irs_elements.specs.declared.table.Choice.{Choice}
 use Rattle.irs_elements.specs.declared.table.Choice.TheVariants.{Free, AtMostOne, AtMostOneOfThree, ExactlyOne}
 use Rattle.irs_elements.specs.declared.table.Choice.TheVariants.{Reference}
 use Rattle.irs_elements.specs.declared.table.Kind.{Kind}
 use Rattle.irs_elements.specs.declared.table.Kind.TheVariants.{Object, Leaf, Passed, Refused}
 use Rattle.irs_elements.specs.declared.table.Row.{Row}
-use Rattle.std.specs.Prelude.{ℕ, ◌+◌, nat_lt, Bool, true, false, ◌&&◌, ◌==◌, List, [], ◌∷◌, map, Option, Some, None}
-use Rattle.std.specs.Prelude.{slice_get}
+use Rattle.std.specs.Prelude.{ℕ, ◌+◌, nat_lt, Bool, true, false, not, ◌&&◌, ◌||◌, ◌==◌, List, [], ◌∷◌, map, Option, Some}
+use Rattle.std.specs.Prelude.{None, slice_get}
+use Rattle.std.specs.Str.{bytes_eq}
+
+-- no later row of the same parent has the name
+abbrev no_twin : ℕ → List ℕ → List ℕ → List (List ℕ) → Bool
+no_twin parent name [] names = true
+no_twin parent name (p ∷ ps) [] = true
+no_twin parent name (p ∷ ps) (n ∷ ns) = (not (p == parent) || not (bytes_eq n name)) && no_twin parent name ps ns
 
 -- the row exists and its parent is row r
 abbrev stands_below : ℕ → Option Row → Bool
