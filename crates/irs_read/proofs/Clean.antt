@@ -3,11 +3,13 @@ use Rattle.irs_base.specs.declared.places.Broken.{Broken}
 use Rattle.irs_base.specs.declared.places.Rule.{Rule}
 use Rattle.irs_base.specs.declared.places.Rule.TheVariants.{K2, K3, K5, K6, K7}
 use Rattle.irs_elements.proofs.Exact.{both_true}
-use Rattle.irs_elements.specs.Elements.{FaultAt, IsMember, absent_index, index_in, inside, is_element, is_required}
-use Rattle.irs_elements.specs.Elements.{missing, most, name_at, own, place, too_many, under}
+use Rattle.irs_elements.proofs.Steps.{choice_kept}
+use Rattle.irs_elements.specs.Elements.{FaultAt, IsMember, absent_index, index_in, is_chosen, inside, is_element, is_required}
+use Rattle.irs_elements.specs.Elements.{missing, most, name_at, own, place, shape, too_many, under, unmet}
 use Rattle.irs_elements.specs.Find.{member, once, values_in, values_of}
 use Rattle.irs_elements.specs.Leaves.{has_value, leaf_rule, out_of_profile, text_of, text_rule}
 use Rattle.irs_elements.specs.declared.table.Choice.{Choice}
+use Rattle.irs_elements.specs.declared.table.Choice.TheVariants.{ExactlyOne}
 use Rattle.irs_elements.specs.declared.table.Kind.{Kind}
 use Rattle.irs_elements.specs.declared.table.Kind.TheVariants.{Object, Leaf, Passed, Refused}
 use Rattle.irs_elements.specs.declared.table.Leaf.{Leaf as LeafKind}
@@ -19,7 +21,9 @@ use Rattle.irs_json.specs.Values.{items_of}
 use Rattle.serde_json.specs.Data.{Data, null, boolean, number, string, array, object, no_items, item}
 use Rattle.serde_json.specs.Find.{get}
 use Rattle.std.proofs.Common.{◌≡◌, ℕ, ◌<◌, ◌≤◌, nat_lt, Bool, true, false, ◌&&◌, ◌==◌, true≢false, ◌⊎◌, inl, inr, List}
-use Rattle.std.proofs.Common.{[], ◌∷◌, length, Option, Some, None, IfSome, option_and_then, slice_get, refl, sym, subst}
+use Rattle.std.proofs.Common.{[], ◌∷◌, length, Option, Some, None, IfSome, is_none, is_some, option_and_then, slice_get}
+use Rattle.std.proofs.Common.{refl, sym, ap, subst}
+use Rattle.std.proofs.lemmas.Option.{same_Some}
 use Rattle.std.proofs.Common.{arith, if◌then◌else◌}
 use Rattle.std.proofs.lemmas.Bool.{cases_order}
 use Rattle.std.proofs.lemmas.Bool.Decides.{nat_tests}
@@ -74,6 +78,11 @@ abbrev pub required_at : Option Row → Bool
 required_at None = false
 required_at (Some row) = is_required row.count
 
+-- the kind of a row
+abbrev pub kind_at : Option Row → Option Kind
+kind_at None = None
+kind_at (Some row) = Some row.kind
+
 -- the leaf that a kind is, if it is one
 abbrev leaf_in : Kind → Option LeafKind
 leaf_in (Object choice) = None
@@ -125,6 +134,25 @@ filled (Some (string t)) m e = let s : string t ≡ m = cc in
     subst (λ (x : Data). 0 < length (items_of x)) s (omega arith)
 filled (Some (object ms)) m e = let s : object ms ≡ m = cc in
     subst (λ (x : Data). 0 < length (items_of x)) s (omega arith)
+
+-- a member that is there has a first value
+present_once : (name : List ℕ) (d : Data) (o : Option Data) → child_of name d ≡ o → is_some o ≡ true
+    → (x : Data) × (once name d ≡ Some x)
+present_once name d None e h = absurd (true≢false (sym h))
+present_once name d (Some m) e h = first_item name d m e (items_of m) refl (filled (get name d) m e)
+  where
+    first_item : (name : List ℕ) (d m : Data) → child_of name d ≡ Some m → (xs : List Data) → items_of m ≡ xs
+        → 0 < length (items_of m) → (x : Data) × (once name d ≡ Some x)
+    first_item name d m e [] i h = absurd (omega (arith, ap length i, h))
+    first_item name d m e (x ∷ xs) i h = (x, rw e (rw i refl))
+
+-- of two members of which exactly one is there, one is
+one_of : (names : List (List ℕ)) (a b : ℕ) (d : Data) (p q : Option Data) → child_of (name_at names a) d ≡ p
+    → child_of (name_at names b) d ≡ q → is_chosen names (ExactlyOne a b) d ≡ true
+    → (is_some p ≡ true) ⊎ (is_some q ≡ true)
+one_of names a b d (Some x) q e f h = inl refl
+one_of names a b d None (Some y) e f h = inr refl
+one_of names a b d None None e f h = absurd (true≢false (sym (rw (e, f) at h)))
 
 some_rule : (b : Bool) → (if b then Some K5 else Some K6) ≡ None → ⊥
 some_rule true e = cc
@@ -317,3 +345,20 @@ module _ (rows : List Row) (names : List (List ℕ)) where
       → Unbroken stream c row.kind index d → Clean c d
   clean_from c stream index d row found none =
       record { row = row; found = found; stream = stream; index = index; none = none }
+
+  -- an object that has exactly one of two members has one of them
+  pub either_there : (r a b : ℕ) (d : Data) → kind_at (slice_get rows r) ≡ Some (Object (ExactlyOne a b)) → Clean r d
+      → ((x : Data) × (once (name_at names a) d ≡ Some x)) ⊎ ((x : Data) × (once (name_at names b) d ≡ Some x))
+  either_there r a b d is clean =
+      let kind : clean.row.kind ≡ Object (ExactlyOne a b) =
+      same_Some _ _ (subst (λ (o : Option Row). kind_at o ≡ Some (Object (ExactlyOne a b))) clean.found is) in
+      let unbroken : Unbroken clean.stream r (Object (ExactlyOne a b)) clean.index d =
+      subst (λ (k : Kind). Unbroken clean.stream r k clean.index d) kind clean.none in
+      let (ns, named) = names_by clean.stream r clean.index (ExactlyOne a b) d (names_of d) refl unbroken in
+      let chosen =
+      choice_kept names (ExactlyOne a b) d (λ u e. unbroken _
+      (shape r clean.index (ExactlyOne a b) d ns _ named (unmet r clean.index u (ExactlyOne a b) d e))) in
+      elim (one_of names a b d (child_of (name_at names a) d) (child_of (name_at names b) d) refl refl chosen) [
+        | inl h ↦ inl (present_once (name_at names a) d (child_of (name_at names a) d) refl h)
+        | inr h ↦ inr (present_once (name_at names b) d (child_of (name_at names b) d) refl h)
+      ]

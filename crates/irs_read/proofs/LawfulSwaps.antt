@@ -5,7 +5,11 @@ use Rattle.irs_base.specs.declared.places.Rule.TheVariants.{K2, K3, K7}
 use Rattle.irs_elements.specs.Elements.{own, place}
 use Rattle.irs_json.specs.Names.{names_of}
 use Rattle.irs_read.proofs.Clean.{clean_from, le_or_lt}
-use Rattle.irs_read.proofs.Streams.{At, GoodLists, all_good, stream_lawful}
+use Rattle.irs_read.proofs.Fills.{At, each_gives, each_only}
+use Rattle.irs_read.proofs.StreamReads.{stream_gives, stream_only}
+use Rattle.irs_read.specs.Reading.{Means}
+use Rattle.irs_read.specs.StreamElements.{StreamSays, SwapSays}
+use Rattle.irs_read.proofs.Streams.{GoodLists, all_good, stream_lawful}
 use Rattle.irs_read.specs.Documents.{DocumentFault, below, the_swap}
 use Rattle.irs_read.specs.Meaning.{stream_in, streams_in, swap_in}
 use Rattle.irs_read.proofs.StatedTables.{stated}
@@ -88,3 +92,45 @@ swap_stated d none j x e =
 -- such a document states each element that is required
 pub document_stated : (d : Data) → ((f : Broken) → DocumentFault d f → ⊥) → EachStated d
 document_stated d none at found j x e = swap_stated at (λ f q. none f (below at f found q)) j x e
+
+-- the streams of a swap that breaks no rule break none, and their lists of centres are good
+streams_clean : (d : Data) → ((f : Broken) → SwapFault d f → ⊥)
+    → ((j : ℕ) (x : Data) → slice_get (streams_in d) j ≡ Some x → At 0 x) × GoodLists (lists_of (streams_in d))
+streams_clean d none =
+    let there = object_by d (is_some (names_of d)) refl none in
+    let ds = streams_in d in
+    let clear : (f : Broken) → StreamsFault ds f → ⊥ = λ f q. none f (inr (there, q)) in
+    let lo = some_by ds (length ds) refl clear in
+    let hi = few_by ds (le_or_lt (length ds) most_streams) clear in
+    let clean = each_clean ds lo hi clear in
+    (clean, all_good ds clean)
+
+-- a swap that breaks no rule says what is read of it
+pub swap_gives : (d : Data) → ((f : Broken) → SwapFault d f → ⊥) → SwapSays d (swap_in d)
+swap_gives d none =
+    let (clean, good) = streams_clean d none in
+    let lists = lists_of (streams_in d) in
+    each_gives (StreamSays lists) (stream_in lists) (streams_in d)
+    (λ j x e. stream_gives lists good x (clean j x e))
+
+-- and nothing else
+pub swap_only : (d : Data) → ((f : Broken) → SwapFault d f → ⊥) → (s : Swap) → SwapSays d s → s ≡ swap_in d
+swap_only d none s says =
+    let (clean, good) = streams_clean d none in
+    let lists = lists_of (streams_in d) in
+    let same = each_only (StreamSays lists) (stream_in lists) (stream_only lists good) (streams_in d) s.streams says in
+    λ i. record { streams = same i }
+
+-- so a document means what is read of its swap
+pub document_means : (d at : Data) (s : Swap) → ((f : Broken) → DocumentFault d f → ⊥) → the_swap d ≡ Ok at
+    → s ≡ swap_in at → Means d s
+document_means d at s none found is = record {
+  clean = none;
+  at = at;
+  found = found;
+  says = subst (SwapSays at) (sym is) (swap_gives at (λ f q. none f (below at f found q)));
+}
+
+-- the swap that a document means is what is read of its swap
+pub means_read : (d : Data) (s : Swap) (m : Means d s) → s ≡ swap_in m.at
+means_read d s m = swap_only m.at (λ f q. m.clean f (below m.at f m.found q)) s m.says

@@ -6,7 +6,10 @@ pub mod Parts
 pub mod Clean
 pub mod Ranges
 pub mod Words
+pub mod Fills
+pub mod CenterLists
 pub mod Streams
+pub mod StreamReads
 pub mod LawfulSwaps
 pub mod StatedTables
 pub mod Outcomes

@@ -7,6 +7,7 @@ use Rattle.irs_base.specs.Outcomes.{Determined, answered, refused}
 use Rattle.irs_base.specs.declared.places.Broken.{Broken}
 use Rattle.irs_base.proofs.FaultOrder.{broken_ties}
 use Rattle.irs_base.proofs.Firsts.{one_first}
+use Rattle.irs_read.proofs.LawfulSwaps.{document_means, means_read}
 use Rattle.irs_read.specs.Documents.{DocumentFault, Way, the_swap}
 use Rattle.irs_read.specs.Meaning.{swap_in}
 use Rattle.irs_read.specs.Outcomes.{swap_of_document}
@@ -23,13 +24,14 @@ end_or d (Err f) = d
 
 -- a document means one swap at most
 one_meaning : (d : Data) (s t : Swap) → Means d s → Means d t → s ≡ t
-one_meaning d s t p q = p.says ∙ ap swap_in (ap (end_or d) (sym p.found ∙ q.found)) ∙ sym q.says
+one_meaning d s t p q =
+    means_read d s p ∙ ap swap_in (ap (end_or d) (sym p.found ∙ q.found)) ∙ sym (means_read d t q)
 
 -- the document breaks no rule, and its swap is there
 clean_determined : (d at : Data) → the_swap d ≡ Ok at → ((f : Broken) → DocumentFault d f → ⊥)
     → Determined (swap_of_document d)
 clean_determined d at found clean =
-    let means : Means d (swap_in at) = record { clean = clean; at = at; found = found; says = refl } in
+    let means : Means d (swap_in at) = document_means d at (swap_in at) clean found refl in
     answered (swap_in at)
     (record { is = means; only = λ s h. one_meaning d s (swap_in at) h means })
     (λ f first. clean f first.0)

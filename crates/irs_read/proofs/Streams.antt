@@ -7,8 +7,10 @@ use Rattle.irs_elements.specs.Find.{member, once, values_in}
 use Rattle.irs_elements.specs.Numbers.{multiplier_at, observation_days_at, offset_at, precision_at, rate_at}
 use Rattle.irs_elements.specs.Words.{currency_at}
 use Rattle.irs_elements.specs.declared.table.Leaf.TheVariants.{CenterName, IndexName}
-use Rattle.irs_read.proofs.Clean.{Clean, clean_leaf, clean_member, clean_once, clean_there, fine_values, is_child}
+use Rattle.irs_read.proofs.CenterLists.{names_reads}
+use Rattle.irs_read.proofs.Clean.{clean_leaf, clean_member, clean_once, clean_there, fine_values, is_child}
 use Rattle.irs_read.proofs.Clean.{leaf_at, most_at, required_at, some_value}
+use Rattle.irs_read.proofs.Fills.{At, AtMost}
 use Rattle.irs_read.proofs.Ranges.{InScale, capitals, currency_range, day_range, first_is_day, multiplier_range}
 use Rattle.irs_read.proofs.Ranges.{observation_days_range, offset_range, or_in, precision_range, rate_range, roll_range, said_in, scale_range}
 use Rattle.irs_read.proofs.Ranges.{tenor_unit_range, zero_range}
@@ -19,6 +21,7 @@ use Rattle.irs_read.specs.Meaning.{applicable_in, observation_days_in, observati
 use Rattle.irs_read.specs.Meaning.{own_centers, pay_in, reset_in, said, scale_at, schedule_in, schedule_or, step_in}
 use Rattle.irs_read.specs.Meaning.{stream_in, stream_parts, stub_by, stub_in, stubs_in, tenor_in, word_in}
 use Rattle.irs_read.specs.References.{first_of, has_id, href_of, lists_in, lists_of, the_one}
+use Rattle.irs_read.specs.StreamElements.{center_list}
 use Rattle.irs_read.proofs.TableLaws.{code_names as row_names}
 use Rattle.irs_read.specs.declared.leaf_values.Scale.{Scale}
 use Rattle.irs_read.specs.declared.leaf_values.Scale.TheVariants.{Notionals, Rates}
@@ -41,14 +44,6 @@ use Rattle.std.proofs.Common.{if◌then◌else◌}
 use Rattle.std.proofs.lemmas.List.{length-map}
 use Rattle.std.proofs.lemmas.List.Elements.{All-map}
 use Rattle.std.proofs.lemmas.Option.{slice_get-get_or}
-
--- d breaks no rule at row c of the table of a stream
-abbrev pub At : ℕ → Data → Type 0
-At c d = Clean ROWS row_names c d
-
--- d, if present, breaks no rule at row c of the table of a stream
-abbrev pub AtMost : ℕ → Option Data → Type 0
-AtMost c o = IfSome o (At c)
 
 -- ---- leaves and their blocks
 
@@ -131,9 +126,9 @@ currency_lawful o =
 
 -- ---- lists of centres
 
--- a list of centres, if there is one, has lawful names
-abbrev GoodList : Option Data → Type 0
-GoodList o = IfSome o (λ d. IsLawfulNames (names_in d))
+-- a list of centres, if there is one, has lawful names and says them
+abbrev pub GoodList : Option Data → Type 0
+GoodList o = IfSome o (λ d. IsLawfulNames (names_in d) × center_list.says d (names_in d))
 
 -- each list of centres that is given is clean
 abbrev pub GoodLists : List (Option Data) → Type 0
@@ -141,12 +136,12 @@ GoodLists [] = Unit {0}
 GoodLists (o ∷ os) = GoodList o × GoodLists os
 
 -- c is the row of the names of the list at row r
-record CenterRows (r c : ℕ) : Type 0 where
-  child : is_child ROWS r c ≡ true
-  required : required_at (slice_get ROWS c) ≡ true
-  most : most_at (slice_get ROWS c) ≡ most_centers
-  leaf : leaf_at (slice_get ROWS c) ≡ Some CenterName
-  named : name_at row_names c ≡ codes "businessCenter"
+pub record CenterRows (r c : ℕ) : Type 0 where
+  pub child : is_child ROWS r c ≡ true
+  pub required : required_at (slice_get ROWS c) ≡ true
+  pub most : most_at (slice_get ROWS c) ≡ most_centers
+  pub leaf : leaf_at (slice_get ROWS c) ≡ Some CenterName
+  pub named : name_at row_names c ≡ codes "businessCenter"
 
 each_name : (c : ℕ) (ds : List Data) → leaf_at (slice_get ROWS c) ≡ Some CenterName
     → ((j : ℕ) (x : Data) → slice_get ds j ≡ Some x → At c x) → All IsLawfulName (map (λ x. word_in (Some x)) ds)
@@ -171,21 +166,24 @@ list_lawful r c at d clean =
 
 good_list : (r c : ℕ) → CenterRows r c → (o : Option Data) → AtMost r o → GoodList o
 good_list r c at None clean = tt
-good_list r c at (Some d) clean = list_lawful r c at d clean
+good_list r c at (Some d) clean =
+    (list_lawful r c at d clean, (names_reads r c at.child at.named at.leaf).gives d clean)
 
 -- r is the row of adjustments, b that of their list of centres, and c that of its names
-record AdjustmentRows (r b c : ℕ) : Type 0 where
-  child : is_child ROWS r b ≡ true
-  named : name_at row_names b ≡ codes "businessCenters"
-  names : CenterRows b c
+pub record AdjustmentRows (r b c : ℕ) : Type 0 where
+  pub child : is_child ROWS r b ≡ true
+  pub named : name_at row_names b ≡ codes "businessCenters"
+  pub names : CenterRows b c
 
-good_below : (r b c : ℕ) → AdjustmentRows r b c → (o : Option Data) → AtMost r o
+-- the list below clean adjustments
+pub good_below : (r b c : ℕ) → AdjustmentRows r b c → (o : Option Data) → AtMost r o
     → GoodList (member (codes "businessCenters") o)
 good_below r b c at o clean =
     good_list b c at.names (member (codes "businessCenters") o)
     (subst (λ (n : List ℕ). AtMost b (member n o)) at.named (clean_member ROWS row_names r b o at.child clean))
 
-effective_rows : AdjustmentRows 4 7 8
+-- the rows of the adjustments of the effective date
+pub effective_rows : AdjustmentRows 4 7 8
 effective_rows =
     record {
       child = refl;
@@ -194,7 +192,8 @@ effective_rows =
           record { child = refl; required = refl; most = refl; leaf = refl; named = refl };
     }
 
-termination_rows : AdjustmentRows 11 14 15
+-- the rows of the adjustments of the termination date
+pub termination_rows : AdjustmentRows 11 14 15
 termination_rows =
     record {
       child = refl;
@@ -203,7 +202,8 @@ termination_rows =
           record { child = refl; required = refl; most = refl; leaf = refl; named = refl };
     }
 
-period_rows : AdjustmentRows 16 19 20
+-- the rows of the adjustments of the ends of periods
+pub period_rows : AdjustmentRows 16 19 20
 period_rows =
     record {
       child = refl;
@@ -212,7 +212,8 @@ period_rows =
           record { child = refl; required = refl; most = refl; leaf = refl; named = refl };
     }
 
-first_rows : AdjustmentRows 23 26 27
+-- the rows of the adjustments of the start of the first period
+pub first_rows : AdjustmentRows 23 26 27
 first_rows =
     record {
       child = refl;
@@ -221,7 +222,8 @@ first_rows =
           record { child = refl; required = refl; most = refl; leaf = refl; named = refl };
     }
 
-payment_rows : AdjustmentRows 47 50 51
+-- the rows of the adjustments of payments
+pub payment_rows : AdjustmentRows 47 50 51
 payment_rows =
     record {
       child = refl;
@@ -230,7 +232,8 @@ payment_rows =
           record { child = refl; required = refl; most = refl; leaf = refl; named = refl };
     }
 
-fixing_rows : AdjustmentRows 55 61 62
+-- the rows of the adjustments of fixing dates
+pub fixing_rows : AdjustmentRows 55 61 62
 fixing_rows =
     record {
       child = refl;
@@ -239,7 +242,8 @@ fixing_rows =
           record { child = refl; required = refl; most = refl; leaf = refl; named = refl };
     }
 
-reset_rows : AdjustmentRows 67 70 71
+-- the rows of the adjustments of resets
+pub reset_rows : AdjustmentRows 67 70 71
 reset_rows =
     record {
       child = refl;
@@ -341,21 +345,24 @@ one_by : (b : Bool) (o : Option Data) → GoodList o → GoodList (if b then o e
 one_by true o g = g
 one_by false o g = tt
 
+-- the list that a text names
+pub one_good : (id : List ℕ) (lists : List (Option Data)) → GoodLists lists → GoodList (the_one id lists)
+one_good id lists g =
+    one_by (count_by (has_id id) lists == 1) (first_of (find (has_id id) lists)) (good_found (has_id id) lists g)
+
 named_lawful : (o : Option Data) → GoodList o → IsLawfulCenters (named_centers o)
 named_lawful None g = tt
-named_lawful (Some d) g = g
+named_lawful (Some d) g = g.0
 
 own_lawful : (o : Option Data) → GoodList o → IsLawfulCenters (own_centers o)
 own_lawful None g = tt
-own_lawful (Some d) g = g
+own_lawful (Some d) g = g.0
 
 by_lawful : (lists : List (Option Data)) (reference own : Option Data) → GoodLists lists → GoodList own
     → IsLawfulCenters (centers_by lists reference own)
 by_lawful lists None own g h = own_lawful own h
 by_lawful lists (Some reference) own g h =
-    named_lawful (the_one (href_of reference) lists)
-    (one_by (count_by (has_id (href_of reference)) lists == 1) (first_of (find (has_id (href_of reference)) lists))
-    (good_found (has_id (href_of reference)) lists g))
+    named_lawful (the_one (href_of reference) lists) (one_good (href_of reference) lists g)
 
 centers_lawful : (lists : List (Option Data)) (o : Option Data) → GoodLists lists → GoodList (Centers o)
     → IsLawfulCenters (adjustments_in lists o).centers

@@ -5,11 +5,12 @@ use Rattle.irs_elements.specs.Elements.{FaultAt}
 use Rattle.irs_elements.specs.declared.table.Kind.{Kind}
 use Rattle.irs_elements.specs.Lines.{Line}
 use Rattle.irs_elements.specs.declared.table.Row.{Row}
+use Rattle.irs_read.specs.References.{list_lines, lists_in, names_on, value_on}
 use Rattle.irs_read.specs.StreamLines.{stream_elements, stream_names, stream_rows, stream_table, swap_names, swap_rows}
 use Rattle.irs_read.specs.StreamLines.{swap_table}
 use Rattle.irs_read.specs.declared.table.TheConstants.{NAMES, ROWS, SWAP_NAMES, SWAP_ROWS}
 use Rattle.serde_json.specs.Data.{Data}
-use Rattle.std.proofs.Common.{◌≡◌, ℕ, List, map, Option, refl, subst}
+use Rattle.std.proofs.Common.{◌≡◌, ℕ, List, map, Option, Some, refl, subst}
 use Rattle.irs_base.specs.Order.{IsFirstBroken}
 
 -- the names as the code has them
@@ -29,6 +30,12 @@ rows_are = refl
 pub lines_are : map (λ (l : Line). l.path) stream_table.lines ≡ stream_elements
 unfolding stream_table stream_elements printed paths
 lines_are = refl
+
+-- the lists of centres are those of the table
+pub lists_are : (d : Data) → lists_in d
+    ≡ map (λ (l : Line). value_on (names_on l.path) (Some d)) (list_lines stream_table.lines)
+unfolding stream_table
+lists_are d = refl
 
 -- the code's names are those of the specification
 pub names_are : code_names ≡ stream_names

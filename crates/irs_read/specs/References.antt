@@ -1,5 +1,6 @@
 -- References by `@href`, and the lists of centres that they may name.
 use Rattle.irs_elements.specs.Find.{member, once}
+use Rattle.irs_elements.specs.Lines.{Line, last_name}
 use Rattle.irs_json.specs.Carrier.{child_of}
 use Rattle.irs_terms.specs.declared.codes.RefState.{RefState}
 use Rattle.irs_terms.specs.declared.codes.RefState.TheVariants.{Absent, Good, Dangling}
@@ -58,3 +59,26 @@ lists_in d =
 -- the lists of centres of all streams
 abbrev pub lists_of : List Data → List (Option Data)
 lists_of streams = flat_map lists_in streams
+
+-- ---- the same by paths
+
+-- one byte more in front of the first name
+abbrev before_first : ℕ → List (List ℕ) → List (List ℕ)
+before_first c [] = (c ∷ []) ∷ []
+before_first c (n ∷ ns) = (c ∷ n) ∷ ns
+
+-- the names of a path
+abbrev pub names_on : List ℕ → List (List ℕ)
+names_on [] = [] ∷ []
+names_on (c ∷ p) = if c == 47 then [] ∷ names_on p else before_first c (names_on p)
+
+-- the value that these names lead to
+abbrev pub value_on : List (List ℕ) → Option Data → Option Data
+value_on [] o = o
+value_on (n ∷ ns) o = value_on ns (member n o)
+
+-- the lines of lists of centres
+abbrev pub list_lines : List Line → List Line
+list_lines [] = []
+list_lines (l ∷ ls) =
+    if bytes_eq (last_name l.path) (codes "businessCenters") then l ∷ list_lines ls else list_lines ls

@@ -15,5 +15,6 @@ mod table;
 pub use document::{first_in_document, the_swap};
 pub use reader::{ReadErr, read_swap, swap_of_document_is_determined};
 pub use table::{
-    NAMES, ROWS, SWAP_NAMES, SWAP_ROWS, lines_follow, rows_whole, swap_rows_whole, tables_listed,
+    NAMES, ROWS, SWAP_NAMES, SWAP_ROWS, lines_follow, lists_listed, rows_whole, swap_rows_whole,
+    tables_listed,
 };

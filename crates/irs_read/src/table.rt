@@ -4,10 +4,12 @@
 //! rows are the elements of a stream in the order of the table of paths. After them come the members
 //! that are passed over, `payerPartyReference` among them, and those that are out of the profile.
 ghost use Rattle.irs_elements.specs.Lines.{Line};
+ghost use Rattle.irs_read.specs.References.{list_lines, lists_in, names_on, value_on};
 ghost use Rattle.irs_read.specs.StreamLines.{stream_elements, stream_names, stream_rows, stream_table, swap_names};
 ghost use Rattle.irs_read.specs.StreamLines.{swap_rows};
 ghost use Rattle.irs_read.specs.Tables.{is_whole};
-ghost use Rattle.std.specs.Prelude.{◌≡◌, drop, map, true};
+ghost use Rattle.serde_json.specs.Data.{Data};
+ghost use Rattle.std.specs.Prelude.{◌≡◌, Some, drop, map, true};
 
 use irs_base::{MOST_CENTERS, MOST_STEPS};
 use irs_elements::{Choice, Count, Kind, Leaf, Row, row};
@@ -517,6 +519,14 @@ pub fn tables_listed()
 #[tactic(auto, using(crate::proofs::TableLaws::lines_are))]
 pub fn lines_follow()
     ensures { map (λ (l : Line). l.path) stream_table.lines ≡ stream_elements }
+{}
+
+/// The lists of centres that a reference may name are those of the table: all lists of the name
+/// `businessCenters`.
+#[tactic(auto, using(crate::proofs::TableLaws::lists_are))]
+pub fn lists_listed()
+    ensures { (d : Data) → lists_in d
+        ≡ map (λ (l : Line). value_on (names_on l.path) (Some d)) (list_lines stream_table.lines) }
 {}
 
 /// The rows of a stream fit together. Each comes after its parent, a choice is among the members of its

@@ -1,0 +1,1036 @@
+-- What is read of a stream that breaks no rule is what the stream says, and nothing else is.
+use Rattle.irs_base.specs.Days.{first_day}
+use Rattle.irs_base.specs.declared.rounding.Direction.TheVariants.{Nearest}
+use Rattle.irs_elements.specs.Codes.{calculation_method_at, compounding_at, convention_at, day_count_at, day_kind_at}
+use Rattle.irs_elements.specs.Codes.{direction_at, relative_at, roll_at, stub_kind_at, tenor_unit_at, treatment_at}
+use Rattle.irs_elements.specs.Codes.{truth_at, unit_at}
+use Rattle.irs_elements.specs.Dates.{day_at}
+use Rattle.irs_elements.specs.Elements.{name_at}
+use Rattle.irs_elements.specs.Find.{member, once, text_in, values_in}
+use Rattle.irs_elements.specs.Lines.{at_most_one, at_most_one_of_three, exactly_one, object}
+use Rattle.irs_elements.specs.Numbers.{multiplier_at, notional_at, observation_days_at, offset_at, precision_at}
+use Rattle.irs_elements.specs.Numbers.{rate_at}
+use Rattle.irs_elements.specs.Words.{currency_at, is_index_name}
+use Rattle.irs_elements.specs.declared.table.Count.TheVariants.{UpTo}
+use Rattle.irs_elements.specs.declared.table.Leaf.{Leaf as LeafKind}
+use Rattle.irs_elements.specs.declared.table.Leaf.TheVariants.{CalculationMethod, Compounding, Convention}
+use Rattle.irs_elements.specs.declared.table.Leaf.TheVariants.{CurrencyName, Date, DayCount, DayType, Direction, IndexName}
+use Rattle.irs_elements.specs.declared.table.Leaf.TheVariants.{Multiplier, Notional, ObservationDays, OffsetDays, PayRelative}
+use Rattle.irs_elements.specs.declared.table.Leaf.TheVariants.{PeriodUnit, Precision, Rate, ResetRelative, Roll, StubType}
+use Rattle.irs_elements.specs.declared.table.Leaf.TheVariants.{TenorUnit, Treatment, Truth}
+use Prim.Native.String.{String}
+use Rattle.irs_base.specs.Limits.{most_steps}
+use Rattle.irs_read.proofs.CenterLists.{guard_is, names_reads, word_reads}
+use Rattle.irs_read.proofs.Clean.{either_there, is_child, leaf_at, required_at}
+use Rattle.irs_read.proofs.Fills.{At, AtMost, Agree, Fills, FreeRow, LeafRow, Reads, each_fills, leaf_maybe, leaf_one, leaf_or}
+use Rattle.irs_read.proofs.Fills.{leaf_reads, maybe_fills, one_fills, one_is, or_fills, perhaps, there, whole}
+use Rattle.irs_read.proofs.Streams.{AdjustmentRows, GoodList, GoodLists, effective_rows, first_rows, fixing_rows}
+use Rattle.irs_read.proofs.Streams.{good_below, one_good, payment_rows, period_rows, reset_rows, termination_rows}
+use Rattle.irs_read.proofs.TableLaws.{code_names as row_names}
+use Rattle.irs_read.specs.Meaning.{adjustments_in, applicable_in, centers_by, dated_in, day_in, exchanges_in, fix_in}
+use Rattle.irs_read.specs.Meaning.{float_in, frequency_in, leg_by, maybe_dated_in, named_centers, names_in, number_in}
+use Rattle.irs_read.specs.Meaning.{observation_days_in, observation_offset_by, offset_in, own_centers, parameters_in}
+use Rattle.irs_read.specs.Meaning.{pay_in, places_by, reset_in, rounding_in, schedule_in, schedule_or, step_in, stub_by}
+use Rattle.irs_read.specs.Meaning.{no_currency, scale_at, stream_in, stream_parts, stub_in, stubs_in, tenor_in, truth_in}
+use Rattle.irs_read.specs.Meaning.{word_in}
+use Rattle.irs_read.specs.Readings.{Says, holds, maybe, one, or_by, said, text}
+use Rattle.irs_read.specs.References.{first_of, has_id, href_of, reference_in, the_one}
+use Rattle.irs_read.specs.StreamElements.{StreamSays, adjustable, adjusting, adjustments, always, calculation, stream_by}
+use Rattle.irs_read.specs.StreamElements.{center_list, date, exchanges, fixing_dates, floating, frequency, index_name}
+use Rattle.irs_read.specs.StreamElements.{indexed, leg, notional, observed, offset, parameters, payment_dates}
+use Rattle.irs_read.specs.StreamElements.{period_dates, rate, reference, reset_dates, rounded, schedule, step, stub}
+use Rattle.irs_read.specs.StreamElements.{stubs, tenor, unadjusted}
+use Rattle.irs_read.specs.declared.leaf_values.Scale.{Scale}
+use Rattle.irs_read.specs.declared.leaf_values.Scale.TheVariants.{Notionals, Rates}
+use Rattle.irs_read.specs.declared.table.TheConstants.{ROWS}
+use Rattle.irs_terms.specs.declared.adjustments.Centers.{Centers}
+use Rattle.irs_terms.specs.declared.adjustments.Centers.TheVariants.{Absent, Listed, Dangling}
+use Rattle.irs_terms.specs.declared.amounts.ExchangeFlags.{ExchangeFlags}
+use Rattle.irs_terms.specs.declared.amounts.Leg.{Leg}
+use Rattle.irs_terms.specs.declared.amounts.Leg.TheVariants.{Fixed, Floating}
+use Rattle.irs_terms.specs.declared.amounts.StubRate.{StubRate}
+use Rattle.irs_terms.specs.declared.amounts.StubRate.TheVariants.{Index, Fixed as FixedStub}
+use Rattle.irs_terms.specs.declared.codes.CompCode.TheVariants.{Simple}
+use Rattle.irs_terms.specs.declared.codes.ConvCode.TheVariants.{Unadjusted}
+use Rattle.irs_terms.specs.declared.codes.DayCountCode.TheVariants.{OneOne}
+use Rattle.irs_terms.specs.declared.codes.DayKind.TheVariants.{Unsaid}
+use Rattle.irs_terms.specs.declared.codes.RefState.{RefState}
+use Rattle.irs_terms.specs.declared.codes.RefState.TheVariants.{Absent as NoReference}
+use Rattle.irs_terms.specs.declared.codes.Relative.TheVariants.{Start}
+use Rattle.irs_terms.specs.declared.codes.RollCode.TheVariants.{NoRoll}
+use Rattle.irs_terms.specs.declared.codes.Treatment.TheVariants.{AsIs}
+use Rattle.irs_terms.specs.declared.dates.FixTerms.{FixTerms}
+use Rattle.irs_terms.specs.declared.parameters.CalculationMethod.TheVariants.{Compounding as ByCompounding}
+use Rattle.irs_terms.specs.declared.parameters.ObservationOffset.{ObservationOffset}
+use Rattle.irs_terms.specs.declared.parameters.ObservationOffset.TheVariants.{Absent as NoOffset, Shift, Lookback, Lockout}
+use Rattle.irs_terms.specs.declared.frequency.Frequency.{Frequency}
+use Rattle.irs_terms.specs.declared.frequency.Unit.TheVariants.{D}
+use Rattle.irs_terms.specs.declared.stream.Stream.{Stream}
+use Rattle.serde_json.specs.Data.{Data}
+use Rattle.std.proofs.Common.{◌≡◌, ℕ, true, false, List, ℤ, pos, Option, Some, None}
+use Rattle.std.proofs.Common.{◌⊎◌, inl, inr, option_map, unwrap_or, slice_get, codes, refl, sym, ap, subst, ◌∙◌}
+
+-- ---- numbers of periods and offsets
+
+-- a frequency at row r, with its leaves at rows m and u
+frequency_fills : (r m u : ℕ) → LeafRow r m "periodMultiplier" Multiplier → LeafRow r u "period" PeriodUnit
+    → Fills r frequency (λ d. frequency_in (Some d))
+frequency_fills r m u count_row unit_row =
+    let a = leaf_one r m "periodMultiplier" Multiplier multiplier_at 1 (λ s. refl) count_row in
+    let b = leaf_one r u "period" PeriodUnit unit_at D (λ s. refl) unit_row in
+    record {
+      gives = λ d clean. (a.gives d clean, b.gives d clean);
+      only = λ d f h. λ i. record { count = a.only d f.count h.0 i; unit = b.only d f.unit h.1 i };
+    }
+
+-- the tenor of an index at row r
+tenor_fills : (r m u : ℕ) → LeafRow r m "periodMultiplier" Multiplier → LeafRow r u "period" TenorUnit
+    → Fills r tenor tenor_in
+tenor_fills r m u count_row unit_row =
+    let a = leaf_one r m "periodMultiplier" Multiplier multiplier_at 1 (λ s. refl) count_row in
+    let b = leaf_one r u "period" TenorUnit tenor_unit_at D (λ s. refl) unit_row in
+    record {
+      gives = λ d clean. (a.gives d clean, b.gives d clean);
+      only = λ d f h. λ i. record { count = a.only d f.count h.0 i; unit = b.only d f.unit h.1 i };
+    }
+
+-- an offset at row r
+offset_fills : (r m t : ℕ) → LeafRow r m "periodMultiplier" OffsetDays → FreeRow r t "dayType" DayType
+    → Fills r offset (λ d. offset_in (Some d))
+offset_fills r m t count_row kind_row =
+    let a = leaf_one r m "periodMultiplier" OffsetDays offset_at (pos 0) (λ s. refl) count_row in
+    let b = leaf_or r t "dayType" DayType day_kind_at Unsaid (λ s. refl) kind_row in
+    record {
+      gives = λ d clean. (a.gives d clean, (tt, b.gives d clean));
+      only = λ d o h. λ i. record { days = a.only d o.days h.0 i; kind = b.only d o.kind h.1.1 i };
+    }
+
+-- ---- adjustments
+
+named_gives : (o : Option Data) → GoodList o → Says o center_list.says Listed (λ c. c ≡ Dangling) (named_centers o)
+named_gives None g = refl
+named_gives (Some d) g = (names_in d, (refl, g.1))
+
+own_gives : (o : Option Data) → GoodList o → Says o center_list.says Listed (λ c. c ≡ Absent) (own_centers o)
+own_gives None g = refl
+own_gives (Some d) g = (names_in d, (refl, g.1))
+
+-- a list says its names, and nothing else
+list_only : (d : Data) (ns : List (List ℕ)) → center_list.says d ns → ns ≡ names_in d
+list_only = (names_reads 7 8 refl refl refl).only
+
+named_only : (o : Option Data) (c : Centers) → Says o center_list.says Listed (λ c. c ≡ Dangling) c → c ≡ named_centers o
+named_only None c h = h
+named_only (Some d) c (ns, (e, h)) = e ∙ ap Listed (list_only d ns h)
+
+own_only : (o : Option Data) (c : Centers) → Says o center_list.says Listed (λ c. c ≡ Absent) c → c ≡ own_centers o
+own_only None c h = h
+own_only (Some d) c (ns, (e, h)) = e ∙ ap Listed (list_only d ns h)
+
+-- what is said of centres by a reference to one of these lists, or by an own list
+abbrev CentersSaid : List (Option Data) → Option Data → Option Data → Centers → Type 0
+CentersSaid lists ref own =
+    Says ref (λ r. Says (the_one (href_of r) lists) center_list.says Listed (λ c. c ≡ Dangling)) (λ c. c)
+    (Says own center_list.says Listed (λ c. c ≡ Absent))
+
+centers_give : (lists : List (Option Data)) (ref own : Option Data) → GoodLists lists → GoodList own
+    → CentersSaid lists ref own (centers_by lists ref own)
+centers_give lists None own g h = own_gives own h
+centers_give lists (Some r) own g h =
+    let found = the_one (href_of r) lists in
+    (named_centers found, (refl, named_gives found (one_good (href_of r) lists g)))
+
+centers_only : (lists : List (Option Data)) (ref own : Option Data) (c : Centers) → CentersSaid lists ref own c
+    → c ≡ centers_by lists ref own
+centers_only lists None own c h = own_only own c h
+centers_only lists (Some r) own c (c', (e, h)) = e ∙ named_only (the_one (href_of r) lists) c' h
+
+-- r is the row of adjustments, v that of their convention, b that of their list, and c that of its names
+record AdjustingRows (r v b c : ℕ) : Type 0 where
+  convention : LeafRow r v "businessDayConvention" Convention
+  list : AdjustmentRows r b c
+
+adjusting_fills : (lists : List (Option Data)) → GoodLists lists → (r v b c : ℕ) → AdjustingRows r v b c
+    → Fills r (adjusting lists) (λ d. adjustments_in lists (Some d))
+adjusting_fills lists g r v b c at =
+    let code = leaf_one r v "businessDayConvention" Convention convention_at Unadjusted (λ s. refl) at.convention in
+    record {
+      gives = λ d clean. (
+        code.gives d clean,
+        centers_give lists (once (codes "businessCentersReference") d) (once (codes "businessCenters") d) g
+            (good_below r b c at.list (Some d) clean),
+      );
+      only = λ d a h. λ i. record {
+        code = code.only d a.code h.0 i;
+        centers = centers_only lists (once (codes "businessCentersReference") d) (once (codes "businessCenters") d)
+            a.centers h.1 i;
+      };
+    }
+
+adjustments_reads : (lists : List (Option Data)) → GoodLists lists → (r v b c : ℕ) → AdjustingRows r v b c
+    → Reads r (adjustments lists) (λ d. adjustments_in lists (Some d))
+adjustments_reads lists g r v b c at =
+    let fills = adjusting_fills lists g r v b c at in
+    record { gives = fills.gives; only = fills.only }
+
+-- r is the row of a date with adjustments, u that of the date
+record DatedRows (r u a v b c : ℕ) : Type 0 where
+  day : LeafRow r u "unadjustedDate" Date
+  child : is_child ROWS r a ≡ true
+  required : required_at (slice_get ROWS a) ≡ true
+  named : name_at row_names a ≡ codes "dateAdjustments"
+  rows : AdjustingRows a v b c
+
+dated_reads : (lists : List (Option Data)) → GoodLists lists → (r u a v b c : ℕ) → DatedRows r u a v b c
+    → Reads r (adjustable lists) (λ d. dated_in lists (Some d))
+dated_reads lists g r u a v b c at =
+    let day = leaf_one r u "unadjustedDate" Date day_at first_day (λ s. refl) at.day in
+    let adj =
+    one_fills r a "dateAdjustments" (adjustments lists) (adjustments_in lists) at.child at.required at.named
+    (adjustments_reads lists g a v b c at.rows) in
+    record {
+      gives = λ d clean. (day.gives d clean, adj.gives d clean);
+      only = λ d x h. λ i. record { day = day.only d x.day h.0 i; adj = adj.only d x.adj h.1 i };
+    }
+
+effective : AdjustingRows 4 5 7 8
+effective = record { convention = (refl, refl, refl, refl); list = effective_rows }
+
+termination : AdjustingRows 11 12 14 15
+termination = record { convention = (refl, refl, refl, refl); list = termination_rows }
+
+periods : AdjustingRows 16 17 19 20
+periods = record { convention = (refl, refl, refl, refl); list = period_rows }
+
+firsts : AdjustingRows 23 24 26 27
+firsts = record { convention = (refl, refl, refl, refl); list = first_rows }
+
+payments : AdjustingRows 47 48 50 51
+payments = record { convention = (refl, refl, refl, refl); list = payment_rows }
+
+fixing : AdjustingRows 55 59 61 62
+fixing = record { convention = (refl, refl, refl, refl); list = fixing_rows }
+
+resets : AdjustingRows 67 68 70 71
+resets = record { convention = (refl, refl, refl, refl); list = reset_rows }
+
+-- ---- references
+
+reference_reads : (c : ℕ) (target : Option Data) → Reads c (reference target) (λ x. reference_in target (Some x))
+reference_reads c target = record { gives = λ d clean. refl; only = λ d a h. h }
+
+-- a reference to the target at row c, which may be absent
+reference_fills : (r c : ℕ) (name : String) (target : Option Data) → is_child ROWS r c ≡ true
+    → name_at row_names c ≡ codes name
+    → Fills r (or_by name (reference target) (λ _. NoReference)) (λ d. reference_in target (once (codes name) d))
+reference_fills r c name target child named =
+    or_fills r c name (reference target) (λ _. NoReference) (λ _ o. reference_in target o) child named (λ d. refl)
+    (λ d. reference_reads c target)
+
+-- ---- payments and resets
+
+-- a frequency that must occur below row r
+frequency_one : (r c m u : ℕ) (name : String) → is_child ROWS r c ≡ true → required_at (slice_get ROWS c) ≡ true
+    → name_at row_names c ≡ codes name → LeafRow c m "periodMultiplier" Multiplier → LeafRow c u "period" PeriodUnit
+    → Fills r (one name (holds object frequency)) (λ d. frequency_in (once (codes name) d))
+frequency_one r c m u name child required named count_row unit_row =
+    one_fills r c name (holds object frequency) frequency_in child required named
+    (whole c object frequency (λ d. frequency_in (Some d)) (frequency_fills c m u count_row unit_row))
+
+-- adjustments that may be absent below row r
+adjustments_or : (lists : List (Option Data)) → GoodLists lists → (r a v b c : ℕ) (name : String)
+    → is_child ROWS r a ≡ true → name_at row_names a ≡ codes name → AdjustingRows a v b c
+    → Fills r (or_by name (adjustments lists) (λ _. unadjusted)) (λ d. adjustments_in lists (once (codes name) d))
+adjustments_or lists g r a v b c name child named at =
+    or_fills r a name (adjustments lists) (λ _. unadjusted) (λ _ o. adjustments_in lists o) child named (λ d. refl)
+    (λ d. adjustments_reads lists g a v b c at)
+
+pay_reads : (lists : List (Option Data)) → GoodLists lists → (dates : Option Data)
+    → Reads 35 (payment_dates lists dates) (λ d. pay_in lists dates (Some d))
+pay_reads lists g dates =
+    let ref = reference_fills 35 36 "calculationPeriodDatesReference" dates refl refl in
+    let freq =
+    frequency_one 35 37 38 39 "paymentFrequency" refl refl refl (refl, refl, refl, refl) (refl, refl, refl, refl) in
+    let first = leaf_maybe 35 40 "firstPaymentDate" Date day_at (λ s. refl) (refl, refl, refl) in
+    let last = leaf_maybe 35 41 "lastRegularPaymentDate" Date day_at (λ s. refl) (refl, refl, refl) in
+    let relative = leaf_one 35 42 "payRelativeTo" PayRelative relative_at Start (λ s. refl) (refl, refl, refl, refl) in
+    let days =
+    or_fills 35 43 "paymentDaysOffset" (holds object offset) (λ _. record { days = pos 0; kind = Unsaid }) (λ _ o. offset_in o)
+    refl refl (λ d. refl)
+    (λ d. whole 43 object offset (λ x. offset_in (Some x))
+    (offset_fills 43 44 46 (refl, refl, refl, refl) (refl, refl, refl))) in
+    let adj = adjustments_or lists g 35 47 48 50 51 "paymentDatesAdjustments" refl refl payments in
+    record {
+      gives = λ d clean. (
+        ref.gives d clean,
+        (
+          freq.gives d clean,
+          (
+            first.gives d clean,
+            (last.gives d clean, (relative.gives d clean, (days.gives d clean, adj.gives d clean))),
+          ),
+        ),
+      );
+      only = λ d p h. λ i. record {
+        calc_ref = ref.only d p.calc_ref h.0 i;
+        freq = freq.only d p.freq h.1.0 i;
+        first = first.only d p.first h.1.1.0 i;
+        last = last.only d p.last h.1.1.1.0 i;
+        relative = relative.only d p.relative h.1.1.1.1.0 i;
+        offset = days.only d p.offset h.1.1.1.1.1.0 i;
+        adj = adj.only d p.adj h.1.1.1.1.1.1 i;
+      };
+    }
+
+fixing_reads : (lists : List (Option Data)) → GoodLists lists → (target : Option Data)
+    → Reads 55 (fixing_dates lists target)
+    (λ d. (fix_in lists d, reference_in target (once (codes "dateRelativeTo") d)))
+fixing_reads lists g target =
+    let days = offset_fills 55 56 58 (refl, refl, refl, refl) (refl, refl, refl) in
+    let adj = adjusting_fills lists g 55 59 61 62 fixing in
+    let ref = reference_fills 55 63 "dateRelativeTo" target refl refl in
+    record {
+      gives = λ d clean. (days.gives d clean, (adj.gives d clean, ref.gives d clean));
+      only = λ d f h. λ i. (
+        record { offset = days.only d f.0.offset h.0 i; adj = adj.only d f.0.adj h.1.0 i },
+        ref.only d f.1 h.1.1 i,
+      );
+    }
+
+-- what is read of fixing dates, if they are there
+abbrev fixings_in : List (Option Data) → Option Data → Option Data → Option FixTerms × RefState
+fixings_in lists target o =
+    (option_map (fix_in lists) o, reference_in target (member (codes "dateRelativeTo") o))
+
+-- terms that are there
+abbrev with_terms : FixTerms × RefState → Option FixTerms × RefState
+with_terms f = (Some f.0, f.1)
+
+-- what they say
+abbrev FixingsSaid : List (Option Data) → Option Data → Option Data → Option FixTerms × RefState → Type 0
+FixingsSaid lists target o =
+    Says {B = Option FixTerms × RefState} o (fixing_dates lists target).says (λ f. (Some f.0, f.1))
+    (λ f. f ≡ (None, NoReference))
+
+fixings_give : (lists : List (Option Data)) → GoodLists lists → (target o : Option Data) → AtMost 55 o
+    → FixingsSaid lists target o (fixings_in lists target o)
+fixings_give lists g target None clean = refl
+fixings_give lists g target (Some x) clean = (
+  (fix_in lists x, reference_in target (once (codes "dateRelativeTo") x)),
+  (refl, (fixing_reads lists g target).gives x clean),
+)
+
+fixings_only : (lists : List (Option Data)) → GoodLists lists → (target o : Option Data)
+    (p : Option FixTerms × RefState) → FixingsSaid lists target o p → p ≡ fixings_in lists target o
+fixings_only lists g target None p h = h
+fixings_only lists g target (Some x) p (f, (e, h)) = e ∙ ap with_terms ((fixing_reads lists g target).only x f h)
+
+reset_reads : (lists : List (Option Data)) → GoodLists lists → (dates : Option Data)
+    → Reads 52 (reset_dates lists dates) (reset_in lists dates)
+reset_reads lists g dates =
+    let ref = reference_fills 52 53 "calculationPeriodDatesReference" dates refl refl in
+    let relative = leaf_or 52 54 "resetRelativeTo" ResetRelative relative_at Start (λ s. refl) (refl, refl, refl) in
+    let freq =
+    frequency_one 52 64 65 66 "resetFrequency" refl refl refl (refl, refl, refl, refl) (refl, refl, refl, refl) in
+    let adj = adjustments_or lists g 52 67 68 70 71 "resetDatesAdjustments" refl refl resets in
+    record {
+      gives = λ d clean. (
+        ref.gives d clean,
+        (
+          relative.gives d clean,
+          (
+            fixings_give lists g (Some d) (once (codes "fixingDates") d) (perhaps 52 55 "fixingDates" refl refl d clean),
+            (freq.gives d clean, adj.gives d clean),
+          ),
+        ),
+      );
+      only = λ d r h.
+          let fix = fixings_only lists g (Some d) (once (codes "fixingDates") d) (r.fixing, r.fixing_ref) h.1.1.0 in
+          λ i. record {
+            calc_ref = ref.only d r.calc_ref h.0 i;
+            fixing_ref = (fix i).1;
+            relative = relative.only d r.relative h.1.0 i;
+            fixing = (fix i).0;
+            freq = freq.only d r.freq h.1.1.1.0 i;
+            adj = adj.only d r.adj h.1.1.1.1 i;
+          };
+    }
+
+-- ---- schedules
+
+-- the kind of leaf of a scale
+abbrev kind_by : Scale → LeafKind
+kind_by Notionals = Notional
+kind_by Rates = Rate
+
+scale_agrees : (scale : Scale) → Agree (kind_by scale) (scale_at scale)
+scale_agrees Notionals s = refl
+scale_agrees Rates s = refl
+
+-- r is the row of a schedule, i that of its first value, t that of its steps, y and z those of their leaves
+record ScheduleRows (scale : Scale) (r i t y z : ℕ) : Type 0 where
+  initial : LeafRow r i "initialValue" (kind_by scale)
+  child : is_child ROWS r t ≡ true
+  named : name_at row_names t ≡ codes "step"
+  day : LeafRow t y "stepDate" Date
+  value : LeafRow t z "stepValue" (kind_by scale)
+
+step_reads : (scale : Scale) (t y z : ℕ) → LeafRow t y "stepDate" Date → LeafRow t z "stepValue" (kind_by scale)
+    → Reads t (step (text (kind_by scale) (scale_at scale))) (step_in scale)
+step_reads scale t y z day_row value_row =
+    let day = leaf_one t y "stepDate" Date day_at first_day (λ s. refl) day_row in
+    let value = leaf_one t z "stepValue" (kind_by scale) (scale_at scale) (pos 0) (scale_agrees scale) value_row in
+    record {
+      gives = λ d clean. (day.gives d clean, value.gives d clean);
+      only = λ d s h. λ i. record { day = day.only d s.day h.0 i; value = value.only d s.value h.1 i };
+    }
+
+schedule_fills : (scale : Scale) (r i t y z : ℕ) → ScheduleRows scale r i t y z
+    → Fills r (schedule (text (kind_by scale) (scale_at scale))) (λ d. schedule_in scale (Some d))
+schedule_fills scale r i t y z at =
+    let first =
+    leaf_one r i "initialValue" (kind_by scale) (scale_at scale) (pos 0) (scale_agrees scale) at.initial in
+    let steps =
+    each_fills r t "step" (UpTo most_steps) (step (text (kind_by scale) (scale_at scale))) (step_in scale) at.child
+    at.named (step_reads scale t y z at.day at.value) in
+    record {
+      gives = λ d clean. (first.gives d clean, steps.gives d clean);
+      only = λ d s h. λ j. record { initial = first.only d s.initial h.0 j; steps = steps.only d s.steps h.1 j };
+    }
+
+schedule_reads : (r i t y z : ℕ) → ScheduleRows Rates r i t y z
+    → Reads r (holds object (schedule rate)) (λ d. schedule_in Rates (Some d))
+schedule_reads r i t y z at =
+    let h = schedule_fills Rates r i t y z at in
+    record { gives = h.gives; only = h.only }
+
+-- a schedule of rates that may be absent, and then a value without steps
+schedule_or_fills : (v : ℤ) (r c i t y z : ℕ) (name : String) → is_child ROWS r c ≡ true
+    → name_at row_names c ≡ codes name → ScheduleRows Rates c i t y z
+    → Fills r (or_by name (holds object (schedule rate)) (λ _. always v)) (λ d. schedule_or v (once (codes name) d))
+schedule_or_fills v r c i t y z name child named at =
+    or_fills r c name (holds object (schedule rate)) (λ _. always v) (λ _ o. schedule_or v o) child named (λ d. refl)
+    (λ d. schedule_reads c i t y z at)
+
+-- ---- rates
+
+-- an index with its tenor at row r
+indexed_fills : (r k t m u : ℕ) → LeafRow r k "floatingRateIndex" IndexName → is_child ROWS r t ≡ true
+    → name_at row_names t ≡ codes "indexTenor" → LeafRow t m "periodMultiplier" Multiplier
+    → LeafRow t u "period" TenorUnit
+    → Fills r indexed
+    (λ d. (word_in (once (codes "floatingRateIndex") d), option_map tenor_in (once (codes "indexTenor") d)))
+indexed_fills r k t m u index_row child named count_row unit_row =
+    let index =
+    one_fills r k "floatingRateIndex" index_name word_in index_row.0 index_row.1 index_row.2
+    (word_reads k IndexName is_index_name (λ s. guard_is (is_index_name s) s) index_row.3) in
+    let tenors =
+    maybe_fills r t "indexTenor" (holds object tenor) tenor_in child named
+    (whole t object tenor tenor_in (tenor_fills t m u count_row unit_row)) in
+    record {
+      gives = λ d clean. (index.gives d clean, tenors.gives d clean);
+      only = λ d p h. λ i. (index.only d p.0 h.0 i, tenors.only d p.1 h.1 i);
+    }
+
+rounded_reads : (places : ℕ) → Reads 102 rounded (λ d. rounding_in places (Some d))
+rounded_reads places =
+    let dir =
+    leaf_one 102 103 "roundingDirection" Direction direction_at Nearest (λ s. refl) (refl, refl, refl, refl) in
+    let precise = leaf_one 102 104 "precision" Precision precision_at places (λ s. refl) (refl, refl, refl, refl) in
+    record {
+      gives = λ d clean. (dir.gives d clean, precise.gives d clean);
+      only = λ d r h. λ i. record { dir = dir.only d r.dir h.0 i; places = precise.only d r.places h.1 i };
+    }
+
+-- days at row c, in the leaf at row k
+observed_reads : (c k : ℕ) → LeafRow c k "offsetDays" ObservationDays → Reads c observed observation_days_in
+observed_reads c k row =
+    let h = leaf_one c k "offsetDays" ObservationDays observation_days_at 1 (λ s. refl) row in
+    record { gives = h.gives; only = h.only }
+
+shifts : Reads 108 observed observation_days_in
+shifts = observed_reads 108 109 (refl, refl, refl, refl)
+
+lookbacks : Reads 110 observed observation_days_in
+lookbacks = observed_reads 110 111 (refl, refl, refl, refl)
+
+lockouts : Reads 112 observed observation_days_in
+lockouts = observed_reads 112 113 (refl, refl, refl, refl)
+
+-- what these three members say
+abbrev ObservingSaid : Option Data → Option Data → Option Data → ObservationOffset → Type 0
+ObservingSaid a b c =
+    Says a observed.says Shift
+    (Says b observed.says Lookback (Says c observed.says Lockout (λ o. o ≡ NoOffset)))
+
+observing_gives : (a b c : Option Data) → AtMost 108 a → AtMost 110 b → AtMost 112 c
+    → ObservingSaid a b c (observation_offset_by a b c)
+observing_gives (Some x) b c p q r = (observation_days_in x, (refl, shifts.gives x p))
+observing_gives None (Some x) c p q r = (observation_days_in x, (refl, lookbacks.gives x q))
+observing_gives None None (Some x) p q r = (observation_days_in x, (refl, lockouts.gives x r))
+observing_gives None None None p q r = refl
+
+observing_only : (a b c : Option Data) (o : ObservationOffset) → ObservingSaid a b c o
+    → o ≡ observation_offset_by a b c
+observing_only (Some x) b c o (n, (e, h)) = e ∙ ap Shift (shifts.only x n h)
+observing_only None (Some x) c o (n, (e, h)) = e ∙ ap Lookback (lookbacks.only x n h)
+observing_only None None (Some x) o (n, (e, h)) = e ∙ ap Lockout (lockouts.only x n h)
+observing_only None None None o h = h
+
+parameters_reads : Reads 106 parameters parameters_in
+parameters_reads =
+    let method =
+    leaf_one 106 107 "calculationMethod" CalculationMethod calculation_method_at ByCompounding (λ s. refl)
+    (refl, refl, refl, refl) in
+    let applicable =
+    one_fills 106 114 "applicableBusinessDays" center_list applicable_in refl refl refl
+    (names_reads 114 115 refl refl refl) in
+    let shift = once (codes "observationShift") in
+    let lookback = once (codes "lookback") in
+    let lockout = once (codes "lockout") in
+    record {
+      gives = λ d clean. (
+        method.gives d clean,
+        (
+          observing_gives (shift d) (lookback d) (lockout d) (perhaps 106 108 "observationShift" refl refl d clean)
+              (perhaps 106 110 "lookback" refl refl d clean) (perhaps 106 112 "lockout" refl refl d clean),
+          applicable.gives d clean,
+        ),
+      );
+      only = λ d p h. λ i. record {
+        method = method.only d p.method h.0 i;
+        offset = observing_only (shift d) (lookback d) (lockout d) p.offset h.1.0 i;
+        centers = applicable.only d p.centers h.1.1 i;
+      };
+    }
+
+floating_reads : Reads 86 floating float_in
+floating_reads =
+    let index =
+    indexed_fills 86 87 88 89 90 (refl, refl, refl, refl) refl refl (refl, refl, refl, refl) (refl, refl, refl, refl) in
+    let rows : ScheduleRows Rates 91 92 93 94 95 =
+    record {
+      initial = (refl, refl, refl, refl);
+      child = refl;
+      named = refl;
+      day = (refl, refl, refl, refl);
+      value = (refl, refl, refl, refl);
+    } in
+    let spreads : ScheduleRows Rates 96 97 98 99 100 =
+    record {
+      initial = (refl, refl, refl, refl);
+      child = refl;
+      named = refl;
+      day = (refl, refl, refl, refl);
+      value = (refl, refl, refl, refl);
+    } in
+    let multiplier =
+    schedule_or_fills (pos 1_000_000_000) 86 91 92 93 94 95 "floatingRateMultiplierSchedule" refl refl rows in
+    let spread = schedule_or_fills (pos 0) 86 96 97 98 99 100 "spreadSchedule" refl refl spreads in
+    let initial = leaf_maybe 86 101 "initialRate" Rate rate_at (λ s. refl) (refl, refl, refl) in
+    let round =
+    or_fills 86 102 "finalRateRounding" rounded
+    (λ d. record { dir = Nearest; places = places_by (once (codes "calculationParameters") d) })
+    (λ d o. rounding_in (places_by (once (codes "calculationParameters") d)) o) refl refl (λ d. refl)
+    (λ d. rounded_reads (places_by (once (codes "calculationParameters") d))) in
+    let treated = leaf_or 86 105 "negativeInterestRateTreatment" Treatment treatment_at AsIs (λ s. refl) (refl, refl, refl) in
+    let daily = maybe_fills 86 106 "calculationParameters" parameters parameters_in refl refl parameters_reads in
+    record {
+      gives = λ d clean. (
+        index.gives d clean,
+        (
+          multiplier.gives d clean,
+          (
+            spread.gives d clean,
+            (initial.gives d clean, (round.gives d clean, (treated.gives d clean, daily.gives d clean))),
+          ),
+        ),
+      );
+      only = λ d f h. λ i. record {
+        index = (index.only d (f.index, f.tenor) h.0 i).0;
+        tenor = (index.only d (f.index, f.tenor) h.0 i).1;
+        multiplier = multiplier.only d f.multiplier h.1.0 i;
+        spread = spread.only d f.spread h.1.1.0 i;
+        initial_rate = initial.only d f.initial_rate h.1.1.1.0 i;
+        rounding = round.only d f.rounding h.1.1.1.1.0 i;
+        treatment = treated.only d f.treatment h.1.1.1.1.1.0 i;
+        parameters = daily.only d f.parameters h.1.1.1.1.1.1 i;
+      };
+    }
+
+-- ---- legs and stubs
+
+fixed_rows : ScheduleRows Rates 81 82 83 84 85
+fixed_rows =
+    record {
+      initial = (refl, refl, refl, refl);
+      child = refl;
+      named = refl;
+      day = (refl, refl, refl, refl);
+      value = (refl, refl, refl, refl);
+    }
+
+fixed_reads : Reads 81 (holds object (schedule rate)) (λ d. schedule_in Rates (Some d))
+fixed_reads = schedule_reads 81 82 83 84 85 fixed_rows
+
+-- of two members of which an object has exactly one, the second where the first is absent
+second_of : (a b : Option Data) → ((x : Data) × (a ≡ Some x)) ⊎ ((x : Data) × (b ≡ Some x)) → a ≡ None
+    → (x : Data) × (b ≡ Some x)
+second_of a b (inl (x, e)) none = cc
+second_of a b (inr p) none = p
+
+-- and the first where the second is
+first_of_two : (a b : Option Data) → ((x : Data) × (a ≡ Some x)) ⊎ ((x : Data) × (b ≡ Some x)) → b ≡ None
+    → (x : Data) × (a ≡ Some x)
+first_of_two a b (inl p) none = p
+first_of_two a b (inr (x, e)) none = cc
+
+-- what a leg's two members say
+abbrev LegSaid : Option Data → Option Data → Leg → Type 0
+LegSaid float fixed =
+    Says float floating.says Floating (Says fixed (holds object (schedule rate)).says Fixed (λ _. ⊥))
+
+leg_gives : (float fixed : Option Data) → AtMost 86 float → AtMost 81 fixed
+    → (float ≡ None → (x : Data) × (fixed ≡ Some x)) → LegSaid float fixed (leg_by float fixed)
+leg_gives (Some x) fixed p q other = (float_in x, (refl, floating_reads.gives x p))
+leg_gives None (Some y) p q other = (schedule_in Rates (Some y), (refl, fixed_reads.gives y q))
+leg_gives None None p q other = let (x, e) = other refl in cc
+
+leg_only : (float fixed : Option Data) (l : Leg) → LegSaid float fixed l → l ≡ leg_by float fixed
+leg_only (Some x) fixed l (f, (e, h)) = e ∙ ap Floating (floating_reads.only x f h)
+leg_only None (Some y) l (v, (e, h)) = e ∙ ap Fixed (fixed_reads.only y v h)
+leg_only None None l h = absurd h
+
+-- the rows of a stub with an index, below row r
+record StubRows (r f k t m u c : ℕ) : Type 0 where
+  index : LeafRow f k "floatingRateIndex" IndexName
+  child : is_child ROWS f t ≡ true
+  named : name_at row_names t ≡ codes "indexTenor"
+  count : LeafRow t m "periodMultiplier" Multiplier
+  unit : LeafRow t u "period" TenorUnit
+  below : is_child ROWS r f ≡ true
+  float_named : name_at row_names f ≡ codes "floatingRate"
+  rate_below : is_child ROWS r c ≡ true
+  rate_named : name_at row_names c ≡ codes "stubRate"
+  leaf : leaf_at (slice_get ROWS c) ≡ Some Rate
+  either : (d : Data) → At r d
+      → ((x : Data) × (once (codes "floatingRate") d ≡ Some x)) ⊎ ((x : Data) × (once (codes "stubRate") d ≡ Some x))
+
+-- what a stub's two members say
+abbrev StubSaid : Option Data → Option Data → StubRate → Type 0
+StubSaid float stated =
+    Says float (holds object indexed).says (λ (i : List ℕ × Option Frequency). Index i.0 i.1)
+    (Says stated rate.says FixedStub (λ _. ⊥))
+
+-- the index and the tenor of a floating rate
+abbrev index_in : Data → List ℕ × Option Frequency
+index_in d = (word_in (once (codes "floatingRateIndex") d), option_map tenor_in (once (codes "indexTenor") d))
+
+stub_gives : (f c : ℕ) → Reads f (holds object indexed) index_in → Reads c rate (λ d. number_in Rates (Some d))
+    → (float stated : Option Data) → AtMost f float → AtMost c stated
+    → (float ≡ None → (x : Data) × (stated ≡ Some x)) → StubSaid float stated (stub_by float stated)
+stub_gives f c indices rates (Some x) stated p q other = (index_in x, (refl, indices.gives x p))
+stub_gives f c indices rates None (Some y) p q other = (number_in Rates (Some y), (refl, rates.gives y q))
+stub_gives f c indices rates None None p q other = let (x, e) = other refl in cc
+
+stub_only : (f c : ℕ) → Reads f (holds object indexed) index_in → Reads c rate (λ d. number_in Rates (Some d))
+    → (float stated : Option Data) (s : StubRate) → StubSaid float stated s → s ≡ stub_by float stated
+stub_only f c indices rates (Some x) stated s (v, (e, h)) =
+    e ∙ ap (λ (i : List ℕ × Option Frequency). Index i.0 i.1) (indices.only x v h)
+stub_only f c indices rates None (Some y) s (v, (e, h)) = e ∙ ap FixedStub (rates.only y v h)
+stub_only f c indices rates None None s h = absurd h
+
+stub_reads : (r f k t m u c : ℕ) → StubRows r f k t m u c → Reads r stub stub_in
+stub_reads r f k t m u c at =
+    let indices : Reads f (holds object indexed) index_in =
+    whole f object indexed index_in (indexed_fills f k t m u at.index at.child at.named at.count at.unit) in
+    let rates : Reads c rate (λ d. number_in Rates (Some d)) =
+    leaf_reads c Rate rate_at (pos 0) (λ s. refl) at.leaf in
+    let float = once (codes "floatingRate") in
+    let stated = once (codes "stubRate") in
+    record {
+      gives = λ d clean.
+          stub_gives f c indices rates (float d) (stated d) (perhaps r f "floatingRate" at.below at.float_named d clean)
+          (perhaps r c "stubRate" at.rate_below at.rate_named d clean)
+          (second_of (float d) (stated d) (at.either d clean));
+      only = λ d s h. stub_only f c indices rates (float d) (stated d) s h;
+    }
+
+stubs_reads : (dates : Option Data) → Reads 118 (stubs dates) (stubs_in dates)
+stubs_reads dates =
+    let ref = reference_fills 118 119 "calculationPeriodDatesReference" dates refl refl in
+    let initial_rows : StubRows 120 121 122 123 124 125 126 =
+    record {
+      index = (refl, refl, refl, refl);
+      child = refl;
+      named = refl;
+      count = (refl, refl, refl, refl);
+      unit = (refl, refl, refl, refl);
+      below = refl;
+      float_named = refl;
+      rate_below = refl;
+      rate_named = refl;
+      leaf = refl;
+      either = λ d clean. either_there ROWS row_names 120 121 126 d refl clean;
+    } in
+    let last_rows : StubRows 127 128 129 130 131 132 133 =
+    record {
+      index = (refl, refl, refl, refl);
+      child = refl;
+      named = refl;
+      count = (refl, refl, refl, refl);
+      unit = (refl, refl, refl, refl);
+      below = refl;
+      float_named = refl;
+      rate_below = refl;
+      rate_named = refl;
+      leaf = refl;
+      either = λ d clean. either_there ROWS row_names 127 128 133 d refl clean;
+    } in
+    let initial =
+    maybe_fills 118 120 "initialStub" stub stub_in refl refl (stub_reads 120 121 122 123 124 125 126 initial_rows) in
+    let last = maybe_fills 118 127 "finalStub" stub stub_in refl refl (stub_reads 127 128 129 130 131 132 133 last_rows) in
+    record {
+      gives = λ d clean. (ref.gives d clean, (initial.gives d clean, last.gives d clean));
+      only = λ d s h. λ i. record {
+        calc_ref = ref.only d s.calc_ref h.0 i;
+        initial = initial.only d s.initial h.1.0 i;
+        last = last.only d s.last h.1.1 i;
+      };
+    }
+
+exchange_one : (c : ℕ) (name : String) → LeafRow 134 c name Truth
+    → Fills 134 (one name (text Truth truth_at)) (λ d. truth_in (once (codes name) d))
+exchange_one c name row = leaf_one 134 c name Truth truth_at false (λ s. refl) row
+
+exchanges_reads : Reads 134 exchanges (λ d. exchanges_in (Some d))
+exchanges_reads =
+    let initial = exchange_one 135 "initialExchange" (refl, refl, refl, refl) in
+    let last = exchange_one 136 "finalExchange" (refl, refl, refl, refl) in
+    let between = exchange_one 137 "intermediateExchange" (refl, refl, refl, refl) in
+    record {
+      gives = λ d clean. (initial.gives d clean, (last.gives d clean, between.gives d clean));
+      only = λ d e h. λ i. record {
+        initial = initial.only d e.initial h.0 i;
+        intermediate = between.only d e.intermediate h.1.1 i;
+        last = last.only d e.last h.1.0 i;
+      };
+    }
+
+-- ---- the parts of a stream
+
+-- what is read of `calculationPeriodDates`
+record DatesRead (lists : List (Option Data)) (dates times : Option Data) (s : Stream) : Type 0 where
+  effective : s.effective ≡ dated_in lists (member (codes "effectiveDate") dates)
+  first_start : s.first_start ≡ maybe_dated_in lists (member (codes "firstPeriodStartDate") dates)
+  termination : s.termination ≡ dated_in lists (member (codes "terminationDate") dates)
+  period_adj : s.period_adj ≡ adjustments_in lists (member (codes "calculationPeriodDatesAdjustments") dates)
+  first_regular : s.first_regular ≡ said day_at (member (codes "firstRegularPeriodStartDate") dates)
+  last_regular : s.last_regular ≡ said day_at (member (codes "lastRegularPeriodEndDate") dates)
+  stub : s.stub ≡ said stub_kind_at (member (codes "stubPeriodType") dates)
+  freq : s.freq ≡ frequency_in times
+  roll : s.roll ≡ unwrap_or (said roll_at (member (codes "rollConvention") times)) NoRoll
+
+-- what is read of `calculation`
+record CalculationRead (calc : Option Data) (s : Stream) : Type 0 where
+  notional : s.notional
+      ≡ schedule_in Notionals (member (codes "notionalStepSchedule") (member (codes "notionalSchedule") calc))
+  currency : s.currency
+      ≡ unwrap_or (said currency_at (member (codes "currency")
+      (member (codes "notionalStepSchedule") (member (codes "notionalSchedule") calc)))) no_currency
+  leg : s.leg ≡ leg_by (member (codes "floatingRateCalculation") calc) (member (codes "fixedRateSchedule") calc)
+  day_count : s.day_count ≡ unwrap_or (said day_count_at (member (codes "dayCountFraction") calc)) OneOne
+  compounding : s.compounding ≡ unwrap_or (said compounding_at (member (codes "compoundingMethod") calc)) Simple
+
+effective_fills : (lists : List (Option Data)) → GoodLists lists
+    → Fills 1 (one "effectiveDate" (adjustable lists)) (λ d. dated_in lists (once (codes "effectiveDate") d))
+effective_fills lists g =
+    one_fills 1 2 "effectiveDate" (adjustable lists) (dated_in lists) refl refl refl
+    (dated_reads lists g 2 3 4 5 7 8
+    (record { day = (refl, refl, refl, refl); child = refl; required = refl; named = refl; rows = effective }))
+
+termination_fills : (lists : List (Option Data)) → GoodLists lists
+    → Fills 1 (one "terminationDate" (adjustable lists)) (λ d. dated_in lists (once (codes "terminationDate") d))
+termination_fills lists g =
+    one_fills 1 9 "terminationDate" (adjustable lists) (dated_in lists) refl refl refl
+    (dated_reads lists g 9 10 11 12 14 15
+    (record { day = (refl, refl, refl, refl); child = refl; required = refl; named = refl; rows = termination }))
+
+period_fills : (lists : List (Option Data)) → GoodLists lists
+    → Fills 1 (one "calculationPeriodDatesAdjustments" (adjustments lists))
+    (λ d. adjustments_in lists (once (codes "calculationPeriodDatesAdjustments") d))
+period_fills lists g =
+    one_fills 1 16 "calculationPeriodDatesAdjustments" (adjustments lists) (adjustments_in lists) refl refl refl
+    (adjustments_reads lists g 16 17 19 20 periods)
+
+start_fills : (lists : List (Option Data)) → GoodLists lists
+    → Fills 1 (maybe "firstPeriodStartDate" (adjustable lists))
+    (λ d. maybe_dated_in lists (once (codes "firstPeriodStartDate") d))
+start_fills lists g =
+    maybe_fills 1 21 "firstPeriodStartDate" (adjustable lists) (λ d. dated_in lists (Some d)) refl refl
+    (dated_reads lists g 21 22 23 24 26 27
+    (record { day = (refl, refl, refl, refl); child = refl; required = refl; named = refl; rows = firsts }))
+
+first_fills : Fills 1 (maybe "firstRegularPeriodStartDate" date)
+    (λ d. said day_at (once (codes "firstRegularPeriodStartDate") d))
+first_fills = leaf_maybe 1 28 "firstRegularPeriodStartDate" Date day_at (λ s. refl) (refl, refl, refl)
+
+last_fills : Fills 1 (maybe "lastRegularPeriodEndDate" date)
+    (λ d. said day_at (once (codes "lastRegularPeriodEndDate") d))
+last_fills = leaf_maybe 1 29 "lastRegularPeriodEndDate" Date day_at (λ s. refl) (refl, refl, refl)
+
+stub_fills : Fills 1 (maybe "stubPeriodType" (text StubType stub_kind_at))
+    (λ d. said stub_kind_at (once (codes "stubPeriodType") d))
+stub_fills = leaf_maybe 1 30 "stubPeriodType" StubType stub_kind_at (λ s. refl) (refl, refl, refl)
+
+times_fills : Fills 31 frequency (λ d. frequency_in (Some d))
+times_fills = frequency_fills 31 32 33 (refl, refl, refl, refl) (refl, refl, refl, refl)
+
+roll_fills : Fills 31 (one "rollConvention" (text Roll roll_at))
+    (λ d. unwrap_or (said roll_at (once (codes "rollConvention") d)) NoRoll)
+roll_fills = leaf_one 31 34 "rollConvention" Roll roll_at NoRoll (λ s. refl) (refl, refl, refl, refl)
+
+-- `calculationPeriodDates` says what is read of it
+dates_give : (lists : List (Option Data)) → GoodLists lists → (x : Data) → At 1 x → (s : Stream)
+    → DatesRead lists (Some x) (once (codes "calculationPeriodFrequency") x) s → (period_dates lists).says x s
+dates_give lists g x clean s r =
+    let (y, (e, inner)) = there 1 31 "calculationPeriodFrequency" refl refl refl x clean in
+    let at : DatesRead lists (Some x) (Some y) s = subst (λ o. DatesRead lists (Some x) o s) e r in
+    let freq = subst (frequency.says y) (sym at.freq) (times_fills.gives y inner) in
+    let roll = subst ((one "rollConvention" (text Roll roll_at)).says y) (sym at.roll) (roll_fills.gives y inner) in (
+      subst ((one "effectiveDate" (adjustable lists)).says x) (sym r.effective) ((effective_fills lists g).gives x clean),
+      (
+        subst ((one "terminationDate" (adjustable lists)).says x) (sym r.termination)
+            ((termination_fills lists g).gives x clean),
+        (
+          subst ((one "calculationPeriodDatesAdjustments" (adjustments lists)).says x) (sym r.period_adj)
+              ((period_fills lists g).gives x clean),
+          (
+            subst ((maybe "firstPeriodStartDate" (adjustable lists)).says x) (sym r.first_start)
+                ((start_fills lists g).gives x clean),
+            (
+              subst ((maybe "firstRegularPeriodStartDate" date).says x) (sym r.first_regular) (first_fills.gives x clean),
+              (
+                subst ((maybe "lastRegularPeriodEndDate" date).says x) (sym r.last_regular) (last_fills.gives x clean),
+                (
+                  subst ((maybe "stubPeriodType" (text StubType stub_kind_at)).says x) (sym r.stub)
+                      (stub_fills.gives x clean),
+                  rw e (s, (refl, (freq, roll))),
+                ),
+              ),
+            ),
+          ),
+        ),
+      ),
+    )
+
+-- what `calculationPeriodFrequency` says
+abbrev FrequencySaid : Data → Stream → Type 0
+FrequencySaid y s = frequency.says y s.freq × (one "rollConvention" (text Roll roll_at)).says y s.roll
+
+-- and nothing else
+dates_only : (lists : List (Option Data)) → GoodLists lists → (x : Data) (s : Stream) → (period_dates lists).says x s
+    → DatesRead lists (Some x) (once (codes "calculationPeriodFrequency") x) s
+dates_only lists g x s (effective, (termination, (period, (start, (first, (last, (stub, times))))))) =
+    let (y, (e, (freq, roll))) = one_is (once (codes "calculationPeriodFrequency") x) FrequencySaid s times in
+    record {
+      effective = (effective_fills lists g).only x s.effective effective;
+      first_start = (start_fills lists g).only x s.first_start start;
+      termination = (termination_fills lists g).only x s.termination termination;
+      period_adj = (period_fills lists g).only x s.period_adj period;
+      first_regular = first_fills.only x s.first_regular first;
+      last_regular = last_fills.only x s.last_regular last;
+      stub = stub_fills.only x s.stub stub;
+      freq = rw e (times_fills.only y s.freq freq);
+      roll = rw e (roll_fills.only y s.roll roll);
+    }
+
+notional_fills : Fills 75 (schedule notional) (λ d. schedule_in Notionals (Some d))
+notional_fills =
+    schedule_fills Notionals 75 76 77 78 79
+    (record {
+      initial = (refl, refl, refl, refl);
+      child = refl;
+      named = refl;
+      day = (refl, refl, refl, refl);
+      value = (refl, refl, refl, refl);
+    })
+
+currency_fills : Fills 75 (one "currency" (text CurrencyName currency_at))
+    (λ d. unwrap_or (said currency_at (once (codes "currency") d)) no_currency)
+currency_fills = leaf_one 75 80 "currency" CurrencyName currency_at no_currency (λ s. refl) (refl, refl, refl, refl)
+
+count_fills : Fills 73 (one "dayCountFraction" (text DayCount day_count_at))
+    (λ d. unwrap_or (said day_count_at (once (codes "dayCountFraction") d)) OneOne)
+count_fills = leaf_one 73 116 "dayCountFraction" DayCount day_count_at OneOne (λ s. refl) (refl, refl, refl, refl)
+
+method_fills : Fills 73 (or_by "compoundingMethod" (text Compounding compounding_at) (λ _. Simple))
+    (λ d. unwrap_or (said compounding_at (once (codes "compoundingMethod") d)) Simple)
+method_fills = leaf_or 73 117 "compoundingMethod" Compounding compounding_at Simple (λ s. refl) (refl, refl, refl)
+
+-- `calculation` says what is read of it
+calculation_gives : (x : Data) → At 73 x → (s : Stream) → CalculationRead (Some x) s → calculation.says x s
+calculation_gives x clean s r =
+    let (y, (e, inner)) = there 73 74 "notionalSchedule" refl refl refl x clean in
+    let (z, (f, innermost)) = there 74 75 "notionalStepSchedule" refl refl refl y inner in
+    let path = ap (member (codes "notionalStepSchedule")) e ∙ f in
+    let notionals : s.notional ≡ schedule_in Notionals (Some z) = r.notional ∙ ap (schedule_in Notionals) path in
+    let currency : s.currency ≡ unwrap_or (said currency_at (once (codes "currency") z)) no_currency =
+    r.currency ∙ ap (λ o. unwrap_or (said currency_at (member (codes "currency") o)) no_currency) path in
+    let values = subst ((schedule notional).says z) (sym notionals) (notional_fills.gives z innermost) in
+    let named =
+    subst ((one "currency" (text CurrencyName currency_at)).says z) (sym currency) (currency_fills.gives z innermost) in
+    let legs : leg.says x (leg_by (once (codes "floatingRateCalculation") x) (once (codes "fixedRateSchedule") x)) =
+    leg_gives (once (codes "floatingRateCalculation") x) (once (codes "fixedRateSchedule") x)
+    (perhaps 73 86 "floatingRateCalculation" refl refl x clean) (perhaps 73 81 "fixedRateSchedule" refl refl x clean)
+    (first_of_two (once (codes "fixedRateSchedule") x) (once (codes "floatingRateCalculation") x)
+    (either_there ROWS row_names 73 81 86 x refl clean)) in (
+      rw e (s, (refl, rw f (s, (refl, (values, named))))),
+      (
+        subst (leg.says x) (sym r.leg) legs,
+        (
+          subst ((one "dayCountFraction" (text DayCount day_count_at)).says x) (sym r.day_count)
+              (count_fills.gives x clean),
+          subst ((or_by "compoundingMethod" (text Compounding compounding_at) (λ _. Simple)).says x) (sym r.compounding)
+              (method_fills.gives x clean),
+        ),
+      ),
+    )
+
+-- what `notionalStepSchedule` says
+abbrev NotionalSaid : Data → Stream → Type 0
+NotionalSaid z s = (schedule notional).says z s.notional × (one "currency" (text CurrencyName currency_at)).says z s.currency
+
+-- what `notionalSchedule` says
+abbrev StepsSaid : Data → Stream → Type 0
+StepsSaid y = Says (once (codes "notionalStepSchedule") y) NotionalSaid (λ a. a) (λ _. ⊥)
+
+-- and nothing else
+calculation_only : (x : Data) (s : Stream) → calculation.says x s → CalculationRead (Some x) s
+calculation_only x s (notionals, (legs, (count, method))) =
+    let (y, (e, h)) = one_is (once (codes "notionalSchedule") x) StepsSaid s notionals in
+    let (z, (f, (values, currency))) = one_is (once (codes "notionalStepSchedule") y) NotionalSaid s h in
+    let path = ap (member (codes "notionalStepSchedule")) e ∙ f in
+    record {
+      notional = notional_fills.only z s.notional values ∙ ap (schedule_in Notionals) (sym path);
+      currency = currency_fills.only z s.currency currency
+          ∙ ap (λ o. unwrap_or (said currency_at (member (codes "currency") o)) no_currency) (sym path);
+      leg = leg_only (once (codes "floatingRateCalculation") x) (once (codes "fixedRateSchedule") x) s.leg legs;
+      day_count = count_fills.only x s.day_count count;
+      compounding = method_fills.only x s.compounding method;
+    }
+
+-- ---- streams
+
+pay_fills : (lists : List (Option Data)) → GoodLists lists → (dates : Option Data)
+    → Fills 0 (one "paymentDates" (payment_dates lists dates)) (λ d. pay_in lists dates (once (codes "paymentDates") d))
+pay_fills lists g dates =
+    one_fills 0 35 "paymentDates" (payment_dates lists dates) (pay_in lists dates) refl refl refl (pay_reads lists g dates)
+
+resets_fills : (lists : List (Option Data)) → GoodLists lists → (dates : Option Data)
+    → Fills 0 (maybe "resetDates" (reset_dates lists dates))
+    (λ d. option_map (reset_in lists dates) (once (codes "resetDates") d))
+resets_fills lists g dates =
+    maybe_fills 0 52 "resetDates" (reset_dates lists dates) (reset_in lists dates) refl refl (reset_reads lists g dates)
+
+stubs_fills : (dates : Option Data) → Fills 0 (maybe "stubCalculationPeriodAmount" (stubs dates))
+    (λ d. option_map (stubs_in dates) (once (codes "stubCalculationPeriodAmount") d))
+stubs_fills dates =
+    maybe_fills 0 118 "stubCalculationPeriodAmount" (stubs dates) (stubs_in dates) refl refl (stubs_reads dates)
+
+-- no principal is exchanged
+abbrev no_exchange : ExchangeFlags
+no_exchange = record { initial = false; intermediate = false; last = false }
+
+exchanges_fills : Fills 0 (or_by "principalExchanges" exchanges (λ _. no_exchange))
+    (λ d. exchanges_in (once (codes "principalExchanges") d))
+exchanges_fills =
+    or_fills 0 134 "principalExchanges" exchanges (λ _. no_exchange) (λ _ o. exchanges_in o) refl refl (λ d. refl)
+    (λ d. exchanges_reads)
+
+-- what `calculationPeriodAmount` says
+abbrev AmountSaid : Data → Stream → Type 0
+AmountSaid y = Says (once (codes "calculation") y) calculation.says (λ a. a) (λ _. ⊥)
+
+-- a clean stream says what is read of it
+pub stream_gives : (lists : List (Option Data)) → GoodLists lists → (d : Data) → At 0 d
+    → StreamSays lists d (stream_in lists d)
+unfolding StreamSays stream_in
+stream_gives lists g d clean =
+    let dates = once (codes "calculationPeriodDates") d in
+    let calc = member (codes "calculation") (once (codes "calculationPeriodAmount") d) in
+    let s = stream_parts lists d dates (member (codes "calculationPeriodFrequency") dates) calc in
+    let (x, (e, inner)) = there 0 1 "calculationPeriodDates" refl refl refl d clean in
+    let (y, (f, middle)) = there 0 72 "calculationPeriodAmount" refl refl refl d clean in
+    let (z, (k, innermost)) = there 72 73 "calculation" refl refl refl y middle in
+    let dated : DatesRead lists dates (member (codes "calculationPeriodFrequency") dates) s =
+    record {
+      effective = refl;
+      first_start = refl;
+      termination = refl;
+      period_adj = refl;
+      first_regular = refl;
+      last_regular = refl;
+      stub = refl;
+      freq = refl;
+      roll = refl;
+    } in
+    let calculated : CalculationRead calc s =
+    record { notional = refl; currency = refl; leg = refl; day_count = refl; compounding = refl } in
+    let parts = dates_give lists g x inner s
+    (subst (λ o. DatesRead lists o (member (codes "calculationPeriodFrequency") o) s) e dated) in
+    let amounts = calculation_gives z innermost s
+    (subst (λ o. CalculationRead o s) (ap (member (codes "calculation")) f ∙ k) calculated) in (
+      subst (λ o. Says o (period_dates lists).says (λ a. a) (λ _. ⊥) s) (sym e) (s, (refl, parts)),
+      (
+        (pay_fills lists g dates).gives d clean,
+        (
+          (resets_fills lists g dates).gives d clean,
+          (
+            subst (λ o. Says o AmountSaid (λ a. a) (λ _. ⊥) s) (sym f)
+                (s, (refl, subst (λ o. Says o calculation.says (λ a. a) (λ _. ⊥) s) (sym k) (s, (refl, amounts)))),
+            ((stubs_fills dates).gives d clean, exchanges_fills.gives d clean),
+          ),
+        ),
+      ),
+    )
+
+-- and nothing else
+pub stream_only : (lists : List (Option Data)) → GoodLists lists → (d : Data) (s : Stream) → StreamSays lists d s
+    → s ≡ stream_in lists d
+unfolding StreamSays stream_in
+stream_only lists g d s says =
+    let dates = once (codes "calculationPeriodDates") d in
+    let q : (stream_by lists dates).says d s = says in
+    let (x, (e, of_dates)) = one_is dates (period_dates lists).says s q.0 in
+    let (y, (f, h)) = one_is (once (codes "calculationPeriodAmount") d) AmountSaid s q.1.1.1.0 in
+    let (z, (k, of_calc)) = one_is (once (codes "calculation") y) calculation.says s h in
+    let r : DatesRead lists dates (member (codes "calculationPeriodFrequency") dates) s =
+    subst (λ o. DatesRead lists o (member (codes "calculationPeriodFrequency") o) s) (sym e)
+    (dates_only lists g x s of_dates) in
+    let c : CalculationRead (member (codes "calculation") (once (codes "calculationPeriodAmount") d)) s =
+    subst (λ o. CalculationRead o s) (sym (ap (member (codes "calculation")) f ∙ k)) (calculation_only z s of_calc) in
+    let pay = (pay_fills lists g dates).only d s.pay q.1.0 in
+    let reset = (resets_fills lists g dates).only d s.reset q.1.1.0 in
+    let stub_terms = (stubs_fills dates).only d s.stubs q.1.1.1.1.0 in
+    let exchange = exchanges_fills.only d s.exchanges q.1.1.1.1.1 in
+    λ i. record {
+      effective = r.effective i;
+      first_start = r.first_start i;
+      termination = r.termination i;
+      period_adj = r.period_adj i;
+      first_regular = r.first_regular i;
+      last_regular = r.last_regular i;
+      stub = r.stub i;
+      freq = r.freq i;
+      roll = r.roll i;
+      pay = pay i;
+      reset = reset i;
+      notional = c.notional i;
+      currency = c.currency i;
+      leg = c.leg i;
+      day_count = c.day_count i;
+      compounding = c.compounding i;
+      stubs = stub_terms i;
+      exchanges = exchange i;
+    }
