@@ -16,7 +16,8 @@ use Rattle.irs_answers.specs.declared.forms.Form.TheVariants.{Json, Xml}
 use Rattle.irs_answers.specs.declared.forms.ReadErr.{ReadErr}
 use Rattle.irs_answers.specs.declared.forms.ReadErr.TheVariants as reading
 use Rattle.irs_read.specs.Documents.{DocumentFault}
-use Rattle.irs_read.specs.Meaning.{streams_in, swap_in}
+use Rattle.irs_read.proofs.Outcomes.{one_meaning as meant_once}
+use Rattle.irs_read.specs.References.{streams_in}
 use Rattle.irs_read.specs.Reading.{Means}
 use Rattle.irs_terms.specs.Lawful.{IsLawful}
 use Rattle.irs_terms.specs.declared.stream_list.Swap.{Swap}
@@ -80,9 +81,7 @@ same_ok x y e = cc
 
 -- a value means one swap
 pub one_meaning : (v : Data) (s t : Swap) → Means v s → Means v t → t ≡ s
-one_meaning v s t h k =
-    let at : k.at ≡ h.at = same_ok k.at h.at (sym k.found ∙ h.found) in
-    k.says ∙ ap (λ (d : Data). swap_in d) at ∙ sym h.says
+one_meaning v s t h k = meant_once v t s k h
 
 -- ---- the sides of the streams
 

@@ -3,7 +3,9 @@ use Rattle.std.proofs.Common.{◌≡◌, List, [], ◌∷◌, length, Option, So
 use Rattle.std.proofs.Common.{subst, arith}
 use Rattle.std.proofs.lemmas.List.{length-map}
 use Rattle.irs_base.specs.Members.{Pairs}
-use Rattle.irs_read.specs.Meaning.{streams_in, swap_in}
+use Rattle.irs_read.proofs.LawfulSwaps.{means_read}
+use Rattle.irs_read.specs.References.{streams_in}
+use Rattle.irs_read.specs.Private.Meaning.{swap_in}
 use Rattle.irs_read.specs.Reading.{Means}
 use Rattle.irs_resets.specs.Rates.{RateTable}
 use Rattle.irs_calendar.specs.declared.sections.Section.{Section}
@@ -36,7 +38,7 @@ swap_long v swap sides h k =
     let many : sides.count ≡ length (streams_in h.at) =
     subst (λ (d : Data). sides.count ≡ length (streams_in d)) at k.are.count in
     let mapped : length (swap_in h.at).streams ≡ length (streams_in h.at) = length-map (streams_in h.at) _ in
-    many ∙ sym mapped ∙ sym (ap (λ (s : Swap). length s.streams) h.says)
+    many ∙ sym mapped ∙ sym (ap (λ (s : Swap). length s.streams) (means_read v swap h))
 
 sided : (v : Data) (swap : Swap) (cal : List Section) (table : RateTable) (parts : List Part) (o : Option Sides)
     → Means v swap → IsSchedule swap cal table parts → SidesIf true v o → IsSided o parts

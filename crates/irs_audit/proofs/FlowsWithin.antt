@@ -11,7 +11,7 @@ use Rattle.irs_base.specs.Texts.{day_text}
 use Rattle.irs_elements.proofs.Exact.{both_true}
 use Rattle.irs_elements.specs.Dates.{day_at, is_text_of, named_day, plain_day_at, without_z}
 use Rattle.irs_elements.specs.Find.{once, text_in, values_in}
-use Rattle.irs_read.specs.Meaning.{said}
+use Rattle.irs_read.specs.Readings.{said}
 use Rattle.irs_audit.specs.FlowBounds.{FlowsAreWithin, KeepsFlowBounds}
 use Rattle.irs_audit.specs.FlowFaults.{payments_in, periods_in, periods_of}
 use Rattle.irs_audit.specs.FlowMeaning.{exchange_in, flows_in, payment_in, period_in, stream_in, streams_in}

@@ -14,7 +14,7 @@ use Rattle.irs_elements.specs.Find.{member, once, values_in}
 use Rattle.irs_elements.specs.Fractions.{fraction_at}
 use Rattle.irs_elements.specs.Numbers.{amount_at, whole_at}
 use Rattle.irs_elements.specs.Words.{currency_at}
-use Rattle.irs_read.specs.Meaning.{said}
+use Rattle.irs_read.specs.Readings.{said}
 use Rattle.serde_json.specs.Data.{Data}
 use Rattle.std.specs.Prelude.{◌≡◌, ◌≤◌, ℕ, List, length, map, slice_get, ℤ, Option, Some, option_map, codes}
 

@@ -5,7 +5,7 @@ ghost use Rattle.irs_elements.specs.Find.{seen};
 ghost use Rattle.irs_elements.specs.Fractions.{fraction_at};
 ghost use Rattle.irs_elements.specs.Numbers.{amount_at, whole_at};
 ghost use Rattle.irs_elements.specs.Words.{currency_at};
-ghost use Rattle.irs_read.specs.Meaning.{said};
+ghost use Rattle.irs_read.specs.Readings.{said};
 ghost use Rattle.std.specs.Prelude.{◌≡◌, option_map};
 
 use crate::StatedFraction;

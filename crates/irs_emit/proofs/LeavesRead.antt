@@ -24,7 +24,7 @@ use Rattle.std.specs.List.{list_all}
 use Rattle.std.specs.Str.{IsAscii}
 use Rattle.irs_elements.proofs.Exact.{both_true}
 use Rattle.irs_elements.specs.Words.{is_capital}
-use Rattle.irs_read.specs.Meaning.{said}
+use Rattle.irs_read.specs.Readings.{said}
 
 said_text : {A : Type 0} (f : List ℕ → Option A) (s : List ℕ) → Visible s → said f (Some (string s)) ≡ f s
 said_text f s h = ap (option_and_then f) (visible_text s h)

@@ -25,7 +25,7 @@ use Rattle.irs_emit.specs.RowLaws.{ExchangeReadsBack, IsPeriodShort, IsShortAmou
 use Rattle.irs_emit.specs.RowLaws.{PeriodReadsBack, ResetReadsBack}
 use Rattle.irs_json.specs.Carrier.{present}
 use Rattle.irs_json.specs.Values.{list_of}
-use Rattle.irs_read.specs.Meaning.{said}
+use Rattle.irs_read.specs.Readings.{said}
 use Rattle.irs_schedule.specs.Parts.{Part}
 use Rattle.irs_schedule.specs.PeriodViews.{dated_period}
 use Rattle.irs_schedule.specs.declared.views.CalculationPeriod.{CalculationPeriod}

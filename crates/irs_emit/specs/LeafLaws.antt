@@ -9,7 +9,7 @@ use Rattle.irs_elements.specs.Numbers.{amount_at, whole_at}
 use Rattle.irs_elements.specs.Words.{currency_at, is_currency}
 use Rattle.irs_emit.specs.Leaves.{amount_leaf, count_leaf, currency_leaf, day_leaf, fraction_leaf, notional_leaf}
 use Rattle.irs_emit.specs.Leaves.{rate_leaf}
-use Rattle.irs_read.specs.Meaning.{said}
+use Rattle.irs_read.specs.Readings.{said}
 use Rattle.irs_terms.specs.declared.currency.Currency.{Currency}
 use Rattle.irs_terms.specs.declared.results.Frac.{Frac}
 use Rattle.std.specs.Prelude.{◌≡◌, ◌/◌, ◌^◌, ◌<◌, ◌≤◌, ℤ, pos, ◌≤ℤ◌, unsigned_abs, Some, option_map, true}

@@ -25,7 +25,7 @@ use Rattle.irs_elements.specs.declared.table.Kind.TheVariants.{Object}
 use Rattle.irs_json.specs.Carrier.{child_of}
 use Rattle.irs_json.specs.Names.{names_of}
 use Rattle.irs_read.specs.Documents.{DocumentFault, Way, the_swap, below}
-use Rattle.irs_read.specs.Meaning.{streams_in}
+use Rattle.irs_read.specs.References.{streams_in}
 use Rattle.irs_read.specs.Swaps.{no_stream, many_streams}
 use Rattle.irs_net.specs.Private.FoundParties.{href_in, pair_of, parties_in, party_in, side_by, side_in}
 use Rattle.irs_net.specs.Parties.{AreSides, BreaksK8, BreaksK8Of, IsBackward, IsForward, IsPaid, IsSide, RefersTo}

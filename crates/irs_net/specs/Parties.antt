@@ -10,7 +10,7 @@ use Rattle.irs_base.specs.declared.places.Rule.TheVariants.{K8}
 use Rattle.irs_elements.specs.Find.{values_in}
 use Rattle.irs_json.specs.Carrier.{child_of}
 use Rattle.irs_read.specs.Documents.{the_swap}
-use Rattle.irs_read.specs.Meaning.{streams_in}
+use Rattle.irs_read.specs.References.{streams_in}
 use Rattle.serde_json.specs.Data.{Data, string}
 use Rattle.irs_net.specs.declared.sides.Sides.{Sides}
 

@@ -10,7 +10,7 @@ use Rattle.irs_elements.specs.declared.table.Leaf.TheVariants.{CenterName}
 use Rattle.irs_read.proofs.Clean.{is_child, leaf_at}
 use Rattle.irs_read.proofs.Fills.{Agree, Reads, each_fills, leaf_said, whole}
 use Rattle.irs_read.proofs.TableLaws.{code_names as row_names}
-use Rattle.irs_read.specs.Meaning.{names_in, word_in}
+use Rattle.irs_read.specs.Private.Meaning.{names_in, word_in}
 use Rattle.irs_read.specs.Readings.{each, text}
 use Rattle.irs_read.specs.StreamElements.{center_list, center_name}
 use Rattle.irs_read.specs.declared.table.TheConstants.{ROWS}

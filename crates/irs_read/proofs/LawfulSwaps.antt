@@ -11,10 +11,9 @@ use Rattle.irs_read.specs.Reading.{Means}
 use Rattle.irs_read.specs.StreamElements.{StreamSays, SwapSays}
 use Rattle.irs_read.proofs.Streams.{GoodLists, all_good, stream_lawful}
 use Rattle.irs_read.specs.Documents.{DocumentFault, below, the_swap}
-use Rattle.irs_read.specs.Meaning.{stream_in, streams_in, swap_in}
-use Rattle.irs_read.proofs.StatedTables.{stated}
+use Rattle.irs_read.specs.Private.Meaning.{stream_in, swap_in}
+use Rattle.irs_read.specs.References.{streams_in}
 use Rattle.irs_read.specs.References.{lists_of}
-use Rattle.irs_read.specs.Stated.{EachStated, IsStated}
 use Rattle.irs_read.proofs.TableLaws.{code_names, stream_fault}
 use Rattle.irs_read.specs.StreamLines.{stream_names, stream_rows, swap_rows}
 use Rattle.irs_read.specs.Swaps.{StreamsFault, SwapFault, in_stream, many_streams, no_stream, outside}
@@ -77,21 +76,6 @@ swap_lawful d none =
 pub document_lawful : (d at : Data) (s : Swap) → ((f : Broken) → DocumentFault d f → ⊥) → the_swap d ≡ Ok at
     → s ≡ swap_in at → IsLawful s
 document_lawful d at s none found says = subst IsLawful (sym says) (swap_lawful at (λ f q. none f (below at f found q)))
-
--- nor is anything wanting in it
-swap_stated : (d : Data) → ((f : Broken) → SwapFault d f → ⊥) → (j : ℕ) (x : Data) → slice_get (streams_in d) j ≡ Some x
-    → IsStated stream_rows stream_names x
-swap_stated d none j x e =
-    let there = object_by d (is_some (names_of d)) refl none in
-    let ds = streams_in d in
-    let clear : (f : Broken) → StreamsFault ds f → ⊥ = λ f q. none f (inr (there, q)) in
-    let lo = some_by ds (length ds) refl clear in
-    let hi = few_by ds (le_or_lt (length ds) most_streams) clear in
-    stated stream_rows stream_names x (j + 1) 0 (λ f q. clear f (in_stream f lo hi (j, (x, (e, q)))))
-
--- such a document states each element that is required
-pub document_stated : (d : Data) → ((f : Broken) → DocumentFault d f → ⊥) → EachStated d
-document_stated d none at found j x e = swap_stated at (λ f q. none f (below at f found q)) j x e
 
 -- the streams of a swap that breaks no rule break none, and their lists of centres are good
 streams_clean : (d : Data) → ((f : Broken) → SwapFault d f → ⊥)

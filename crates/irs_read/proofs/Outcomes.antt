@@ -9,7 +9,7 @@ use Rattle.irs_base.proofs.FaultOrder.{broken_ties}
 use Rattle.irs_base.proofs.Firsts.{one_first}
 use Rattle.irs_read.proofs.LawfulSwaps.{document_means, means_read}
 use Rattle.irs_read.specs.Documents.{DocumentFault, Way, the_swap}
-use Rattle.irs_read.specs.Meaning.{swap_in}
+use Rattle.irs_read.specs.Private.Meaning.{swap_in}
 use Rattle.irs_read.specs.Outcomes.{swap_of_document}
 use Rattle.irs_read.specs.Reading.{Means}
 use Rattle.irs_terms.specs.declared.stream_list.Swap.{Swap}

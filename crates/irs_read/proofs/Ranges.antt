@@ -9,7 +9,8 @@ use Rattle.irs_elements.specs.Find.{text_in}
 use Rattle.irs_elements.specs.Numbers.{multiplier_at, notional_at, observation_days_at, offset_at, precision_at}
 use Rattle.irs_elements.specs.Numbers.{rate_at, whole_at, within}
 use Rattle.irs_elements.specs.Words.{currency_at, is_capital, is_currency}
-use Rattle.irs_read.specs.Meaning.{said, scale_at}
+use Rattle.irs_read.specs.Readings.{said}
+use Rattle.irs_read.specs.Private.Meaning.{scale_at}
 use Rattle.irs_read.specs.declared.leaf_values.Scale.{Scale}
 use Rattle.irs_read.specs.declared.leaf_values.Scale.TheVariants.{Notionals, Rates}
 use Rattle.irs_base.specs.Texts.{day_text}

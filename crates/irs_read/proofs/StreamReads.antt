@@ -27,12 +27,13 @@ use Rattle.irs_read.proofs.Fills.{leaf_reads, maybe_fills, one_fills, one_is, or
 use Rattle.irs_read.proofs.Streams.{AdjustmentRows, GoodList, GoodLists, effective_rows, first_rows, fixing_rows}
 use Rattle.irs_read.proofs.Streams.{good_below, one_good, payment_rows, period_rows, reset_rows, termination_rows}
 use Rattle.irs_read.proofs.TableLaws.{code_names as row_names}
-use Rattle.irs_read.specs.Meaning.{adjustments_in, applicable_in, centers_by, dated_in, day_in, exchanges_in, fix_in}
-use Rattle.irs_read.specs.Meaning.{float_in, frequency_in, leg_by, maybe_dated_in, named_centers, names_in, number_in}
-use Rattle.irs_read.specs.Meaning.{observation_days_in, observation_offset_by, offset_in, own_centers, parameters_in}
-use Rattle.irs_read.specs.Meaning.{pay_in, places_by, reset_in, rounding_in, schedule_in, schedule_or, step_in, stub_by}
-use Rattle.irs_read.specs.Meaning.{no_currency, scale_at, stream_in, stream_parts, stub_in, stubs_in, tenor_in, truth_in}
-use Rattle.irs_read.specs.Meaning.{word_in}
+use Rattle.irs_read.specs.Private.Meaning.{adjustments_in, applicable_in, centers_by, dated_in, day_in, exchanges_in, fix_in}
+use Rattle.irs_read.specs.Private.Meaning.{float_in, frequency_in, leg_by, maybe_dated_in, named_centers, names_in, number_in}
+use Rattle.irs_read.specs.Private.Meaning.{observation_days_in, observation_offset_by, offset_in, own_centers, parameters_in}
+use Rattle.irs_read.specs.Private.Meaning.{pay_in, reset_in, rounding_in, schedule_in, schedule_or, step_in, stub_by}
+use Rattle.irs_read.specs.StreamElements.{places_by}
+use Rattle.irs_read.specs.Private.Meaning.{no_currency, scale_at, stream_in, stream_parts, stub_in, stubs_in, tenor_in, truth_in}
+use Rattle.irs_read.specs.Private.Meaning.{word_in}
 use Rattle.irs_read.specs.Readings.{Says, holds, maybe, one, or_by, said, text}
 use Rattle.irs_read.specs.References.{first_of, has_id, href_of, reference_in, the_one}
 use Rattle.irs_read.specs.StreamElements.{StreamSays, adjustable, adjusting, adjustments, always, calculation, stream_by}

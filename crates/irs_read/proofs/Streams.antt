@@ -15,11 +15,13 @@ use Rattle.irs_read.proofs.Ranges.{InScale, capitals, currency_range, day_range,
 use Rattle.irs_read.proofs.Ranges.{observation_days_range, offset_range, or_in, precision_range, rate_range, roll_range, said_in, scale_range}
 use Rattle.irs_read.proofs.Ranges.{tenor_unit_range, zero_range}
 use Rattle.irs_read.proofs.Words.{center_lawful, index_word}
-use Rattle.irs_read.specs.Meaning.{adjustments_in, centers_by, dated_in, day_in, fix_in, float_in, frequency_in, leg_by}
-use Rattle.irs_read.specs.Meaning.{maybe_dated_in, named_centers, names_in, no_currency, number_in, offset_in}
-use Rattle.irs_read.specs.Meaning.{applicable_in, observation_days_in, observation_offset_by, parameters_in, places_by}
-use Rattle.irs_read.specs.Meaning.{own_centers, pay_in, reset_in, said, scale_at, schedule_in, schedule_or, step_in}
-use Rattle.irs_read.specs.Meaning.{stream_in, stream_parts, stub_by, stub_in, stubs_in, tenor_in, word_in}
+use Rattle.irs_read.specs.Private.Meaning.{adjustments_in, centers_by, dated_in, day_in, fix_in, float_in, frequency_in, leg_by}
+use Rattle.irs_read.specs.Private.Meaning.{maybe_dated_in, named_centers, names_in, no_currency, number_in, offset_in}
+use Rattle.irs_read.specs.Private.Meaning.{applicable_in, observation_days_in, observation_offset_by, parameters_in}
+use Rattle.irs_read.specs.StreamElements.{places_by}
+use Rattle.irs_read.specs.Private.Meaning.{own_centers, pay_in, reset_in, scale_at, schedule_in, schedule_or, step_in}
+use Rattle.irs_read.specs.Readings.{said}
+use Rattle.irs_read.specs.Private.Meaning.{stream_in, stream_parts, stub_by, stub_in, stubs_in, tenor_in, word_in}
 use Rattle.irs_read.specs.References.{first_of, has_id, href_of, lists_in, lists_of, the_one}
 use Rattle.irs_read.specs.StreamElements.{center_list}
 use Rattle.irs_read.proofs.TableLaws.{code_names as row_names}

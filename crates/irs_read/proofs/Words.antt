@@ -8,7 +8,7 @@ use Rattle.irs_json.specs.Leaves.{Leaf, word, whole, truth, bare_leaf, is_beside
 use Rattle.irs_json.specs.Names.{names_of}
 use Rattle.irs_json.specs.Trim.{is_space, trim, trim_back, trim_front}
 use Rattle.irs_read.proofs.Clean.{Said}
-use Rattle.irs_read.specs.Meaning.{word_in}
+use Rattle.irs_read.specs.Private.Meaning.{word_in}
 use Rattle.irs_terms.specs.Lawful.{IsLawfulIndex, IsLawfulName}
 use Rattle.serde_json.specs.Data.{Data, null, boolean, number, string, array, object, Num, unsigned, negative, float}
 use Rattle.std.proofs.Common.{◌≡◌, ◌≢◌, ℕ, zero, suc, ◌+◌, ◌-◌, ◌/◌, ◌%◌, ◌≤◌, nat_lt, nat_le, Bool, true, false, ◌&&◌}

@@ -1,6 +1,5 @@
-pub mod Readings
 pub mod References
-pub mod Meaning
+pub mod Readings
 pub mod StreamElements
 pub mod Tables
 pub mod StreamLines
@@ -9,3 +8,4 @@ pub mod Documents
 pub mod Reading
 pub mod Stated
 pub mod Outcomes
+pub mod Private

@@ -1,5 +1,5 @@
 -- References by `@href`, and the lists of centres that they may name.
-use Rattle.irs_elements.specs.Find.{member, once}
+use Rattle.irs_elements.specs.Find.{member, once, values_in}
 use Rattle.irs_elements.specs.Lines.{Line, last_name}
 use Rattle.irs_json.specs.Carrier.{child_of}
 use Rattle.irs_terms.specs.declared.codes.RefState.{RefState}
@@ -55,6 +55,10 @@ lists_in d =
     ∷ member (codes "businessCenters") (member (codes "fixingDates") resets)
     ∷ member (codes "businessCenters") (member (codes "resetDatesAdjustments") resets)
     ∷ []
+
+-- the streams of a swap
+abbrev pub streams_in : Data → List Data
+streams_in d = values_in (codes "swapStream") (Some d)
 
 -- the lists of centres of all streams
 abbrev pub lists_of : List Data → List (Option Data)

@@ -21,10 +21,9 @@ use Rattle.irs_elements.specs.declared.table.Leaf.TheVariants.{Direction as Dire
 use Rattle.irs_elements.specs.declared.table.Leaf.TheVariants.{ObservationDays, OffsetDays, OffsetUnit, PayRelative}
 use Rattle.irs_elements.specs.declared.table.Leaf.TheVariants.{PeriodUnit, Precision, Rate, ResetRelative, Roll, StubType}
 use Rattle.irs_elements.specs.declared.table.Leaf.TheVariants.{TenorUnit, Treatment as TreatmentKind, Truth}
-use Rattle.irs_read.specs.Meaning.{places_by, streams_in}
 use Rattle.irs_read.specs.Readings.{EachSays, Part, Says, Value, each, either, holds, lines_of, maybe, one, or, or_by, text}
 use Rattle.irs_read.specs.Readings.{unread, ◌also◌, ◌gives◌}
-use Rattle.irs_read.specs.References.{has_id, href_of, lists_of, the_one}
+use Rattle.irs_read.specs.References.{has_id, href_of, lists_of, streams_in, the_one}
 use Rattle.irs_terms.specs.declared.adjustments.AdjustableDate.{AdjustableDate}
 use Rattle.irs_terms.specs.declared.adjustments.Adjustments.{Adjustments}
 use Rattle.irs_terms.specs.declared.adjustments.Centers.{Centers}
@@ -240,6 +239,12 @@ abbrev pub rounded : Value Rounding
 rounded =
     holds object (one "roundingDirection" (text DirectionKind direction_at) gives (λ (r : Rounding). r.dir)
     also one "precision" (text Precision precision_at) gives (λ (r : Rounding). r.places))
+
+-- the decimals of a rate where they aren't said: 7 if daily rates give it by `calculationParameters` (2006 ISDA
+-- Definitions, 8.1(a)), else 9
+abbrev pub places_by : Option Data → ℕ
+places_by None = 9
+places_by (Some stated) = 7
 
 -- the days of an observation shift, a lookback or a lockout
 abbrev pub observed : Value ℕ

@@ -7,8 +7,9 @@ ghost use Rattle.irs_elements.specs.Dates.{day_at};
 ghost use Rattle.irs_elements.specs.Find.{seen};
 ghost use Rattle.irs_elements.specs.Numbers.{multiplier_at, observation_days_at, offset_at, precision_at, rate_at};
 ghost use Rattle.irs_elements.specs.Words.{currency_at};
-ghost use Rattle.irs_read.specs.Meaning.{day_in, number_in, relative_in, said, scale_at, treatment_in, truth_in};
-ghost use Rattle.irs_read.specs.Meaning.{word_in};
+ghost use Rattle.irs_read.specs.Private.Meaning.{day_in, number_in, relative_in, scale_at, treatment_in, truth_in};
+ghost use Rattle.irs_read.specs.Readings.{said};
+ghost use Rattle.irs_read.specs.Private.Meaning.{word_in};
 ghost use Rattle.std.specs.Prelude.{◌≡◌, IfOk};
 
 use irs_base::{Day, Direction, Memory, Text};

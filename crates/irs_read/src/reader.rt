@@ -6,7 +6,6 @@ ghost use Rattle.irs_base.specs.declared.places.Broken.{Broken as BrokenRule};
 ghost use Rattle.irs_read.specs.Documents.{DocumentFault};
 ghost use Rattle.irs_read.specs.Outcomes.{swap_of_document};
 ghost use Rattle.irs_read.specs.Reading.{Means};
-ghost use Rattle.irs_read.specs.Stated.{EachStated};
 ghost use Rattle.irs_terms.specs.Lawful.{IsLawful};
 ghost use Rattle.serde_json.specs.View.{view};
 ghost use Rattle.std.specs.Prelude.{IfOk};
@@ -23,13 +22,12 @@ use std::alloc::Global;
 pub type ReadErr = Stopped<Broken>;
 
 /// The swap that a document spells. Its terms are lawful. Required elements are present, and each leaf
-/// has a value of its kind, so no default replaces a required value. `Broken` reports the first broken
-/// rule of K2 to K7; no swap is returned where one is broken. `Memory` is returned only for a document
-/// that breaks none.
+/// has a value of its kind: `Means` has no value for a document of which this isn't so. `Broken` reports
+/// the first broken rule of K2 to K7; no swap is returned where one is broken. `Memory` is returned only
+/// for a document that breaks none.
 pub fn read_swap(alloc: Global, v: &Value) -> Result<Swap, ReadErr>
     ensures means { IfOk result (λ swap. Means (view v.now) swap) }
     ensures lawful { IfOk result (λ swap. IsLawful swap) }
-    ensures stated { IfOk result (λ _. EachStated (view v.now)) }
     ensures broken { IfBroken result (First is_before (DocumentFault (view v.now))) }
     // Running out of memory hides no broken rule.
     ensures memory { IfMemory result ((f : BrokenRule) → DocumentFault (view v.now) f → ⊥) }

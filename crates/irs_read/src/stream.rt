@@ -1,9 +1,10 @@
 //! The stream that a value says, where it breaks no rule.
 ghost use Rattle.irs_elements.specs.Find.{member as member_of, seen};
-ghost use Rattle.irs_read.specs.Meaning.{adjustments_in, dated_in, exchanges_in, fix_in, float_in, leg_by};
-ghost use Rattle.irs_read.specs.Meaning.{maybe_dated_in, number_in, pay_in, places_by, reset_in, rounding_in};
-ghost use Rattle.irs_read.specs.Meaning.{schedule_in};
-ghost use Rattle.irs_read.specs.Meaning.{stream_in, stream_parts, stub_by, stub_in, stubs_in, swap_in, tenor_in};
+ghost use Rattle.irs_read.specs.Private.Meaning.{adjustments_in, dated_in, exchanges_in, fix_in, float_in, leg_by};
+ghost use Rattle.irs_read.specs.Private.Meaning.{maybe_dated_in, number_in, pay_in, reset_in, rounding_in};
+ghost use Rattle.irs_read.specs.StreamElements.{places_by};
+ghost use Rattle.irs_read.specs.Private.Meaning.{schedule_in};
+ghost use Rattle.irs_read.specs.Private.Meaning.{stream_in, stream_parts, stub_by, stub_in, stubs_in, swap_in, tenor_in};
 ghost use Rattle.irs_read.specs.References.{lists_of};
 ghost use Rattle.serde_json.specs.View.{view};
 ghost use Rattle.irs_read.specs.declared.leaf_values.Scale.TheVariants.{Notionals};

@@ -1,5 +1,5 @@
 use Rattle.irs_read.proofs.blocks.names.Given as goal
-use Rattle.irs_read.specs.Meaning.{word_in}
+use Rattle.irs_read.specs.Private.Meaning.{word_in}
 use Rattle.serde_json.specs.View.{view}
 use Rattle.std.proofs.Common.{◌≡◌, Some, map, take}
 

@@ -1,5 +1,5 @@
 use Rattle.irs_read.proofs.blocks.steps.Given as goal
-use Rattle.irs_read.specs.Meaning.{step_in}
+use Rattle.irs_read.specs.Private.Meaning.{step_in}
 use Rattle.serde_json.specs.View.{view}
 use Rattle.std.proofs.Common.{◌≡◌, map, take}
 

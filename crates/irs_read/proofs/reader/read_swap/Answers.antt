@@ -1,4 +1,4 @@
-use Rattle.irs_read.proofs.LawfulSwaps.{document_lawful, document_means, document_stated}
+use Rattle.irs_read.proofs.LawfulSwaps.{document_lawful, document_means}
 use Rattle.irs_read.proofs.reader.read_swap.Goals as goal
 use Rattle.serde_json.specs.View.{view}
 
@@ -11,6 +11,3 @@ pub returns-in_ok-swap_of-in-Ok-clause-lawful : goal.returns-in_ok-swap_of-in-Ok
 returns-in_ok-swap_of-in-Ok-clause-lawful c =
     document_lawful (view c.args.v.now) (view c.in-Ok.found.now) _ c.in-Ok.ensures.clean c.in-Ok.ensures.found
     c.in_ok-swap_of-in-Ok.ensures
-
-pub returns-in_ok-swap_of-in-Ok-clause-stated : goal.returns-in_ok-swap_of-in-Ok-clause-stated
-returns-in_ok-swap_of-in-Ok-clause-stated c = document_stated (view c.args.v.now) c.in-Ok.ensures.clean

@@ -1,6 +1,6 @@
 use Rattle.irs_elements.specs.Find.{member, once, seen}
 use Rattle.irs_read.proofs.stream.stream.Goals as goal
-use Rattle.irs_read.specs.Meaning.{stream_in, stream_parts}
+use Rattle.irs_read.specs.Private.Meaning.{stream_in, stream_parts}
 use Rattle.irs_terms.specs.declared.stream.Stream.{Stream}
 use Rattle.serde_json.specs.Data.{Data}
 use Rattle.serde_json.specs.View.{view}

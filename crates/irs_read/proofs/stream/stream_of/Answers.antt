@@ -4,8 +4,9 @@ use Rattle.irs_elements.specs.Find.{member, seen}
 use Rattle.irs_elements.specs.Words.{currency_at}
 use Rattle.irs_read.proofs.Parts.{same_stream}
 use Rattle.irs_read.proofs.stream.stream_of.Goals as goal
-use Rattle.irs_read.specs.Meaning.{exchanges_in, no_currency, pay_in}
-use Rattle.irs_read.specs.Meaning.{reset_in, said, schedule_in, stubs_in}
+use Rattle.irs_read.specs.Private.Meaning.{exchanges_in, no_currency, pay_in}
+use Rattle.irs_read.specs.Private.Meaning.{reset_in, schedule_in, stubs_in}
+use Rattle.irs_read.specs.Readings.{said}
 use Rattle.irs_read.specs.declared.leaf_values.Scale.TheVariants.{Notionals}
 use Rattle.irs_terms.specs.declared.codes.CompCode.TheVariants.{Simple}
 use Rattle.irs_terms.specs.declared.codes.DayCountCode.TheVariants.{OneOne}

@@ -1,5 +1,5 @@
--- The swap that a document says: each field is the value of the leaf at its element, or the default
--- where the leaf is absent.
+-- What the private readers give, by functions. Each has a value also where an element that must occur is absent, which
+-- is never met: of a swap that breaks no rule this is the swap that it says (`StreamElements`).
 use Rattle.irs_base.specs.Days.{first_day}
 use Rattle.irs_base.specs.declared.rounding.Direction.TheVariants.{Nearest}
 use Rattle.irs_elements.specs.Codes.{calculation_method_at, compounding_at, convention_at, day_count_at, day_kind_at}
@@ -10,7 +10,9 @@ use Rattle.irs_elements.specs.Find.{member, once, text_in, values_in}
 use Rattle.irs_elements.specs.Numbers.{multiplier_at, notional_at, observation_days_at, offset_at, precision_at}
 use Rattle.irs_elements.specs.Numbers.{rate_at}
 use Rattle.irs_elements.specs.Words.{currency_at}
-use Rattle.irs_read.specs.References.{href_of, lists_of, reference_in, the_one}
+use Rattle.irs_read.specs.Readings.{said}
+use Rattle.irs_read.specs.References.{href_of, lists_of, reference_in, streams_in, the_one}
+use Rattle.irs_read.specs.StreamElements.{places_by}
 use Rattle.irs_read.specs.declared.leaf_values.Scale.{Scale}
 use Rattle.irs_read.specs.declared.leaf_values.Scale.TheVariants.{Notionals, Rates}
 use Rattle.irs_terms.specs.declared.adjustments.Adjustments.{Adjustments}
@@ -51,13 +53,9 @@ use Rattle.irs_terms.specs.declared.stream.Stream.{Stream}
 use Rattle.irs_terms.specs.declared.stream_list.Swap.{Swap}
 use Rattle.serde_json.specs.Data.{Data}
 use Rattle.std.specs.Prelude.{ℕ, List, [], ◌∷◌, map, ℤ, pos, false, Bool, Option, Some, None, option_map}
-use Rattle.std.specs.Prelude.{option_and_then, unwrap_or, codes}
+use Rattle.std.specs.Prelude.{unwrap_or, codes}
 
 -- ---- leaves
-
--- the value that the leaf's text has, if there is a leaf and it has one
-abbrev pub said : {A : Type 0} → (List ℕ → Option A) → Option Data → Option A
-said at o = option_and_then at (text_in o)
 
 -- the text of a leaf, empty where there is none
 abbrev pub word_in : Option Data → List ℕ
@@ -182,12 +180,6 @@ schedule_or v None = record { initial = v; steps = [] }
 schedule_or v (Some d) = schedule_in Rates (Some d)
 
 -- ---- parts of a stream
-
--- the default number of decimals of a rate: 7 if daily rates give it by `calculationParameters` (2006 ISDA
--- Definitions, 8.1(a)), else 9
-abbrev pub places_by : Option Data → ℕ
-places_by None = 9
-places_by (Some parameters) = 7
 
 -- the rounding of a rate; absent is to these decimals, to the nearest
 abbrev pub rounding_in : ℕ → Option Data → Rounding
@@ -327,10 +319,6 @@ stream_in lists d =
     stream_parts lists d (once (codes "calculationPeriodDates") d)
     (member (codes "calculationPeriodFrequency") (once (codes "calculationPeriodDates") d))
     (member (codes "calculation") (once (codes "calculationPeriodAmount") d))
-
--- the streams of a swap
-abbrev pub streams_in : Data → List Data
-streams_in d = values_in (codes "swapStream") (Some d)
 
 -- the swap
 abbrev pub swap_in : Data → Swap
