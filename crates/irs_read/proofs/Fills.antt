@@ -32,6 +32,22 @@ pub record Fills {A : Type 0} (r : ℕ) (p : Part A) (f : Data → A) : Type 0 w
   pub gives : (d : Data) → At r d → p.says d (f d)
   pub only : (d : Data) (a : A) → p.says d a → a ≡ f d
 
+infixr 30 ◌⊗◌
+-- what members say, and what more members say
+abbrev pub ◌⊗◌ : {r : ℕ} {P Q : Data → Type 0} → ((d : Data) → At r d → P d) → ((d : Data) → At r d → Q d)
+    → (d : Data) → At r d → P d × Q d
+p ⊗ q = λ d clean. (p d clean, q d clean)
+
+infixr 30 ◌&◌
+-- both, and more
+abbrev pub ◌&◌ : {A B : Type 0} → A → B → A × B
+a & b = (a, b)
+
+-- what is the same as what is read of a clean object is what it says
+pub same_says : {A : Type 0} {r : ℕ} {p : Part A} {f : Data → A} → Fills r p f → (d : Data) → At r d → (a : A)
+    → a ≡ f d → p.says d a
+same_says {p = p} h d clean a e = subst (p.says d) (sym e) (h.gives d clean)
+
 -- ---- leaves
 
 some_or : {A : Type 0} (o : Option A) (a : A) → is_some o ≡ true → o ≡ Some (unwrap_or o a)

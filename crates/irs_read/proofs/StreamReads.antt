@@ -23,6 +23,7 @@ use Rattle.irs_base.specs.Limits.{most_steps}
 use Rattle.irs_read.proofs.CenterLists.{guard_is, names_reads, word_reads}
 use Rattle.irs_read.proofs.Clean.{either_there, is_child, leaf_at, required_at}
 use Rattle.irs_read.proofs.Fills.{At, AtMost, Agree, Fills, FreeRow, LeafRow, Reads, each_fills, leaf_maybe, leaf_one, leaf_or}
+use Rattle.irs_read.proofs.Fills.{◌⊗◌, ◌&◌, same_says}
 use Rattle.irs_read.proofs.Fills.{leaf_reads, maybe_fills, one_fills, one_is, or_fills, perhaps, there, whole}
 use Rattle.irs_read.proofs.Streams.{AdjustmentRows, GoodList, GoodLists, effective_rows, first_rows, fixing_rows}
 use Rattle.irs_read.proofs.Streams.{good_below, one_good, payment_rows, period_rows, reset_rows, termination_rows}
@@ -80,7 +81,7 @@ frequency_fills r m u count_row unit_row =
     let a = leaf_one r m "periodMultiplier" Multiplier multiplier_at 1 (λ s. refl) count_row in
     let b = leaf_one r u "period" PeriodUnit unit_at D (λ s. refl) unit_row in
     record {
-      gives = λ d clean. (a.gives d clean, b.gives d clean);
+      gives = a.gives ⊗ b.gives;
       only = λ d f h. λ i. record { count = a.only d f.count h.0 i; unit = b.only d f.unit h.1 i };
     }
 
@@ -91,7 +92,7 @@ tenor_fills r m u count_row unit_row =
     let a = leaf_one r m "periodMultiplier" Multiplier multiplier_at 1 (λ s. refl) count_row in
     let b = leaf_one r u "period" TenorUnit tenor_unit_at D (λ s. refl) unit_row in
     record {
-      gives = λ d clean. (a.gives d clean, b.gives d clean);
+      gives = a.gives ⊗ b.gives;
       only = λ d f h. λ i. record { count = a.only d f.count h.0 i; unit = b.only d f.unit h.1 i };
     }
 
@@ -102,7 +103,7 @@ offset_fills r m t count_row kind_row =
     let a = leaf_one r m "periodMultiplier" OffsetDays offset_at (pos 0) (λ s. refl) count_row in
     let b = leaf_or r t "dayType" DayType day_kind_at Unsaid (λ s. refl) kind_row in
     record {
-      gives = λ d clean. (a.gives d clean, (tt, b.gives d clean));
+      gives = a.gives ⊗ (λ d clean. tt) ⊗ b.gives;
       only = λ d o h. λ i. record { days = a.only d o.days h.0 i; kind = b.only d o.kind h.1.1 i };
     }
 
@@ -147,20 +148,17 @@ centers_only lists None own c h = own_only own c h
 centers_only lists (Some r) own c (c', (e, h)) = e ∙ named_only (the_one (href_of r) lists) c' h
 
 -- r is the row of adjustments, v that of their convention, b that of their list, and c that of its names
-record AdjustingRows (r v b c : ℕ) : Type 0 where
-  convention : LeafRow r v "businessDayConvention" Convention
-  list : AdjustmentRows r b c
+abbrev AdjustingRows : ℕ → ℕ → ℕ → ℕ → Type 0
+AdjustingRows r v b c = LeafRow r v "businessDayConvention" Convention × AdjustmentRows r b c
 
 adjusting_fills : (lists : List (Option Data)) → GoodLists lists → (r v b c : ℕ) → AdjustingRows r v b c
     → Fills r (adjusting lists) (λ d. adjustments_in lists (Some d))
 adjusting_fills lists g r v b c at =
-    let code = leaf_one r v "businessDayConvention" Convention convention_at Unadjusted (λ s. refl) at.convention in
+    let code = leaf_one r v "businessDayConvention" Convention convention_at Unadjusted (λ s. refl) at.0 in
     record {
-      gives = λ d clean. (
-        code.gives d clean,
-        centers_give lists (once (codes "businessCentersReference") d) (once (codes "businessCenters") d) g
-            (good_below r b c at.list (Some d) clean),
-      );
+      gives = code.gives
+          ⊗ (λ d clean. centers_give lists (once (codes "businessCentersReference") d)
+          (once (codes "businessCenters") d) g (good_below r b c at.1 (Some d) clean));
       only = λ d a h. λ i. record {
         code = code.only d a.code h.0 i;
         centers = centers_only lists (once (codes "businessCentersReference") d) (once (codes "businessCenters") d)
@@ -175,45 +173,43 @@ adjustments_reads lists g r v b c at =
     record { gives = fills.gives; only = fills.only }
 
 -- r is the row of a date with adjustments, u that of the date
-record DatedRows (r u a v b c : ℕ) : Type 0 where
-  day : LeafRow r u "unadjustedDate" Date
-  child : is_child ROWS r a ≡ true
-  required : required_at (slice_get ROWS a) ≡ true
-  named : name_at row_names a ≡ codes "dateAdjustments"
-  rows : AdjustingRows a v b c
+abbrev DatedRows : ℕ → ℕ → ℕ → ℕ → ℕ → ℕ → Type 0
+DatedRows r u a v b c =
+    LeafRow r u "unadjustedDate" Date × (is_child ROWS r a ≡ true) × (required_at (slice_get ROWS a) ≡ true)
+    × (name_at row_names a ≡ codes "dateAdjustments") × AdjustingRows a v b c
 
 dated_reads : (lists : List (Option Data)) → GoodLists lists → (r u a v b c : ℕ) → DatedRows r u a v b c
     → Reads r (adjustable lists) (λ d. dated_in lists (Some d))
 dated_reads lists g r u a v b c at =
-    let day = leaf_one r u "unadjustedDate" Date day_at first_day (λ s. refl) at.day in
+    let day = leaf_one r u "unadjustedDate" Date day_at first_day (λ s. refl) at.0 in
     let adj =
-    one_fills r a "dateAdjustments" (adjustments lists) (adjustments_in lists) at.child at.required at.named
-    (adjustments_reads lists g a v b c at.rows) in
+    one_fills r a "dateAdjustments" (adjustments lists) (adjustments_in lists) at.1 at.2 at.3
+    (adjustments_reads lists g a v b c at.4) in
     record {
-      gives = λ d clean. (day.gives d clean, adj.gives d clean);
+      gives = day.gives ⊗ adj.gives;
       only = λ d x h. λ i. record { day = day.only d x.day h.0 i; adj = adj.only d x.adj h.1 i };
     }
 
 effective : AdjustingRows 4 5 7 8
-effective = record { convention = (refl, refl, refl, refl); list = effective_rows }
+effective = ((refl, refl, refl, refl), effective_rows)
 
 termination : AdjustingRows 11 12 14 15
-termination = record { convention = (refl, refl, refl, refl); list = termination_rows }
+termination = ((refl, refl, refl, refl), termination_rows)
 
 periods : AdjustingRows 16 17 19 20
-periods = record { convention = (refl, refl, refl, refl); list = period_rows }
+periods = ((refl, refl, refl, refl), period_rows)
 
 firsts : AdjustingRows 23 24 26 27
-firsts = record { convention = (refl, refl, refl, refl); list = first_rows }
+firsts = ((refl, refl, refl, refl), first_rows)
 
 payments : AdjustingRows 47 48 50 51
-payments = record { convention = (refl, refl, refl, refl); list = payment_rows }
+payments = ((refl, refl, refl, refl), payment_rows)
 
 fixing : AdjustingRows 55 59 61 62
-fixing = record { convention = (refl, refl, refl, refl); list = fixing_rows }
+fixing = ((refl, refl, refl, refl), fixing_rows)
 
 resets : AdjustingRows 67 68 70 71
-resets = record { convention = (refl, refl, refl, refl); list = reset_rows }
+resets = ((refl, refl, refl, refl), reset_rows)
 
 -- ---- references
 
@@ -262,16 +258,7 @@ pay_reads lists g dates =
     (offset_fills 43 44 46 (refl, refl, refl, refl) (refl, refl, refl))) in
     let adj = adjustments_or lists g 35 47 48 50 51 "paymentDatesAdjustments" refl refl payments in
     record {
-      gives = λ d clean. (
-        ref.gives d clean,
-        (
-          freq.gives d clean,
-          (
-            first.gives d clean,
-            (last.gives d clean, (relative.gives d clean, (days.gives d clean, adj.gives d clean))),
-          ),
-        ),
-      );
+      gives = ref.gives ⊗ freq.gives ⊗ first.gives ⊗ last.gives ⊗ relative.gives ⊗ days.gives ⊗ adj.gives;
       only = λ d p h. λ i. record {
         calc_ref = ref.only d p.calc_ref h.0 i;
         freq = freq.only d p.freq h.1.0 i;
@@ -291,7 +278,7 @@ fixing_reads lists g target =
     let adj = adjusting_fills lists g 55 59 61 62 fixing in
     let ref = reference_fills 55 63 "dateRelativeTo" target refl refl in
     record {
-      gives = λ d clean. (days.gives d clean, (adj.gives d clean, ref.gives d clean));
+      gives = days.gives ⊗ adj.gives ⊗ ref.gives;
       only = λ d f h. λ i. (
         record { offset = days.only d f.0.offset h.0 i; adj = adj.only d f.0.adj h.1.0 i },
         ref.only d f.1 h.1.1 i,
@@ -335,16 +322,10 @@ reset_reads lists g dates =
     frequency_one 52 64 65 66 "resetFrequency" refl refl refl (refl, refl, refl, refl) (refl, refl, refl, refl) in
     let adj = adjustments_or lists g 52 67 68 70 71 "resetDatesAdjustments" refl refl resets in
     record {
-      gives = λ d clean. (
-        ref.gives d clean,
-        (
-          relative.gives d clean,
-          (
-            fixings_give lists g (Some d) (once (codes "fixingDates") d) (perhaps 52 55 "fixingDates" refl refl d clean),
-            (freq.gives d clean, adj.gives d clean),
-          ),
-        ),
-      );
+      gives = ref.gives ⊗ relative.gives
+          ⊗ (λ d clean. fixings_give lists g (Some d) (once (codes "fixingDates") d)
+          (perhaps 52 55 "fixingDates" refl refl d clean))
+          ⊗ freq.gives ⊗ adj.gives;
       only = λ d r h.
           let fix = fixings_only lists g (Some d) (once (codes "fixingDates") d) (r.fixing, r.fixing_ref) h.1.1.0 in
           λ i. record {
@@ -369,12 +350,10 @@ scale_agrees Notionals s = refl
 scale_agrees Rates s = refl
 
 -- r is the row of a schedule, i that of its first value, t that of its steps, y and z those of their leaves
-record ScheduleRows (scale : Scale) (r i t y z : ℕ) : Type 0 where
-  initial : LeafRow r i "initialValue" (kind_by scale)
-  child : is_child ROWS r t ≡ true
-  named : name_at row_names t ≡ codes "step"
-  day : LeafRow t y "stepDate" Date
-  value : LeafRow t z "stepValue" (kind_by scale)
+abbrev ScheduleRows : Scale → ℕ → ℕ → ℕ → ℕ → ℕ → Type 0
+ScheduleRows scale r i t y z =
+    LeafRow r i "initialValue" (kind_by scale) × (is_child ROWS r t ≡ true) × (name_at row_names t ≡ codes "step")
+    × LeafRow t y "stepDate" Date × LeafRow t z "stepValue" (kind_by scale)
 
 step_reads : (scale : Scale) (t y z : ℕ) → LeafRow t y "stepDate" Date → LeafRow t z "stepValue" (kind_by scale)
     → Reads t (step (text (kind_by scale) (scale_at scale))) (step_in scale)
@@ -382,7 +361,7 @@ step_reads scale t y z day_row value_row =
     let day = leaf_one t y "stepDate" Date day_at first_day (λ s. refl) day_row in
     let value = leaf_one t z "stepValue" (kind_by scale) (scale_at scale) (pos 0) (scale_agrees scale) value_row in
     record {
-      gives = λ d clean. (day.gives d clean, value.gives d clean);
+      gives = day.gives ⊗ value.gives;
       only = λ d s h. λ i. record { day = day.only d s.day h.0 i; value = value.only d s.value h.1 i };
     }
 
@@ -390,12 +369,12 @@ schedule_fills : (scale : Scale) (r i t y z : ℕ) → ScheduleRows scale r i t 
     → Fills r (schedule (text (kind_by scale) (scale_at scale))) (λ d. schedule_in scale (Some d))
 schedule_fills scale r i t y z at =
     let first =
-    leaf_one r i "initialValue" (kind_by scale) (scale_at scale) (pos 0) (scale_agrees scale) at.initial in
+    leaf_one r i "initialValue" (kind_by scale) (scale_at scale) (pos 0) (scale_agrees scale) at.0 in
     let steps =
-    each_fills r t "step" (UpTo most_steps) (step (text (kind_by scale) (scale_at scale))) (step_in scale) at.child
-    at.named (step_reads scale t y z at.day at.value) in
+    each_fills r t "step" (UpTo most_steps) (step (text (kind_by scale) (scale_at scale))) (step_in scale) at.1
+    at.2 (step_reads scale t y z at.3 at.4) in
     record {
-      gives = λ d clean. (first.gives d clean, steps.gives d clean);
+      gives = first.gives ⊗ steps.gives;
       only = λ d s h. λ j. record { initial = first.only d s.initial h.0 j; steps = steps.only d s.steps h.1 j };
     }
 
@@ -429,7 +408,7 @@ indexed_fills r k t m u index_row child named count_row unit_row =
     maybe_fills r t "indexTenor" (holds object tenor) tenor_in child named
     (whole t object tenor tenor_in (tenor_fills t m u count_row unit_row)) in
     record {
-      gives = λ d clean. (index.gives d clean, tenors.gives d clean);
+      gives = index.gives ⊗ tenors.gives;
       only = λ d p h. λ i. (index.only d p.0 h.0 i, tenors.only d p.1 h.1 i);
     }
 
@@ -439,7 +418,7 @@ rounded_reads places =
     leaf_one 102 103 "roundingDirection" Direction direction_at Nearest (λ s. refl) (refl, refl, refl, refl) in
     let precise = leaf_one 102 104 "precision" Precision precision_at places (λ s. refl) (refl, refl, refl, refl) in
     record {
-      gives = λ d clean. (dir.gives d clean, precise.gives d clean);
+      gives = dir.gives ⊗ precise.gives;
       only = λ d r h. λ i. record { dir = dir.only d r.dir h.0 i; places = precise.only d r.places h.1 i };
     }
 
@@ -490,14 +469,11 @@ parameters_reads =
     let lookback = once (codes "lookback") in
     let lockout = once (codes "lockout") in
     record {
-      gives = λ d clean. (
-        method.gives d clean,
-        (
-          observing_gives (shift d) (lookback d) (lockout d) (perhaps 106 108 "observationShift" refl refl d clean)
-              (perhaps 106 110 "lookback" refl refl d clean) (perhaps 106 112 "lockout" refl refl d clean),
-          applicable.gives d clean,
-        ),
-      );
+      gives = method.gives
+          ⊗ (λ d clean. observing_gives (shift d) (lookback d) (lockout d)
+          (perhaps 106 108 "observationShift" refl refl d clean) (perhaps 106 110 "lookback" refl refl d clean)
+          (perhaps 106 112 "lockout" refl refl d clean))
+          ⊗ applicable.gives;
       only = λ d p h. λ i. record {
         method = method.only d p.method h.0 i;
         offset = observing_only (shift d) (lookback d) (lockout d) p.offset h.1.0 i;
@@ -510,21 +486,9 @@ floating_reads =
     let index =
     indexed_fills 86 87 88 89 90 (refl, refl, refl, refl) refl refl (refl, refl, refl, refl) (refl, refl, refl, refl) in
     let rows : ScheduleRows Rates 91 92 93 94 95 =
-    record {
-      initial = (refl, refl, refl, refl);
-      child = refl;
-      named = refl;
-      day = (refl, refl, refl, refl);
-      value = (refl, refl, refl, refl);
-    } in
+    ((refl, refl, refl, refl), refl, refl, (refl, refl, refl, refl), (refl, refl, refl, refl)) in
     let spreads : ScheduleRows Rates 96 97 98 99 100 =
-    record {
-      initial = (refl, refl, refl, refl);
-      child = refl;
-      named = refl;
-      day = (refl, refl, refl, refl);
-      value = (refl, refl, refl, refl);
-    } in
+    ((refl, refl, refl, refl), refl, refl, (refl, refl, refl, refl), (refl, refl, refl, refl)) in
     let multiplier =
     schedule_or_fills (pos 1_000_000_000) 86 91 92 93 94 95 "floatingRateMultiplierSchedule" refl refl rows in
     let spread = schedule_or_fills (pos 0) 86 96 97 98 99 100 "spreadSchedule" refl refl spreads in
@@ -537,16 +501,7 @@ floating_reads =
     let treated = leaf_or 86 105 "negativeInterestRateTreatment" Treatment treatment_at AsIs (λ s. refl) (refl, refl, refl) in
     let daily = maybe_fills 86 106 "calculationParameters" parameters parameters_in refl refl parameters_reads in
     record {
-      gives = λ d clean. (
-        index.gives d clean,
-        (
-          multiplier.gives d clean,
-          (
-            spread.gives d clean,
-            (initial.gives d clean, (round.gives d clean, (treated.gives d clean, daily.gives d clean))),
-          ),
-        ),
-      );
+      gives = index.gives ⊗ multiplier.gives ⊗ spread.gives ⊗ initial.gives ⊗ round.gives ⊗ treated.gives ⊗ daily.gives;
       only = λ d f h. λ i. record {
         index = (index.only d (f.index, f.tenor) h.0 i).0;
         tenor = (index.only d (f.index, f.tenor) h.0 i).1;
@@ -563,13 +518,7 @@ floating_reads =
 
 fixed_rows : ScheduleRows Rates 81 82 83 84 85
 fixed_rows =
-    record {
-      initial = (refl, refl, refl, refl);
-      child = refl;
-      named = refl;
-      day = (refl, refl, refl, refl);
-      value = (refl, refl, refl, refl);
-    }
+    ((refl, refl, refl, refl), refl, refl, (refl, refl, refl, refl), (refl, refl, refl, refl))
 
 fixed_reads : Reads 81 (holds object (schedule rate)) (λ d. schedule_in Rates (Some d))
 fixed_reads = schedule_reads 81 82 83 84 85 fixed_rows
@@ -603,19 +552,11 @@ leg_only None (Some y) l (v, (e, h)) = e ∙ ap Fixed (fixed_reads.only y v h)
 leg_only None None l h = absurd h
 
 -- the rows of a stub with an index, below row r
-record StubRows (r f k t m u c : ℕ) : Type 0 where
-  index : LeafRow f k "floatingRateIndex" IndexName
-  child : is_child ROWS f t ≡ true
-  named : name_at row_names t ≡ codes "indexTenor"
-  count : LeafRow t m "periodMultiplier" Multiplier
-  unit : LeafRow t u "period" TenorUnit
-  below : is_child ROWS r f ≡ true
-  float_named : name_at row_names f ≡ codes "floatingRate"
-  rate_below : is_child ROWS r c ≡ true
-  rate_named : name_at row_names c ≡ codes "stubRate"
-  leaf : leaf_at (slice_get ROWS c) ≡ Some Rate
-  either : (d : Data) → At r d
-      → ((x : Data) × (once (codes "floatingRate") d ≡ Some x)) ⊎ ((x : Data) × (once (codes "stubRate") d ≡ Some x))
+abbrev StubRows : ℕ → ℕ → ℕ → ℕ → ℕ → ℕ → ℕ → Type 0
+StubRows r f k t m u c =
+    LeafRow f k "floatingRateIndex" IndexName × (is_child ROWS f t ≡ true) × (name_at row_names t ≡ codes "indexTenor")
+    × LeafRow t m "periodMultiplier" Multiplier × LeafRow t u "period" TenorUnit × (is_child ROWS r f ≡ true)
+    × (name_at row_names f ≡ codes "floatingRate") × FreeRow r c "stubRate" Rate
 
 -- what a stub's two members say
 abbrev StubSaid : Option Data → Option Data → StubRate → Type 0
@@ -641,58 +582,42 @@ stub_only f c indices rates (Some x) stated s (v, (e, h)) =
 stub_only f c indices rates None (Some y) s (v, (e, h)) = e ∙ ap FixedStub (rates.only y v h)
 stub_only f c indices rates None None s h = absurd h
 
-stub_reads : (r f k t m u c : ℕ) → StubRows r f k t m u c → Reads r stub stub_in
-stub_reads r f k t m u c at =
+-- one of the two is there
+abbrev StubThere : ℕ → Type 0
+StubThere r =
+    (d : Data) → At r d
+    → ((x : Data) × (once (codes "floatingRate") d ≡ Some x)) ⊎ ((x : Data) × (once (codes "stubRate") d ≡ Some x))
+
+stub_reads : (r f k t m u c : ℕ) → StubRows r f k t m u c → StubThere r → Reads r stub stub_in
+stub_reads r f k t m u c at there_is =
     let indices : Reads f (holds object indexed) index_in =
-    whole f object indexed index_in (indexed_fills f k t m u at.index at.child at.named at.count at.unit) in
+    whole f object indexed index_in (indexed_fills f k t m u at.0 at.1 at.2 at.3 at.4) in
     let rates : Reads c rate (λ d. number_in Rates (Some d)) =
-    leaf_reads c Rate rate_at (pos 0) (λ s. refl) at.leaf in
+    leaf_reads c Rate rate_at (pos 0) (λ s. refl) at.7.2 in
     let float = once (codes "floatingRate") in
     let stated = once (codes "stubRate") in
     record {
       gives = λ d clean.
-          stub_gives f c indices rates (float d) (stated d) (perhaps r f "floatingRate" at.below at.float_named d clean)
-          (perhaps r c "stubRate" at.rate_below at.rate_named d clean)
-          (second_of (float d) (stated d) (at.either d clean));
+          stub_gives f c indices rates (float d) (stated d) (perhaps r f "floatingRate" at.5 at.6 d clean)
+          (perhaps r c "stubRate" at.7.0 at.7.1 d clean) (second_of (float d) (stated d) (there_is d clean));
       only = λ d s h. stub_only f c indices rates (float d) (stated d) s h;
     }
 
 stubs_reads : (dates : Option Data) → Reads 118 (stubs dates) (stubs_in dates)
 stubs_reads dates =
     let ref = reference_fills 118 119 "calculationPeriodDatesReference" dates refl refl in
-    let initial_rows : StubRows 120 121 122 123 124 125 126 =
-    record {
-      index = (refl, refl, refl, refl);
-      child = refl;
-      named = refl;
-      count = (refl, refl, refl, refl);
-      unit = (refl, refl, refl, refl);
-      below = refl;
-      float_named = refl;
-      rate_below = refl;
-      rate_named = refl;
-      leaf = refl;
-      either = λ d clean. either_there ROWS row_names 120 121 126 d refl clean;
-    } in
-    let last_rows : StubRows 127 128 129 130 131 132 133 =
-    record {
-      index = (refl, refl, refl, refl);
-      child = refl;
-      named = refl;
-      count = (refl, refl, refl, refl);
-      unit = (refl, refl, refl, refl);
-      below = refl;
-      float_named = refl;
-      rate_below = refl;
-      rate_named = refl;
-      leaf = refl;
-      either = λ d clean. either_there ROWS row_names 127 128 133 d refl clean;
-    } in
     let initial =
-    maybe_fills 118 120 "initialStub" stub stub_in refl refl (stub_reads 120 121 122 123 124 125 126 initial_rows) in
-    let last = maybe_fills 118 127 "finalStub" stub stub_in refl refl (stub_reads 127 128 129 130 131 132 133 last_rows) in
+    maybe_fills 118 120 "initialStub" stub stub_in refl refl
+    (stub_reads 120 121 122 123 124 125 126
+    ((refl, refl, refl, refl), refl, refl, (refl, refl, refl, refl), (refl, refl, refl, refl), refl, refl, (refl, refl, refl))
+    (λ d clean. either_there ROWS row_names 120 121 126 d refl clean)) in
+    let last =
+    maybe_fills 118 127 "finalStub" stub stub_in refl refl
+    (stub_reads 127 128 129 130 131 132 133
+    ((refl, refl, refl, refl), refl, refl, (refl, refl, refl, refl), (refl, refl, refl, refl), refl, refl, (refl, refl, refl))
+    (λ d clean. either_there ROWS row_names 127 128 133 d refl clean)) in
     record {
-      gives = λ d clean. (ref.gives d clean, (initial.gives d clean, last.gives d clean));
+      gives = ref.gives ⊗ initial.gives ⊗ last.gives;
       only = λ d s h. λ i. record {
         calc_ref = ref.only d s.calc_ref h.0 i;
         initial = initial.only d s.initial h.1.0 i;
@@ -710,7 +635,7 @@ exchanges_reads =
     let last = exchange_one 136 "finalExchange" (refl, refl, refl, refl) in
     let between = exchange_one 137 "intermediateExchange" (refl, refl, refl, refl) in
     record {
-      gives = λ d clean. (initial.gives d clean, (last.gives d clean, between.gives d clean));
+      gives = initial.gives ⊗ last.gives ⊗ between.gives;
       only = λ d e h. λ i. record {
         initial = initial.only d e.initial h.0 i;
         intermediate = between.only d e.intermediate h.1.1 i;
@@ -748,14 +673,14 @@ effective_fills : (lists : List (Option Data)) → GoodLists lists
 effective_fills lists g =
     one_fills 1 2 "effectiveDate" (adjustable lists) (dated_in lists) refl refl refl
     (dated_reads lists g 2 3 4 5 7 8
-    (record { day = (refl, refl, refl, refl); child = refl; required = refl; named = refl; rows = effective }))
+    ((refl, refl, refl, refl), refl, refl, refl, effective))
 
 termination_fills : (lists : List (Option Data)) → GoodLists lists
     → Fills 1 (one "terminationDate" (adjustable lists)) (λ d. dated_in lists (once (codes "terminationDate") d))
 termination_fills lists g =
     one_fills 1 9 "terminationDate" (adjustable lists) (dated_in lists) refl refl refl
     (dated_reads lists g 9 10 11 12 14 15
-    (record { day = (refl, refl, refl, refl); child = refl; required = refl; named = refl; rows = termination }))
+    ((refl, refl, refl, refl), refl, refl, refl, termination))
 
 period_fills : (lists : List (Option Data)) → GoodLists lists
     → Fills 1 (one "calculationPeriodDatesAdjustments" (adjustments lists))
@@ -770,7 +695,7 @@ start_fills : (lists : List (Option Data)) → GoodLists lists
 start_fills lists g =
     maybe_fills 1 21 "firstPeriodStartDate" (adjustable lists) (λ d. dated_in lists (Some d)) refl refl
     (dated_reads lists g 21 22 23 24 26 27
-    (record { day = (refl, refl, refl, refl); child = refl; required = refl; named = refl; rows = firsts }))
+    ((refl, refl, refl, refl), refl, refl, refl, firsts))
 
 first_fills : Fills 1 (maybe "firstRegularPeriodStartDate" date)
     (λ d. said day_at (once (codes "firstRegularPeriodStartDate") d))
@@ -797,33 +722,15 @@ dates_give : (lists : List (Option Data)) → GoodLists lists → (x : Data) →
 dates_give lists g x clean s r =
     let (y, (e, inner)) = there 1 31 "calculationPeriodFrequency" refl refl refl x clean in
     let at : DatesRead lists (Some x) (Some y) s = subst (λ o. DatesRead lists (Some x) o s) e r in
-    let freq = subst (frequency.says y) (sym at.freq) (times_fills.gives y inner) in
-    let roll = subst ((one "rollConvention" (text Roll roll_at)).says y) (sym at.roll) (roll_fills.gives y inner) in (
-      subst ((one "effectiveDate" (adjustable lists)).says x) (sym r.effective) ((effective_fills lists g).gives x clean),
-      (
-        subst ((one "terminationDate" (adjustable lists)).says x) (sym r.termination)
-            ((termination_fills lists g).gives x clean),
-        (
-          subst ((one "calculationPeriodDatesAdjustments" (adjustments lists)).says x) (sym r.period_adj)
-              ((period_fills lists g).gives x clean),
-          (
-            subst ((maybe "firstPeriodStartDate" (adjustable lists)).says x) (sym r.first_start)
-                ((start_fills lists g).gives x clean),
-            (
-              subst ((maybe "firstRegularPeriodStartDate" date).says x) (sym r.first_regular) (first_fills.gives x clean),
-              (
-                subst ((maybe "lastRegularPeriodEndDate" date).says x) (sym r.last_regular) (last_fills.gives x clean),
-                (
-                  subst ((maybe "stubPeriodType" (text StubType stub_kind_at)).says x) (sym r.stub)
-                      (stub_fills.gives x clean),
-                  rw e (s, (refl, (freq, roll))),
-                ),
-              ),
-            ),
-          ),
-        ),
-      ),
-    )
+    let times = same_says times_fills y inner s.freq at.freq & same_says roll_fills y inner s.roll at.roll in
+    same_says (effective_fills lists g) x clean s.effective r.effective
+    & same_says (termination_fills lists g) x clean s.termination r.termination
+    & same_says (period_fills lists g) x clean s.period_adj r.period_adj
+    & same_says (start_fills lists g) x clean s.first_start r.first_start
+    & same_says first_fills x clean s.first_regular r.first_regular
+    & same_says last_fills x clean s.last_regular r.last_regular
+    & same_says stub_fills x clean s.stub r.stub
+    & rw e (s, (refl, times))
 
 -- what `calculationPeriodFrequency` says
 abbrev FrequencySaid : Data → Stream → Type 0
@@ -849,13 +756,7 @@ dates_only lists g x s (effective, (termination, (period, (start, (first, (last,
 notional_fills : Fills 75 (schedule notional) (λ d. schedule_in Notionals (Some d))
 notional_fills =
     schedule_fills Notionals 75 76 77 78 79
-    (record {
-      initial = (refl, refl, refl, refl);
-      child = refl;
-      named = refl;
-      day = (refl, refl, refl, refl);
-      value = (refl, refl, refl, refl);
-    })
+    (((refl, refl, refl, refl), refl, refl, (refl, refl, refl, refl), (refl, refl, refl, refl)))
 
 currency_fills : Fills 75 (one "currency" (text CurrencyName currency_at))
     (λ d. unwrap_or (said currency_at (once (codes "currency") d)) no_currency)
@@ -878,25 +779,17 @@ calculation_gives x clean s r =
     let notionals : s.notional ≡ schedule_in Notionals (Some z) = r.notional ∙ ap (schedule_in Notionals) path in
     let currency : s.currency ≡ unwrap_or (said currency_at (once (codes "currency") z)) no_currency =
     r.currency ∙ ap (λ o. unwrap_or (said currency_at (member (codes "currency") o)) no_currency) path in
-    let values = subst ((schedule notional).says z) (sym notionals) (notional_fills.gives z innermost) in
-    let named =
-    subst ((one "currency" (text CurrencyName currency_at)).says z) (sym currency) (currency_fills.gives z innermost) in
+    let values =
+    same_says notional_fills z innermost s.notional notionals & same_says currency_fills z innermost s.currency currency in
     let legs : leg.says x (leg_by (once (codes "floatingRateCalculation") x) (once (codes "fixedRateSchedule") x)) =
     leg_gives (once (codes "floatingRateCalculation") x) (once (codes "fixedRateSchedule") x)
     (perhaps 73 86 "floatingRateCalculation" refl refl x clean) (perhaps 73 81 "fixedRateSchedule" refl refl x clean)
     (first_of_two (once (codes "fixedRateSchedule") x) (once (codes "floatingRateCalculation") x)
-    (either_there ROWS row_names 73 81 86 x refl clean)) in (
-      rw e (s, (refl, rw f (s, (refl, (values, named))))),
-      (
-        subst (leg.says x) (sym r.leg) legs,
-        (
-          subst ((one "dayCountFraction" (text DayCount day_count_at)).says x) (sym r.day_count)
-              (count_fills.gives x clean),
-          subst ((or_by "compoundingMethod" (text Compounding compounding_at) (λ _. Simple)).says x) (sym r.compounding)
-              (method_fills.gives x clean),
-        ),
-      ),
-    )
+    (either_there ROWS row_names 73 81 86 x refl clean)) in
+    rw e (s, (refl, rw f (s, (refl, values))))
+    & subst (leg.says x) (sym r.leg) legs
+    & same_says count_fills x clean s.day_count r.day_count
+    & same_says method_fills x clean s.compounding r.compounding
 
 -- what `notionalStepSchedule` says
 abbrev NotionalSaid : Data → Stream → Type 0
@@ -981,20 +874,14 @@ stream_gives lists g d clean =
     let parts = dates_give lists g x inner s
     (subst (λ o. DatesRead lists o (member (codes "calculationPeriodFrequency") o) s) e dated) in
     let amounts = calculation_gives z innermost s
-    (subst (λ o. CalculationRead o s) (ap (member (codes "calculation")) f ∙ k) calculated) in (
-      subst (λ o. Says o (period_dates lists).says (λ a. a) (λ _. ⊥) s) (sym e) (s, (refl, parts)),
-      (
-        (pay_fills lists g dates).gives d clean,
-        (
-          (resets_fills lists g dates).gives d clean,
-          (
-            subst (λ o. Says o AmountSaid (λ a. a) (λ _. ⊥) s) (sym f)
-                (s, (refl, subst (λ o. Says o calculation.says (λ a. a) (λ _. ⊥) s) (sym k) (s, (refl, amounts)))),
-            ((stubs_fills dates).gives d clean, exchanges_fills.gives d clean),
-          ),
-        ),
-      ),
-    )
+    (subst (λ o. CalculationRead o s) (ap (member (codes "calculation")) f ∙ k) calculated) in
+    subst (λ o. Says o (period_dates lists).says (λ a. a) (λ _. ⊥) s) (sym e) (s, (refl, parts))
+    & (pay_fills lists g dates).gives d clean
+    & (resets_fills lists g dates).gives d clean
+    & subst (λ o. Says o AmountSaid (λ a. a) (λ _. ⊥) s) (sym f)
+    (s, (refl, subst (λ o. Says o calculation.says (λ a. a) (λ _. ⊥) s) (sym k) (s, (refl, amounts))))
+    & (stubs_fills dates).gives d clean
+    & exchanges_fills.gives d clean
 
 -- and nothing else
 pub stream_only : (lists : List (Option Data)) → GoodLists lists → (d : Data) (s : Stream) → StreamSays lists d s

@@ -138,12 +138,10 @@ GoodLists [] = Unit {0}
 GoodLists (o ∷ os) = GoodList o × GoodLists os
 
 -- c is the row of the names of the list at row r
-pub record CenterRows (r c : ℕ) : Type 0 where
-  pub child : is_child ROWS r c ≡ true
-  pub required : required_at (slice_get ROWS c) ≡ true
-  pub most : most_at (slice_get ROWS c) ≡ most_centers
-  pub leaf : leaf_at (slice_get ROWS c) ≡ Some CenterName
-  pub named : name_at row_names c ≡ codes "businessCenter"
+abbrev pub CenterRows : ℕ → ℕ → Type 0
+CenterRows r c =
+    (is_child ROWS r c ≡ true) × (required_at (slice_get ROWS c) ≡ true) × (most_at (slice_get ROWS c) ≡ most_centers)
+    × (leaf_at (slice_get ROWS c) ≡ Some CenterName) × (name_at row_names c ≡ codes "businessCenter")
 
 each_name : (c : ℕ) (ds : List Data) → leaf_at (slice_get ROWS c) ≡ Some CenterName
     → ((j : ℕ) (x : Data) → slice_get ds j ≡ Some x → At c x) → All IsLawfulName (map (λ x. word_in (Some x)) ds)
@@ -160,99 +158,56 @@ few_names ds m some few most all =
 
 list_lawful : (r c : ℕ) → CenterRows r c → (d : Data) → At r d → IsLawfulNames (names_in d)
 list_lawful r c at d clean =
-    let fine = fine_values ROWS row_names r c (Some d) at.child clean in
-    let some = some_value ROWS row_names r c d at.child at.required clean in
-    subst (λ (n : List ℕ). IsLawfulNames (map (λ x. word_in (Some x)) (values_in n (Some d)))) at.named
-    (few_names (values_in (name_at row_names c) (Some d)) (most_at (slice_get ROWS c)) some fine.0 at.most
-    (each_name c (values_in (name_at row_names c) (Some d)) at.leaf fine.1))
+    let fine = fine_values ROWS row_names r c (Some d) at.0 clean in
+    let some = some_value ROWS row_names r c d at.0 at.1 clean in
+    subst (λ (n : List ℕ). IsLawfulNames (map (λ x. word_in (Some x)) (values_in n (Some d)))) at.4
+    (few_names (values_in (name_at row_names c) (Some d)) (most_at (slice_get ROWS c)) some fine.0 at.2
+    (each_name c (values_in (name_at row_names c) (Some d)) at.3 fine.1))
 
 good_list : (r c : ℕ) → CenterRows r c → (o : Option Data) → AtMost r o → GoodList o
 good_list r c at None clean = tt
 good_list r c at (Some d) clean =
-    (list_lawful r c at d clean, (names_reads r c at.child at.named at.leaf).gives d clean)
+    (list_lawful r c at d clean, (names_reads r c at.0 at.4 at.3).gives d clean)
 
 -- r is the row of adjustments, b that of their list of centres, and c that of its names
-pub record AdjustmentRows (r b c : ℕ) : Type 0 where
-  pub child : is_child ROWS r b ≡ true
-  pub named : name_at row_names b ≡ codes "businessCenters"
-  pub names : CenterRows b c
+abbrev pub AdjustmentRows : ℕ → ℕ → ℕ → Type 0
+AdjustmentRows r b c =
+    (is_child ROWS r b ≡ true) × (name_at row_names b ≡ codes "businessCenters") × CenterRows b c
 
 -- the list below clean adjustments
 pub good_below : (r b c : ℕ) → AdjustmentRows r b c → (o : Option Data) → AtMost r o
     → GoodList (member (codes "businessCenters") o)
 good_below r b c at o clean =
-    good_list b c at.names (member (codes "businessCenters") o)
-    (subst (λ (n : List ℕ). AtMost b (member n o)) at.named (clean_member ROWS row_names r b o at.child clean))
+    good_list b c at.2 (member (codes "businessCenters") o)
+    (subst (λ (n : List ℕ). AtMost b (member n o)) at.1 (clean_member ROWS row_names r b o at.0 clean))
 
 -- the rows of the adjustments of the effective date
 pub effective_rows : AdjustmentRows 4 7 8
-effective_rows =
-    record {
-      child = refl;
-      named = refl;
-      names =
-          record { child = refl; required = refl; most = refl; leaf = refl; named = refl };
-    }
+effective_rows = (refl, refl, (refl, refl, refl, refl, refl))
 
 -- the rows of the adjustments of the termination date
 pub termination_rows : AdjustmentRows 11 14 15
-termination_rows =
-    record {
-      child = refl;
-      named = refl;
-      names =
-          record { child = refl; required = refl; most = refl; leaf = refl; named = refl };
-    }
+termination_rows = (refl, refl, (refl, refl, refl, refl, refl))
 
 -- the rows of the adjustments of the ends of periods
 pub period_rows : AdjustmentRows 16 19 20
-period_rows =
-    record {
-      child = refl;
-      named = refl;
-      names =
-          record { child = refl; required = refl; most = refl; leaf = refl; named = refl };
-    }
+period_rows = (refl, refl, (refl, refl, refl, refl, refl))
 
 -- the rows of the adjustments of the start of the first period
 pub first_rows : AdjustmentRows 23 26 27
-first_rows =
-    record {
-      child = refl;
-      named = refl;
-      names =
-          record { child = refl; required = refl; most = refl; leaf = refl; named = refl };
-    }
+first_rows = (refl, refl, (refl, refl, refl, refl, refl))
 
 -- the rows of the adjustments of payments
 pub payment_rows : AdjustmentRows 47 50 51
-payment_rows =
-    record {
-      child = refl;
-      named = refl;
-      names =
-          record { child = refl; required = refl; most = refl; leaf = refl; named = refl };
-    }
+payment_rows = (refl, refl, (refl, refl, refl, refl, refl))
 
 -- the rows of the adjustments of fixing dates
 pub fixing_rows : AdjustmentRows 55 61 62
-fixing_rows =
-    record {
-      child = refl;
-      named = refl;
-      names =
-          record { child = refl; required = refl; most = refl; leaf = refl; named = refl };
-    }
+fixing_rows = (refl, refl, (refl, refl, refl, refl, refl))
 
 -- the rows of the adjustments of resets
 pub reset_rows : AdjustmentRows 67 70 71
-reset_rows =
-    record {
-      child = refl;
-      named = refl;
-      names =
-          record { child = refl; required = refl; most = refl; leaf = refl; named = refl };
-    }
+reset_rows = (refl, refl, (refl, refl, refl, refl, refl))
 
 -- ---- the parts of a stream
 
@@ -459,7 +414,7 @@ index_at r c at d clean =
 applicable_lawful : (d : Data) → At 106 d → IsLawfulNames (applicable_in (once (codes "applicableBusinessDays") d))
 applicable_lawful d clean =
     let (list, (e, inner)) = clean_there ROWS row_names 106 114 d refl refl clean in
-    let rows : CenterRows 114 115 = record { child = refl; required = refl; most = refl; leaf = refl; named = refl } in
+    let rows : CenterRows 114 115 = (refl, refl, refl, refl, refl) in
     subst (λ (o : Option Data). IsLawfulNames (applicable_in o)) (sym e) (list_lawful 114 115 rows list inner)
 
 maybe_parameters : (o : Option Data) → AtMost 106 o → IfSome (option_map parameters_in o) IsLawfulParameters
