@@ -3,6 +3,7 @@ pub mod FlowStated
 pub mod FlowSteps
 pub mod FlowRules
 pub mod FlowClean
+pub mod FlowOutcomes
 pub mod ValueLemmas
 pub mod TableLemmas
 pub mod FieldLemmas

@@ -4,6 +4,7 @@ pub mod FlowLines
 pub mod FlowFaults
 pub mod FlowMeaning
 pub mod FlowReading
+pub mod FlowOutcomes
 pub mod FlowsStated
 pub mod StatedFlows
 pub mod Sums

@@ -2,6 +2,8 @@
 ghost use Rattle.irs_elements.specs.Elements.{IsOfTables};
 ghost use Rattle.irs_elements.specs.Find.{values_in};
 ghost use Rattle.irs_audit.specs.FlowBounds.{FlowsAreWithin};
+ghost use Rattle.irs_audit.specs.FlowOutcomes.{HidesNone, flows_of_document};
+ghost use Rattle.irs_base.specs.Outcomes.{Determined};
 ghost use Rattle.irs_audit.specs.FlowMeaning.{AllHaveFewPeriods, stream_in, streams_in};
 ghost use Rattle.irs_audit.specs.FlowParts.{FlowPart};
 ghost use Rattle.irs_audit.specs.FlowReading.{FlowsOf, IsFirstFault, kind_of as kind_by};
@@ -78,6 +80,8 @@ pub fn read_flows(alloc: Global, v: &Value) -> Result<Flows, FlowErr>
     // No field is passed over: each leaf that occurs has a value of its kind.
     ensures stated { IfOk result (λ _. EachFlowStated (view v.now)) }
     ensures fault { IfErr result (λ e. IsFirstFault (view v.now) e) }
+    // Running out of memory hides no fault.
+    ensures memory { IfErr result (λ e. HidesNone (view v.now) e) }
 {
     if let Some(fault) = first_in_flows(v) {
         return Err(shape(fault));
@@ -86,6 +90,14 @@ pub fn read_flows(alloc: Global, v: &Value) -> Result<Flows, FlowErr>
         Err(fault) => Err(shape(fault)),
         Ok(found) => Ok(flows_of(alloc, found)?),
     }
+}
+
+/// A law: a document states one list of flows and has no fault, or one fault is its first.
+pub fn flows_of_document_are_determined(v: &Value)
+    ensures { Determined (flows_of_document (view v.now)) }
+{
+    // hands the prover what the faults are
+    let _fault = first_in_flows(v);
 }
 
 /// The cash flows of every document keep bounds. The calculation periods of a stream are those of its payments. Each

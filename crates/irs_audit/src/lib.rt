@@ -25,7 +25,7 @@ pub use comparisons::{
 pub use departures::{Departure, Field, RowKind, Verdict};
 pub use error::{FlowErr, ShapeKind};
 pub use flow_faults::first_in_flows;
-pub use flow_reader::{read_flows, read_flows_are_within};
+pub use flow_reader::{flows_of_document_are_determined, read_flows, read_flows_are_within};
 pub use flow_table::{
     FLOW_NAMES, FLOW_ROWS, PERIOD_NAMES, PERIOD_ROWS, flow_lines_follow, flow_rows_whole,
     flow_tables_listed, period_rows_whole,

@@ -1,5 +1,5 @@
 -- The ends of a table, as its rows are looked at one after the other.
-use Rattle.irs_elements.specs.Elements.{end_at}
+use Rattle.irs_elements.specs.Private.Walk.{end_at}
 use Rattle.irs_elements.specs.declared.table.Row.{Row}
 use Rattle.std.proofs.Common.{◌≡◌, ℕ, ◌<◌, List, length, Some}
 use Rattle.std.specs.Prelude.{slice_get}

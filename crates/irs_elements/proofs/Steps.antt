@@ -24,9 +24,10 @@ use Rattle.irs_elements.specs.Elements.{place, unmet_place, choice_unmet, is_cho
 use Rattle.irs_elements.specs.Elements.{is_unknown, is_element, is_refused, is_required, most, absent_index, index_in}
 use Rattle.irs_elements.specs.Elements.{IsMember, ShapeFault, unknown, unmet, odd, no_href, has_odd, lacks_href}
 use Rattle.irs_elements.specs.Elements.{FaultAt, own, shape, under, FaultUnder, missing, refused, too_many, inside}
-use Rattle.irs_elements.specs.Elements.{EndsHold, FaultAmong, MemberFault, end_at, names_among}
+use Rattle.irs_elements.specs.Elements.{names_among}
+use Rattle.irs_elements.specs.Private.Walk.{EndsHold, FaultAmong, MemberFault, end_at}
 use Rattle.irs_elements.proofs.Exact.{both_true}
-use Rattle.irs_elements.specs.Elements.{are_one_right, is_right, is_right_leaf}
+use Rattle.irs_elements.specs.Private.Walk.{are_one_right, is_right, is_right_leaf}
 use Rattle.irs_elements.specs.declared.table.Leaf.{Leaf as LeafKind}
 use Rattle.irs_elements.proofs.First.{first_or, first_same, first_one, first_is, first_more, first_skip, Below}
 use Rattle.irs_base.specs.Order.{earlier_broken, IsFirstBroken}

@@ -23,7 +23,8 @@ use Rattle.serde_json.specs.Data.{Data}
 use Rattle.serde_json.specs.Find.{as_str}
 use Rattle.std.specs.Borrow.{Bor}
 use Rattle.std.specs.List.{list_any, enumerate_from}
-use Rattle.std.specs.Prelude.{map, ◌≡◌, ℕ, Bool, true, false, not, ◌&&◌, ◌||◌, ◌==◌, ◌<◌, ◌≤◌, ◌+◌, List, [], ◌∷◌, length}
+use Rattle.std.specs.Prelude.{map, ◌≡◌, ℕ, Bool, true, false, not, ◌&&◌, ◌||◌, ◌==◌, ◌<◌, ◌≤◌, ◌+◌, List, [], ◌∷◌}
+use Rattle.std.specs.Prelude.{length}
 use Rattle.std.specs.Prelude.{Option, Some, None, is_some, is_none, slice_get, codes, if◌then◌else◌, nat_lt}
 use Rattle.std.specs.Str.{bytes_eq}
 
@@ -180,54 +181,11 @@ module _ (rows : List Row) (names : List (List ℕ)) where
   abbrev pub is_unknown : ℕ → List ℕ → Bool
   is_unknown r name = not (is_attribute name || is_known r name)
 
-  -- a name that is an attribute's or that no row has
-  abbrev pub is_apart : ℕ → List ℕ → Bool
-  is_apart r name = is_attribute name || not (is_known r name)
-
   -- c is the row of a member of the object at row r
   pub record IsMember (r c : ℕ) (row : Row) : Type 0 where
     pub found : slice_get rows c ≡ Some row
     pub parent : row.parent ≡ r
     pub later : r < c
-
--- ---- leaves that break no rule
-
--- whether a value stands alone, and is a leaf that breaks no rule
-abbrev pub are_one_right : LeafKind → List Data → Bool
-are_one_right k [] = false
-are_one_right k (d ∷ []) = is_none (leaf_rule k (leaf_of d))
-are_one_right k (d ∷ e ∷ ds) = false
-
--- the same of the values of a member
-abbrev pub is_one_right : LeafKind → Option Data → Bool
-is_one_right k None = false
-is_one_right k (Some m) = are_one_right k (items_of m)
-
--- whether a member of that kind is a leaf that occurs once and breaks no rule
-abbrev pub is_right : Kind → Option Data → Bool
-is_right (Object c) m = false
-is_right (Leaf k) m = is_one_right k m
-is_right Passed m = false
-is_right Refused m = false
-
--- whether the member at row c of the object d is such a leaf, and may occur
-abbrev pub is_right_leaf : List (List ℕ) → ℕ → Row → Data → Bool
-is_right_leaf names c row d = nat_lt 0 (most row.count) && is_right row.kind (child_of (name_at names c) d)
-
--- ---- where the members of an object end
-
--- the row after the last member, where the table says it, else the row after the last one
-abbrev pub end_in : ℕ → Option ℕ → ℕ
-end_in all None = all
-end_in all (Some end) = end
-
--- the row after the last member of the object at row r, in a table of `all` rows
-abbrev pub end_at : ℕ → List ℕ → ℕ → ℕ
-end_at all ends r = end_in all (slice_get ends r)
-
--- each row is before the end of its parent's members
-abbrev pub EndsHold : List Row → List ℕ → Type 0
-EndsHold rows ends = (c : ℕ) (row : Row) → slice_get rows c ≡ Some row → c < end_at (length rows) ends row.parent
 
 module _ (rows : List Row) (names : List (List ℕ)) (stream : ℕ) where
   -- the rules that an object breaks beside those of its members
@@ -278,14 +236,6 @@ module _ (rows : List Row) (names : List (List ℕ)) (stream : ℕ) where
           → length (items_of m) ≤ most row.count → slice_get (items_of m) j ≡ Some x
           → FaultAt c row.kind (index_in row.count i j) x f
           → FaultUnder c row i d f
-
-  -- those of the values ds of the member at row c, of which the j-th has the index at j
-  abbrev pub FaultAmong : ℕ → Kind → (ℕ → ℕ) → List Data → Broken → Type 0
-  FaultAmong c kind at ds f = (j : ℕ) × ((x : Data) × ((slice_get ds j ≡ Some x) × FaultAt c kind (at j) x f))
-
-  -- those of the members of the object d at row r
-  abbrev pub MemberFault : ℕ → ℕ → Data → Broken → Type 0
-  MemberFault r i d f = (c : ℕ) × ((row : Row) × (IsMember rows names r c row × FaultUnder c row i d f))
 
 -- a rule that a table of elements can break: one of K2 to K7
 abbrev pub IsOfTables : Rule → Type 0

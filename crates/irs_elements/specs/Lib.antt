@@ -8,3 +8,4 @@ pub mod Words
 pub mod Leaves
 pub mod Elements
 pub mod Find
+pub mod Private

@@ -2,12 +2,16 @@
 //!
 //! The walk goes down the table and not down the value: each row's members come after it. It keeps
 //! nothing on the way; each step returns the first broken rule of its part.
-ghost use Rattle.irs_elements.specs.Elements.{EndsHold, FaultAmong, FaultAt, FaultUnder, MemberFault, ShapeFault};
+ghost use Rattle.irs_elements.specs.Elements.{FaultAt, FaultUnder, ShapeFault};
+ghost use Rattle.irs_elements.specs.Private.Walk.{EndsHold, FaultAmong, MemberFault};
 ghost use Rattle.irs_elements.specs.Elements.{absent_index as absent_index_of, are_two as are_two_of};
 ghost use Rattle.irs_elements.specs.Elements.{choice_unmet as choice_unmet_of};
-ghost use Rattle.irs_elements.specs.Elements.{elem_at, elem_of, end_at, fault_if, has_odd as has_odd_of};
-ghost use Rattle.irs_elements.specs.Elements.{index_in as index_in_of, is_apart, is_element as is_element_of};
-ghost use Rattle.irs_elements.specs.Elements.{is_known as is_known_in, is_one_right, is_right_leaf as is_right_leaf_of};
+ghost use Rattle.irs_elements.specs.Elements.{elem_at, elem_of, fault_if, has_odd as has_odd_of};
+ghost use Rattle.irs_elements.specs.Private.Walk.{end_at};
+ghost use Rattle.irs_elements.specs.Elements.{index_in as index_in_of, is_element as is_element_of};
+ghost use Rattle.irs_elements.specs.Private.Walk.{is_apart};
+ghost use Rattle.irs_elements.specs.Elements.{is_known as is_known_in};
+ghost use Rattle.irs_elements.specs.Private.Walk.{is_one_right, is_right_leaf as is_right_leaf_of};
 ghost use Rattle.irs_elements.specs.Elements.{is_odd as is_odd_of, is_refused as is_refused_of};
 ghost use Rattle.irs_elements.specs.Elements.{is_required as is_required_of, is_unknown, lacks_href as lacks_href_of};
 ghost use Rattle.irs_elements.specs.Elements.{most as most_of, name_at, names_among, place};

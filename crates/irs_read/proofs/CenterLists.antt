@@ -1,4 +1,5 @@
--- Texts that are kept as they are, and lists of centres: what is read of a clean one is what it says, and nothing else is.
+-- Texts that are kept as they are, and lists of centres: what is read of a clean one is what it says, and nothing
+-- else is.
 use Rattle.irs_base.specs.Limits.{most_centers}
 use Rattle.irs_elements.specs.Elements.{name_at}
 use Rattle.irs_elements.specs.Find.{text_in}
@@ -15,7 +16,8 @@ use Rattle.irs_read.specs.Readings.{each, text}
 use Rattle.irs_read.specs.StreamElements.{center_list, center_name}
 use Rattle.irs_read.specs.declared.table.TheConstants.{ROWS}
 use Rattle.serde_json.specs.Data.{Data}
-use Rattle.std.proofs.Common.{◌≡◌, ℕ, Bool, true, false, true≢false, List, [], Option, Some, None, is_some, option_and_then}
+use Rattle.std.proofs.Common.{◌≡◌, ℕ, Bool, true, false, true≢false, List, [], Option, Some, None, is_some}
+use Rattle.std.proofs.Common.{option_and_then}
 use Rattle.std.proofs.Common.{unwrap_or, slice_get, codes, refl, sym, if◌then◌else◌}
 
 -- a text that passes a test is there
@@ -27,7 +29,8 @@ guarded : (b : Bool) (s t : List ℕ) → (if b then Some s else None) ≡ Some 
 guarded true s t e = cc
 guarded false s t e = cc
 
-guard_some : (b : Bool) (s : List ℕ) → is_some (if b then Some s else None) ≡ true → (if b then Some s else None) ≡ Some s
+guard_some : (b : Bool) (s : List ℕ) → is_some (if b then Some s else None) ≡ true
+    → (if b then Some s else None) ≡ Some s
 guard_some true s e = refl
 guard_some false s e = absurd (true≢false (sym e))
 

@@ -4,7 +4,8 @@ use Rattle.irs_base.specs.declared.places.Rule.{Rule}
 use Rattle.irs_base.specs.declared.places.Rule.TheVariants.{K2, K3, K5, K6, K7}
 use Rattle.irs_elements.proofs.Exact.{both_true}
 use Rattle.irs_elements.proofs.Steps.{choice_kept}
-use Rattle.irs_elements.specs.Elements.{FaultAt, IsMember, absent_index, index_in, is_chosen, inside, is_element, is_required}
+use Rattle.irs_elements.specs.Elements.{FaultAt, IsMember, absent_index, index_in, is_chosen, inside, is_element}
+use Rattle.irs_elements.specs.Elements.{is_required}
 use Rattle.irs_elements.specs.Elements.{missing, most, name_at, own, place, shape, too_many, under, unmet}
 use Rattle.irs_elements.specs.Find.{member, once, values_in, values_of}
 use Rattle.irs_elements.specs.Leaves.{has_value, leaf_rule, out_of_profile, text_of, text_rule}

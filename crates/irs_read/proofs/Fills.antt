@@ -5,13 +5,15 @@ use Rattle.irs_elements.specs.Find.{once, values_in}
 use Rattle.irs_elements.specs.Leaves.{has_value, text_of}
 use Rattle.irs_elements.specs.declared.table.Count.{Count}
 use Rattle.irs_elements.specs.declared.table.Leaf.{Leaf as LeafKind}
-use Rattle.irs_read.proofs.Clean.{Clean, clean_leaf, clean_once, clean_there, fine_values, is_child, leaf_at, required_at}
+use Rattle.irs_read.proofs.Clean.{Clean, clean_leaf, clean_once, clean_there, fine_values, is_child, leaf_at}
+use Rattle.irs_read.proofs.Clean.{required_at}
 use Rattle.irs_read.proofs.TableLaws.{code_names as row_names}
 use Rattle.irs_elements.specs.Lines.{Form}
 use Rattle.irs_read.specs.Readings.{EachSays, Part, Says, Value, each, holds, maybe, one, or_by, said, text}
 use Rattle.irs_read.specs.declared.table.TheConstants.{ROWS}
 use Rattle.serde_json.specs.Data.{Data}
-use Rattle.std.proofs.Common.{◌≡◌, ℕ, zero, suc, true, true≢false, List, [], ◌∷◌, map, Option, Some, None, IfSome, is_some}
+use Rattle.std.proofs.Common.{◌≡◌, ℕ, zero, suc, true, true≢false, List, [], ◌∷◌, map, Option, Some, None, IfSome}
+use Rattle.std.proofs.Common.{is_some}
 use Rattle.std.proofs.Common.{option_map, unwrap_or, slice_get, codes, refl, sym, ap, subst, ◌∙◌}
 
 -- d breaks no rule at row c of the table of a stream

@@ -14,30 +14,39 @@ use Rattle.irs_elements.specs.Words.{currency_at, is_index_name}
 use Rattle.irs_elements.specs.declared.table.Count.TheVariants.{UpTo}
 use Rattle.irs_elements.specs.declared.table.Leaf.{Leaf as LeafKind}
 use Rattle.irs_elements.specs.declared.table.Leaf.TheVariants.{CalculationMethod, Compounding, Convention}
-use Rattle.irs_elements.specs.declared.table.Leaf.TheVariants.{CurrencyName, Date, DayCount, DayType, Direction, IndexName}
-use Rattle.irs_elements.specs.declared.table.Leaf.TheVariants.{Multiplier, Notional, ObservationDays, OffsetDays, PayRelative}
-use Rattle.irs_elements.specs.declared.table.Leaf.TheVariants.{PeriodUnit, Precision, Rate, ResetRelative, Roll, StubType}
+use Rattle.irs_elements.specs.declared.table.Leaf.TheVariants.{CurrencyName, Date, DayCount, DayType, Direction}
+use Rattle.irs_elements.specs.declared.table.Leaf.TheVariants.{IndexName}
+use Rattle.irs_elements.specs.declared.table.Leaf.TheVariants.{Multiplier, Notional, ObservationDays, OffsetDays}
+use Rattle.irs_elements.specs.declared.table.Leaf.TheVariants.{PayRelative}
+use Rattle.irs_elements.specs.declared.table.Leaf.TheVariants.{PeriodUnit, Precision, Rate, ResetRelative, Roll}
+use Rattle.irs_elements.specs.declared.table.Leaf.TheVariants.{StubType}
 use Rattle.irs_elements.specs.declared.table.Leaf.TheVariants.{TenorUnit, Treatment, Truth}
 use Prim.Native.String.{String}
 use Rattle.irs_base.specs.Limits.{most_steps}
 use Rattle.irs_read.proofs.CenterLists.{guard_is, names_reads, word_reads}
 use Rattle.irs_read.proofs.Clean.{either_there, is_child, leaf_at, required_at}
-use Rattle.irs_read.proofs.Fills.{At, AtMost, Agree, Fills, FreeRow, LeafRow, Reads, each_fills, leaf_maybe, leaf_one, leaf_or}
+use Rattle.irs_read.proofs.Fills.{At, AtMost, Agree, Fills, FreeRow, LeafRow, Reads, each_fills, leaf_maybe, leaf_one}
+use Rattle.irs_read.proofs.Fills.{leaf_or}
 use Rattle.irs_read.proofs.Fills.{◌⊗◌, ◌&◌, same_says}
 use Rattle.irs_read.proofs.Fills.{leaf_reads, maybe_fills, one_fills, one_is, or_fills, perhaps, there, whole}
 use Rattle.irs_read.proofs.Streams.{AdjustmentRows, GoodList, GoodLists, effective_rows, first_rows, fixing_rows}
 use Rattle.irs_read.proofs.Streams.{good_below, one_good, payment_rows, period_rows, reset_rows, termination_rows}
 use Rattle.irs_read.proofs.TableLaws.{code_names as row_names}
-use Rattle.irs_read.specs.Private.Meaning.{adjustments_in, applicable_in, centers_by, dated_in, day_in, exchanges_in, fix_in}
-use Rattle.irs_read.specs.Private.Meaning.{float_in, frequency_in, leg_by, maybe_dated_in, named_centers, names_in, number_in}
-use Rattle.irs_read.specs.Private.Meaning.{observation_days_in, observation_offset_by, offset_in, own_centers, parameters_in}
+use Rattle.irs_read.specs.Private.Meaning.{adjustments_in, applicable_in, centers_by, dated_in, day_in, exchanges_in}
+use Rattle.irs_read.specs.Private.Meaning.{fix_in}
+use Rattle.irs_read.specs.Private.Meaning.{float_in, frequency_in, leg_by, maybe_dated_in, named_centers, names_in}
+use Rattle.irs_read.specs.Private.Meaning.{number_in}
+use Rattle.irs_read.specs.Private.Meaning.{observation_days_in, observation_offset_by, offset_in, own_centers}
+use Rattle.irs_read.specs.Private.Meaning.{parameters_in}
 use Rattle.irs_read.specs.Private.Meaning.{pay_in, reset_in, rounding_in, schedule_in, schedule_or, step_in, stub_by}
 use Rattle.irs_read.specs.StreamElements.{places_by}
-use Rattle.irs_read.specs.Private.Meaning.{no_currency, scale_at, stream_in, stream_parts, stub_in, stubs_in, tenor_in, truth_in}
+use Rattle.irs_read.specs.Private.Meaning.{no_currency, scale_at, stream_in, stream_parts, stub_in, stubs_in}
+use Rattle.irs_read.specs.Private.Meaning.{tenor_in, truth_in}
 use Rattle.irs_read.specs.Private.Meaning.{word_in}
 use Rattle.irs_read.specs.Readings.{Says, holds, maybe, one, or_by, said, text}
 use Rattle.irs_read.specs.References.{first_of, has_id, href_of, reference_in, the_one}
-use Rattle.irs_read.specs.StreamElements.{StreamSays, adjustable, adjusting, adjustments, always, calculation, stream_by}
+use Rattle.irs_read.specs.StreamElements.{StreamSays, adjustable, adjusting, adjustments, always, calculation}
+use Rattle.irs_read.specs.StreamElements.{stream_by}
 use Rattle.irs_read.specs.StreamElements.{center_list, date, exchanges, fixing_dates, floating, frequency, index_name}
 use Rattle.irs_read.specs.StreamElements.{indexed, leg, notional, observed, offset, parameters, payment_dates}
 use Rattle.irs_read.specs.StreamElements.{period_dates, rate, reference, reset_dates, rounded, schedule, step, stub}
@@ -64,7 +73,8 @@ use Rattle.irs_terms.specs.declared.codes.Treatment.TheVariants.{AsIs}
 use Rattle.irs_terms.specs.declared.dates.FixTerms.{FixTerms}
 use Rattle.irs_terms.specs.declared.parameters.CalculationMethod.TheVariants.{Compounding as ByCompounding}
 use Rattle.irs_terms.specs.declared.parameters.ObservationOffset.{ObservationOffset}
-use Rattle.irs_terms.specs.declared.parameters.ObservationOffset.TheVariants.{Absent as NoOffset, Shift, Lookback, Lockout}
+use Rattle.irs_terms.specs.declared.parameters.ObservationOffset.TheVariants.{Absent as NoOffset, Shift, Lookback}
+use Rattle.irs_terms.specs.declared.parameters.ObservationOffset.TheVariants.{Lockout}
 use Rattle.irs_terms.specs.declared.frequency.Frequency.{Frequency}
 use Rattle.irs_terms.specs.declared.frequency.Unit.TheVariants.{D}
 use Rattle.irs_terms.specs.declared.stream.Stream.{Stream}
@@ -121,7 +131,8 @@ own_gives (Some d) g = (names_in d, (refl, g.1))
 list_only : (d : Data) (ns : List (List ℕ)) → center_list.says d ns → ns ≡ names_in d
 list_only = (names_reads 7 8 refl refl refl).only
 
-named_only : (o : Option Data) (c : Centers) → Says o center_list.says Listed (λ c. c ≡ Dangling) c → c ≡ named_centers o
+named_only : (o : Option Data) (c : Centers) → Says o center_list.says Listed (λ c. c ≡ Dangling) c
+    → c ≡ named_centers o
 named_only None c h = h
 named_only (Some d) c (ns, (e, h)) = e ∙ ap Listed (list_only d ns h)
 
@@ -252,7 +263,8 @@ pay_reads lists g dates =
     let last = leaf_maybe 35 41 "lastRegularPaymentDate" Date day_at (λ s. refl) (refl, refl, refl) in
     let relative = leaf_one 35 42 "payRelativeTo" PayRelative relative_at Start (λ s. refl) (refl, refl, refl, refl) in
     let days =
-    or_fills 35 43 "paymentDaysOffset" (holds object offset) (λ _. record { days = pos 0; kind = Unsaid }) (λ _ o. offset_in o)
+    or_fills 35 43 "paymentDaysOffset" (holds object offset) (λ _. record { days = pos 0; kind = Unsaid })
+    (λ _ o. offset_in o)
     refl refl (λ d. refl)
     (λ d. whole 43 object offset (λ x. offset_in (Some x))
     (offset_fills 43 44 46 (refl, refl, refl, refl) (refl, refl, refl))) in
@@ -498,7 +510,8 @@ floating_reads =
     (λ d. record { dir = Nearest; places = places_by (once (codes "calculationParameters") d) })
     (λ d o. rounding_in (places_by (once (codes "calculationParameters") d)) o) refl refl (λ d. refl)
     (λ d. rounded_reads (places_by (once (codes "calculationParameters") d))) in
-    let treated = leaf_or 86 105 "negativeInterestRateTreatment" Treatment treatment_at AsIs (λ s. refl) (refl, refl, refl) in
+    let treated =
+    leaf_or 86 105 "negativeInterestRateTreatment" Treatment treatment_at AsIs (λ s. refl) (refl, refl, refl) in
     let daily = maybe_fills 86 106 "calculationParameters" parameters parameters_in refl refl parameters_reads in
     record {
       gives = index.gives ⊗ multiplier.gives ⊗ spread.gives ⊗ initial.gives ⊗ round.gives ⊗ treated.gives ⊗ daily.gives;
@@ -608,13 +621,29 @@ stubs_reads dates =
     let ref = reference_fills 118 119 "calculationPeriodDatesReference" dates refl refl in
     let initial =
     maybe_fills 118 120 "initialStub" stub stub_in refl refl
-    (stub_reads 120 121 122 123 124 125 126
-    ((refl, refl, refl, refl), refl, refl, (refl, refl, refl, refl), (refl, refl, refl, refl), refl, refl, (refl, refl, refl))
+    (stub_reads 120 121 122 123 124 125 126 (
+      (refl, refl, refl, refl),
+      refl,
+      refl,
+      (refl, refl, refl, refl),
+      (refl, refl, refl, refl),
+      refl,
+      refl,
+      (refl, refl, refl),
+    )
     (λ d clean. either_there ROWS row_names 120 121 126 d refl clean)) in
     let last =
     maybe_fills 118 127 "finalStub" stub stub_in refl refl
-    (stub_reads 127 128 129 130 131 132 133
-    ((refl, refl, refl, refl), refl, refl, (refl, refl, refl, refl), (refl, refl, refl, refl), refl, refl, (refl, refl, refl))
+    (stub_reads 127 128 129 130 131 132 133 (
+      (refl, refl, refl, refl),
+      refl,
+      refl,
+      (refl, refl, refl, refl),
+      (refl, refl, refl, refl),
+      refl,
+      refl,
+      (refl, refl, refl),
+    )
     (λ d clean. either_there ROWS row_names 127 128 133 d refl clean)) in
     record {
       gives = ref.gives ⊗ initial.gives ⊗ last.gives;
@@ -780,7 +809,8 @@ calculation_gives x clean s r =
     let currency : s.currency ≡ unwrap_or (said currency_at (once (codes "currency") z)) no_currency =
     r.currency ∙ ap (λ o. unwrap_or (said currency_at (member (codes "currency") o)) no_currency) path in
     let values =
-    same_says notional_fills z innermost s.notional notionals & same_says currency_fills z innermost s.currency currency in
+    same_says notional_fills z innermost s.notional notionals
+    & same_says currency_fills z innermost s.currency currency in
     let legs : leg.says x (leg_by (once (codes "floatingRateCalculation") x) (once (codes "fixedRateSchedule") x)) =
     leg_gives (once (codes "floatingRateCalculation") x) (once (codes "fixedRateSchedule") x)
     (perhaps 73 86 "floatingRateCalculation" refl refl x clean) (perhaps 73 81 "fixedRateSchedule" refl refl x clean)
@@ -793,7 +823,8 @@ calculation_gives x clean s r =
 
 -- what `notionalStepSchedule` says
 abbrev NotionalSaid : Data → Stream → Type 0
-NotionalSaid z s = (schedule notional).says z s.notional × (one "currency" (text CurrencyName currency_at)).says z s.currency
+NotionalSaid z s =
+    (schedule notional).says z s.notional × (one "currency" (text CurrencyName currency_at)).says z s.currency
 
 -- what `notionalSchedule` says
 abbrev StepsSaid : Data → Stream → Type 0
@@ -819,7 +850,8 @@ calculation_only x s (notionals, (legs, (count, method))) =
 pay_fills : (lists : List (Option Data)) → GoodLists lists → (dates : Option Data)
     → Fills 0 (one "paymentDates" (payment_dates lists dates)) (λ d. pay_in lists dates (once (codes "paymentDates") d))
 pay_fills lists g dates =
-    one_fills 0 35 "paymentDates" (payment_dates lists dates) (pay_in lists dates) refl refl refl (pay_reads lists g dates)
+    one_fills 0 35 "paymentDates" (payment_dates lists dates) (pay_in lists dates) refl refl refl
+    (pay_reads lists g dates)
 
 resets_fills : (lists : List (Option Data)) → GoodLists lists → (dates : Option Data)
     → Fills 0 (maybe "resetDates" (reset_dates lists dates))

@@ -12,10 +12,12 @@ use Rattle.irs_read.proofs.Clean.{clean_leaf, clean_member, clean_once, clean_th
 use Rattle.irs_read.proofs.Clean.{leaf_at, most_at, required_at, some_value}
 use Rattle.irs_read.proofs.Fills.{At, AtMost}
 use Rattle.irs_read.proofs.Ranges.{InScale, capitals, currency_range, day_range, first_is_day, multiplier_range}
-use Rattle.irs_read.proofs.Ranges.{observation_days_range, offset_range, or_in, precision_range, rate_range, roll_range, said_in, scale_range}
+use Rattle.irs_read.proofs.Ranges.{observation_days_range, offset_range, or_in, precision_range, rate_range}
+use Rattle.irs_read.proofs.Ranges.{roll_range, said_in, scale_range}
 use Rattle.irs_read.proofs.Ranges.{tenor_unit_range, zero_range}
 use Rattle.irs_read.proofs.Words.{center_lawful, index_word}
-use Rattle.irs_read.specs.Private.Meaning.{adjustments_in, centers_by, dated_in, day_in, fix_in, float_in, frequency_in, leg_by}
+use Rattle.irs_read.specs.Private.Meaning.{adjustments_in, centers_by, dated_in, day_in, fix_in, float_in}
+use Rattle.irs_read.specs.Private.Meaning.{frequency_in, leg_by}
 use Rattle.irs_read.specs.Private.Meaning.{maybe_dated_in, named_centers, names_in, no_currency, number_in, offset_in}
 use Rattle.irs_read.specs.Private.Meaning.{applicable_in, observation_days_in, observation_offset_by, parameters_in}
 use Rattle.irs_read.specs.StreamElements.{places_by}
@@ -28,7 +30,8 @@ use Rattle.irs_read.proofs.TableLaws.{code_names as row_names}
 use Rattle.irs_read.specs.declared.leaf_values.Scale.{Scale}
 use Rattle.irs_read.specs.declared.leaf_values.Scale.TheVariants.{Notionals, Rates}
 use Rattle.irs_read.specs.declared.table.TheConstants.{ROWS}
-use Rattle.irs_terms.specs.Lawful.{IsLawfulCenters, IsLawfulCurrency, IsLawfulAdjustableDate, IsLawfulFix, IsLawfulFloat}
+use Rattle.irs_terms.specs.Lawful.{IsLawfulCenters, IsLawfulCurrency, IsLawfulAdjustableDate, IsLawfulFix}
+use Rattle.irs_terms.specs.Lawful.{IsLawfulFloat}
 use Rattle.irs_terms.specs.Lawful.{IsLawfulFrequency, IsLawfulIndex, IsLawfulLeg, IsLawfulName, IsLawfulNames}
 use Rattle.irs_terms.specs.Lawful.{IsLawfulObservationOffset, IsLawfulParameters, IsObservationDays}
 use Rattle.irs_terms.specs.Lawful.{IsLawfulOffset, IsLawfulPay, IsLawfulReset, IsLawfulRoll, IsLawfulStream}

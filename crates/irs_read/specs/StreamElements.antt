@@ -1,6 +1,6 @@
--- The elements of a swap's streams (FpML's InterestRateStream), a line each: its name, how often it occurs, how its text
--- is read, the field that it gives, and what holds where it is absent. A name continues the path of the object that it
--- stands in. Which elements are in the profile, their counts, their order and the defaults are our rule.
+-- The elements of a swap's streams (FpML's InterestRateStream), a line each: its name, how often it occurs, how its
+-- text is read, the field that it gives, and what holds where it is absent. A name continues the path of the object
+-- that it stands in. Which elements are in the profile, their counts, their order and the defaults are our rule.
 use Rattle.irs_base.specs.Limits.{most_centers, most_steps}
 use Rattle.irs_base.specs.declared.rounding.Direction.{Direction}
 use Rattle.irs_base.specs.declared.rounding.Direction.TheVariants.{Nearest}
@@ -9,7 +9,8 @@ use Rattle.irs_elements.specs.Codes.{direction_at, offset_unit_at, relative_at, 
 use Rattle.irs_elements.specs.Codes.{treatment_at, truth_at, unit_at}
 use Rattle.irs_elements.specs.Dates.{day_at}
 use Rattle.irs_elements.specs.Find.{once, values_in}
-use Rattle.irs_elements.specs.Lines.{at_most_one, at_most_one_of_three, exactly_one, object, reference as reference_form}
+use Rattle.irs_elements.specs.Lines.{at_most_one, at_most_one_of_three, exactly_one, object}
+use Rattle.irs_elements.specs.Lines.{reference as reference_form}
 use Rattle.irs_elements.specs.Numbers.{multiplier_at, notional_at, observation_days_at, offset_at, precision_at}
 use Rattle.irs_elements.specs.Numbers.{rate_at}
 use Rattle.irs_elements.specs.Words.{currency_at, is_center_name, is_index_name}
@@ -17,11 +18,14 @@ use Rattle.irs_elements.specs.declared.table.Count.TheVariants.{Maybe, OneTo, Up
 use Rattle.irs_elements.specs.declared.table.Leaf.TheVariants.{CalculationMethod as MethodKind, CenterName}
 use Rattle.irs_elements.specs.declared.table.Leaf.TheVariants.{Compounding as CompoundingKind, Convention}
 use Rattle.irs_elements.specs.declared.table.Leaf.TheVariants.{CurrencyName, Date, DayCount, DayType}
-use Rattle.irs_elements.specs.declared.table.Leaf.TheVariants.{Direction as DirectionKind, IndexName, Multiplier, Notional}
+use Rattle.irs_elements.specs.declared.table.Leaf.TheVariants.{Direction as DirectionKind, IndexName, Multiplier}
+use Rattle.irs_elements.specs.declared.table.Leaf.TheVariants.{Notional}
 use Rattle.irs_elements.specs.declared.table.Leaf.TheVariants.{ObservationDays, OffsetDays, OffsetUnit, PayRelative}
-use Rattle.irs_elements.specs.declared.table.Leaf.TheVariants.{PeriodUnit, Precision, Rate, ResetRelative, Roll, StubType}
+use Rattle.irs_elements.specs.declared.table.Leaf.TheVariants.{PeriodUnit, Precision, Rate, ResetRelative, Roll}
+use Rattle.irs_elements.specs.declared.table.Leaf.TheVariants.{StubType}
 use Rattle.irs_elements.specs.declared.table.Leaf.TheVariants.{TenorUnit, Treatment as TreatmentKind, Truth}
-use Rattle.irs_read.specs.Readings.{EachSays, Part, Says, Value, each, either, holds, lines_of, maybe, one, or, or_by, text}
+use Rattle.irs_read.specs.Readings.{EachSays, Part, Says, Value, each, either, holds, lines_of, maybe, one, or, or_by}
+use Rattle.irs_read.specs.Readings.{text}
 use Rattle.irs_read.specs.Readings.{unread, ◌also◌, ◌gives◌}
 use Rattle.irs_read.specs.References.{has_id, href_of, lists_of, streams_in, the_one}
 use Rattle.irs_terms.specs.declared.adjustments.AdjustableDate.{AdjustableDate}
@@ -61,7 +65,8 @@ use Rattle.irs_terms.specs.declared.frequency.Unit.{Unit as Period}
 use Rattle.irs_terms.specs.declared.parameters.CalculationMethod.{CalculationMethod}
 use Rattle.irs_terms.specs.declared.parameters.CalculationParameters.{CalculationParameters}
 use Rattle.irs_terms.specs.declared.parameters.ObservationOffset.{ObservationOffset}
-use Rattle.irs_terms.specs.declared.parameters.ObservationOffset.TheVariants.{Absent as NoOffset, Shift, Lookback, Lockout}
+use Rattle.irs_terms.specs.declared.parameters.ObservationOffset.TheVariants.{Absent as NoOffset, Shift, Lookback}
+use Rattle.irs_terms.specs.declared.parameters.ObservationOffset.TheVariants.{Lockout}
 use Rattle.irs_terms.specs.declared.step_list.Step.{Step}
 use Rattle.irs_terms.specs.declared.step_list.StepValues.{StepValues}
 use Rattle.irs_terms.specs.declared.stream.Stream.{Stream}
@@ -192,7 +197,8 @@ period_dates lists =
 -- `paymentDates`
 abbrev pub payment_dates : List (Option Data) → Option Data → Value PayTerms
 payment_dates lists dates =
-    holds object (or "calculationPeriodDatesReference" (reference dates) NoReference gives (λ (p : PayTerms). p.calc_ref)
+    holds object (
+    or "calculationPeriodDatesReference" (reference dates) NoReference gives (λ (p : PayTerms). p.calc_ref)
     also one "paymentFrequency" (holds object frequency) gives (λ (p : PayTerms). p.freq)
     also maybe "firstPaymentDate" date gives (λ (p : PayTerms). p.first)
     also maybe "lastRegularPaymentDate" date gives (λ (p : PayTerms). p.last)
@@ -204,7 +210,8 @@ payment_dates lists dates =
 -- `fixingDates` of resets: their offset and adjustments, and a reference to the resets
 abbrev pub fixing_dates : List (Option Data) → Option Data → Value (FixTerms × RefState)
 fixing_dates lists resets =
-    holds (at_most_one "businessCentersReference" "businessCenters") (offset gives (λ (f : FixTerms × RefState). f.0.offset)
+    holds (at_most_one "businessCentersReference" "businessCenters") (
+    offset gives (λ (f : FixTerms × RefState). f.0.offset)
     also adjusting lists gives (λ (f : FixTerms × RefState). f.0.adj)
     also or "dateRelativeTo" (reference resets) NoReference gives (λ (f : FixTerms × RefState). f.1))
 
@@ -213,14 +220,16 @@ abbrev pub fixings : List (Option Data) → Part ResetTerms
 fixings lists = record {
   lines = lines_of "fixingDates" Maybe (fixing_dates lists None);
   says =
-      λ d r. Says {B = Option FixTerms × RefState} (once (codes "fixingDates") d) (fixing_dates lists (Some d)).says
+      λ d r. Says {B = Option FixTerms × RefState} (once (codes "fixingDates") d)
+      (fixing_dates lists (Some d)).says
       (λ f. (Some f.0, f.1)) (λ f. f ≡ (None, NoReference)) (r.fixing, r.fixing_ref);
 }
 
 -- `resetDates`
 abbrev pub reset_dates : List (Option Data) → Option Data → Value ResetTerms
 reset_dates lists dates =
-    holds object (or "calculationPeriodDatesReference" (reference dates) NoReference gives (λ (r : ResetTerms). r.calc_ref)
+    holds object (
+    or "calculationPeriodDatesReference" (reference dates) NoReference gives (λ (r : ResetTerms). r.calc_ref)
     also or "resetRelativeTo" (text ResetRelative relative_at) Start gives (λ (r : ResetTerms). r.relative)
     also fixings lists
     also one "resetFrequency" (holds object frequency) gives (λ (r : ResetTerms). r.freq)
@@ -280,7 +289,8 @@ floating =
     also or_by "finalRateRounding" rounded
     (λ d. record { dir = Nearest; places = places_by (once (codes "calculationParameters") d) })
     gives (λ (f : FloatTerms). f.rounding)
-    also or "negativeInterestRateTreatment" (text TreatmentKind treatment_at) AsIs gives (λ (f : FloatTerms). f.treatment)
+    also or "negativeInterestRateTreatment" (text TreatmentKind treatment_at) AsIs
+    gives (λ (f : FloatTerms). f.treatment)
     also maybe "calculationParameters" parameters gives (λ (f : FloatTerms). f.parameters))
 
 -- a fixed or a floating leg
@@ -289,7 +299,8 @@ leg = record {
   lines = lines_of "fixedRateSchedule" Maybe (holds object (schedule rate))
       ++ lines_of "floatingRateCalculation" Maybe floating;
   says =
-      (either "floatingRateCalculation" floating Floating "fixedRateSchedule" (holds object (schedule rate)) Fixed).says;
+      (either "floatingRateCalculation" floating Floating
+      "fixedRateSchedule" (holds object (schedule rate)) Fixed).says;
 }
 
 -- `calculation`
@@ -313,7 +324,8 @@ stub =
 -- `stubCalculationPeriodAmount`
 abbrev pub stubs : Option Data → Value StubTerms
 stubs dates =
-    holds object (or "calculationPeriodDatesReference" (reference dates) NoReference gives (λ (s : StubTerms). s.calc_ref)
+    holds object (
+    or "calculationPeriodDatesReference" (reference dates) NoReference gives (λ (s : StubTerms). s.calc_ref)
     also maybe "initialStub" stub gives (λ (s : StubTerms). s.initial)
     also maybe "finalStub" stub gives (λ (s : StubTerms). s.last))
 

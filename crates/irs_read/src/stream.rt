@@ -4,7 +4,8 @@ ghost use Rattle.irs_read.specs.Private.Meaning.{adjustments_in, dated_in, excha
 ghost use Rattle.irs_read.specs.Private.Meaning.{maybe_dated_in, number_in, pay_in, reset_in, rounding_in};
 ghost use Rattle.irs_read.specs.StreamElements.{places_by};
 ghost use Rattle.irs_read.specs.Private.Meaning.{schedule_in};
-ghost use Rattle.irs_read.specs.Private.Meaning.{stream_in, stream_parts, stub_by, stub_in, stubs_in, swap_in, tenor_in};
+ghost use Rattle.irs_read.specs.Private.Meaning.{stream_in, stream_parts, stub_by, stub_in, stubs_in, swap_in};
+ghost use Rattle.irs_read.specs.Private.Meaning.{tenor_in};
 ghost use Rattle.irs_read.specs.References.{lists_of};
 ghost use Rattle.serde_json.specs.View.{view};
 ghost use Rattle.irs_read.specs.declared.leaf_values.Scale.TheVariants.{Notionals};

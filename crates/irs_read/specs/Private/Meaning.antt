@@ -46,7 +46,8 @@ use Rattle.irs_terms.specs.declared.frequency.Unit.TheVariants.{D}
 use Rattle.irs_terms.specs.declared.parameters.CalculationMethod.TheVariants.{Compounding}
 use Rattle.irs_terms.specs.declared.parameters.CalculationParameters.{CalculationParameters}
 use Rattle.irs_terms.specs.declared.parameters.ObservationOffset.{ObservationOffset}
-use Rattle.irs_terms.specs.declared.parameters.ObservationOffset.TheVariants.{Absent as NoOffset, Shift, Lookback, Lockout}
+use Rattle.irs_terms.specs.declared.parameters.ObservationOffset.TheVariants.{Absent as NoOffset, Shift, Lookback}
+use Rattle.irs_terms.specs.declared.parameters.ObservationOffset.TheVariants.{Lockout}
 use Rattle.irs_terms.specs.declared.step_list.Step.{Step}
 use Rattle.irs_terms.specs.declared.step_list.StepValues.{StepValues}
 use Rattle.irs_terms.specs.declared.stream.Stream.{Stream}

@@ -3,6 +3,7 @@ use Rattle.irs_audit.proofs.FlowRules.{of_flows}
 use Rattle.irs_audit.proofs.FlowStated.{flows_stated}
 use Rattle.irs_audit.proofs.flow_reader.read_flows.Goals as goal
 use Rattle.irs_audit.specs.FlowFaults.{ended}
+use Rattle.irs_audit.specs.FlowOutcomes.{HidesNone}
 use Rattle.irs_audit.specs.FlowReading.{IsFirstFault}
 use Rattle.irs_audit.specs.declared.error.FlowErr.{FlowErr}
 use Rattle.serde_json.specs.View.{view}
@@ -28,3 +29,10 @@ returns-in-Err-clause-fault c =
 
 pub returns-in_ok-flows_of-in-Ok-clause-stated : goal.returns-in_ok-flows_of-in-Ok-clause-stated
 returns-in_ok-flows_of-in-Ok-clause-stated c = flows_stated (view c.args.v.now) c.in_default.ensures
+
+pub returns-in-Some-clause-memory : goal.returns-in-Some-clause-memory
+returns-in-Some-clause-memory c = subst (λ (e : FlowErr). HidesNone (view c.args.v.now) e) (sym c.shape.ensures) tt
+
+pub returns-in-Err-clause-memory : goal.returns-in-Err-clause-memory
+returns-in-Err-clause-memory c =
+    absurd (c.in_default.ensures c.in-Err.fault (ended c.in-Err.fault (sym c.in-Err.ensures)))

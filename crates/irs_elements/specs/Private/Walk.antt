@@ -1,0 +1,70 @@
+-- How the walk goes: which leaves it passes at a glance, where the members of an object end, and the faults of parts.
+use Rattle.irs_base.specs.declared.places.Broken.{Broken}
+use Rattle.irs_elements.specs.Elements.{FaultAt, FaultUnder, IsMember, is_known, most, name_at}
+use Rattle.irs_elements.specs.Leaves.{leaf_rule}
+use Rattle.irs_elements.specs.declared.table.Kind.{Kind}
+use Rattle.irs_elements.specs.declared.table.Kind.TheVariants.{Object, Leaf, Passed, Refused}
+use Rattle.irs_elements.specs.declared.table.Leaf.{Leaf as LeafKind}
+use Rattle.irs_elements.specs.declared.table.Row.{Row}
+use Rattle.irs_json.specs.Carrier.{child_of}
+use Rattle.irs_json.specs.Leaves.{is_attribute, leaf_of}
+use Rattle.irs_json.specs.Values.{items_of}
+use Rattle.serde_json.specs.Data.{Data}
+use Rattle.std.specs.Prelude.{◌≡◌, ℕ, ◌<◌, Bool, false, not, ◌&&◌, ◌||◌, List, [], ◌∷◌, length, Option, Some, None}
+use Rattle.std.specs.Prelude.{is_none}
+use Rattle.std.specs.Prelude.{nat_lt, slice_get}
+
+module _ (rows : List Row) (names : List (List ℕ)) where
+  -- a name that is an attribute's or that no row has
+  abbrev pub is_apart : ℕ → List ℕ → Bool
+  is_apart r name = is_attribute name || not (is_known rows names r name)
+
+-- ---- leaves that break no rule
+
+-- whether a value stands alone, and is a leaf that breaks no rule
+abbrev pub are_one_right : LeafKind → List Data → Bool
+are_one_right k [] = false
+are_one_right k (d ∷ []) = is_none (leaf_rule k (leaf_of d))
+are_one_right k (d ∷ e ∷ ds) = false
+
+-- the same of the values of a member
+abbrev pub is_one_right : LeafKind → Option Data → Bool
+is_one_right k None = false
+is_one_right k (Some m) = are_one_right k (items_of m)
+
+-- whether a member of that kind is a leaf that occurs once and breaks no rule
+abbrev pub is_right : Kind → Option Data → Bool
+is_right (Object c) m = false
+is_right (Leaf k) m = is_one_right k m
+is_right Passed m = false
+is_right Refused m = false
+
+-- whether the member at row c of the object d is such a leaf, and may occur
+abbrev pub is_right_leaf : List (List ℕ) → ℕ → Row → Data → Bool
+is_right_leaf names c row d = nat_lt 0 (most row.count) && is_right row.kind (child_of (name_at names c) d)
+
+-- ---- where the members of an object end
+
+-- the row after the last member, where the table says it, else the row after the last one
+abbrev pub end_in : ℕ → Option ℕ → ℕ
+end_in all None = all
+end_in all (Some end) = end
+
+-- the row after the last member of the object at row r, in a table of `all` rows
+abbrev pub end_at : ℕ → List ℕ → ℕ → ℕ
+end_at all ends r = end_in all (slice_get ends r)
+
+-- each row is before the end of its parent's members
+abbrev pub EndsHold : List Row → List ℕ → Type 0
+EndsHold rows ends = (c : ℕ) (row : Row) → slice_get rows c ≡ Some row → c < end_at (length rows) ends row.parent
+
+module _ (rows : List Row) (names : List (List ℕ)) (stream : ℕ) where
+  -- those of the values ds of the member at row c, of which the j-th has the index at j
+  abbrev pub FaultAmong : ℕ → Kind → (ℕ → ℕ) → List Data → Broken → Type 0
+  FaultAmong c kind at ds f =
+      (j : ℕ) × ((x : Data) × ((slice_get ds j ≡ Some x) × FaultAt rows names stream c kind (at j) x f))
+
+  -- those of the members of the object d at row r
+  abbrev pub MemberFault : ℕ → ℕ → Data → Broken → Type 0
+  MemberFault r i d f =
+      (c : ℕ) × ((row : Row) × (IsMember rows names r c row × FaultUnder rows names stream c row i d f))
