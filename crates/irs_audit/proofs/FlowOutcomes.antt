@@ -1,5 +1,5 @@
 -- Reading cash flows has one outcome: a document states one list of flows, or one fault is its first.
-use Rattle.std.proofs.Common.{◌≡◌, List, Option, Some, None, Result, Ok, Err, refl, sym, ap, ◌∙◌}
+use Rattle.std.proofs.Common.{◌≡◌, List, Option, Some, None, Ok, Err, refl, sym, ap, ◌∙◌}
 use Rattle.irs_audit.specs.FlowFaults.{FlowFault, ended}
 use Rattle.irs_audit.specs.FlowMeaning.{streams_in}
 use Rattle.irs_audit.specs.FlowOutcomes.{flows_of_document}

@@ -15,7 +15,6 @@ use Rattle.irs_read.specs.Private.Meaning.{names_in, word_in}
 use Rattle.irs_read.specs.Readings.{each, text}
 use Rattle.irs_read.specs.StreamElements.{center_list, center_name}
 use Rattle.irs_read.specs.declared.table.TheConstants.{ROWS}
-use Rattle.serde_json.specs.Data.{Data}
 use Rattle.std.proofs.Common.{◌≡◌, ℕ, Bool, true, false, true≢false, List, [], Option, Some, None, is_some}
 use Rattle.std.proofs.Common.{option_and_then}
 use Rattle.std.proofs.Common.{unwrap_or, slice_get, codes, refl, sym, if◌then◌else◌}

@@ -22,7 +22,7 @@ use Rattle.irs_json.specs.Values.{items_of}
 use Rattle.serde_json.specs.Data.{Data, null, boolean, number, string, array, object, no_items, item}
 use Rattle.serde_json.specs.Find.{get}
 use Rattle.std.proofs.Common.{◌≡◌, ℕ, ◌<◌, ◌≤◌, nat_lt, Bool, true, false, ◌&&◌, ◌==◌, true≢false, ◌⊎◌, inl, inr, List}
-use Rattle.std.proofs.Common.{[], ◌∷◌, length, Option, Some, None, IfSome, is_none, is_some, option_and_then, slice_get}
+use Rattle.std.proofs.Common.{[], ◌∷◌, length, Option, Some, None, IfSome, is_some, option_and_then, slice_get}
 use Rattle.std.proofs.Common.{refl, sym, ap, subst}
 use Rattle.std.proofs.lemmas.Option.{same_Some}
 use Rattle.std.proofs.Common.{arith, if◌then◌else◌}

@@ -12,7 +12,7 @@ use Rattle.irs_elements.specs.Lines.{Form}
 use Rattle.irs_read.specs.Readings.{EachSays, Part, Says, Value, each, holds, maybe, one, or_by, said, text}
 use Rattle.irs_read.specs.declared.table.TheConstants.{ROWS}
 use Rattle.serde_json.specs.Data.{Data}
-use Rattle.std.proofs.Common.{◌≡◌, ℕ, zero, suc, true, true≢false, List, [], ◌∷◌, map, Option, Some, None, IfSome}
+use Rattle.std.proofs.Common.{◌≡◌, ℕ, suc, true, true≢false, List, [], ◌∷◌, map, Option, Some, None, IfSome}
 use Rattle.std.proofs.Common.{is_some}
 use Rattle.std.proofs.Common.{option_map, unwrap_or, slice_get, codes, refl, sym, ap, subst, ◌∙◌}
 

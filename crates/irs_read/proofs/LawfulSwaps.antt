@@ -15,7 +15,7 @@ use Rattle.irs_read.specs.Private.Meaning.{stream_in, swap_in}
 use Rattle.irs_read.specs.References.{streams_in}
 use Rattle.irs_read.specs.References.{lists_of}
 use Rattle.irs_read.proofs.TableLaws.{code_names, stream_fault}
-use Rattle.irs_read.specs.StreamLines.{stream_names, stream_rows, swap_rows}
+use Rattle.irs_read.specs.StreamLines.{swap_rows}
 use Rattle.irs_read.specs.Swaps.{StreamsFault, SwapFault, in_stream, many_streams, no_stream, outside}
 use Rattle.irs_read.specs.declared.table.TheConstants.{ROWS, SWAP}
 use Rattle.irs_terms.specs.Lawful.{IsLawful, IsLawfulStream}

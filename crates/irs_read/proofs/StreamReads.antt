@@ -6,9 +6,9 @@ use Rattle.irs_elements.specs.Codes.{direction_at, relative_at, roll_at, stub_ki
 use Rattle.irs_elements.specs.Codes.{truth_at, unit_at}
 use Rattle.irs_elements.specs.Dates.{day_at}
 use Rattle.irs_elements.specs.Elements.{name_at}
-use Rattle.irs_elements.specs.Find.{member, once, text_in, values_in}
-use Rattle.irs_elements.specs.Lines.{at_most_one, at_most_one_of_three, exactly_one, object}
-use Rattle.irs_elements.specs.Numbers.{multiplier_at, notional_at, observation_days_at, offset_at, precision_at}
+use Rattle.irs_elements.specs.Find.{member, once}
+use Rattle.irs_elements.specs.Lines.{object}
+use Rattle.irs_elements.specs.Numbers.{multiplier_at, observation_days_at, offset_at, precision_at}
 use Rattle.irs_elements.specs.Numbers.{rate_at}
 use Rattle.irs_elements.specs.Words.{currency_at, is_index_name}
 use Rattle.irs_elements.specs.declared.table.Count.TheVariants.{UpTo}
@@ -24,7 +24,7 @@ use Rattle.irs_elements.specs.declared.table.Leaf.TheVariants.{TenorUnit, Treatm
 use Prim.Native.String.{String}
 use Rattle.irs_base.specs.Limits.{most_steps}
 use Rattle.irs_read.proofs.CenterLists.{guard_is, names_reads, word_reads}
-use Rattle.irs_read.proofs.Clean.{either_there, is_child, leaf_at, required_at}
+use Rattle.irs_read.proofs.Clean.{either_there, is_child, required_at}
 use Rattle.irs_read.proofs.Fills.{At, AtMost, Agree, Fills, FreeRow, LeafRow, Reads, each_fills, leaf_maybe, leaf_one}
 use Rattle.irs_read.proofs.Fills.{leaf_or}
 use Rattle.irs_read.proofs.Fills.{◌⊗◌, ◌&◌, same_says}
@@ -32,7 +32,7 @@ use Rattle.irs_read.proofs.Fills.{leaf_reads, maybe_fills, one_fills, one_is, or
 use Rattle.irs_read.proofs.Streams.{AdjustmentRows, GoodList, GoodLists, effective_rows, first_rows, fixing_rows}
 use Rattle.irs_read.proofs.Streams.{good_below, one_good, payment_rows, period_rows, reset_rows, termination_rows}
 use Rattle.irs_read.proofs.TableLaws.{code_names as row_names}
-use Rattle.irs_read.specs.Private.Meaning.{adjustments_in, applicable_in, centers_by, dated_in, day_in, exchanges_in}
+use Rattle.irs_read.specs.Private.Meaning.{adjustments_in, applicable_in, centers_by, dated_in, exchanges_in}
 use Rattle.irs_read.specs.Private.Meaning.{fix_in}
 use Rattle.irs_read.specs.Private.Meaning.{float_in, frequency_in, leg_by, maybe_dated_in, named_centers, names_in}
 use Rattle.irs_read.specs.Private.Meaning.{number_in}
@@ -44,7 +44,7 @@ use Rattle.irs_read.specs.Private.Meaning.{no_currency, scale_at, stream_in, str
 use Rattle.irs_read.specs.Private.Meaning.{tenor_in, truth_in}
 use Rattle.irs_read.specs.Private.Meaning.{word_in}
 use Rattle.irs_read.specs.Readings.{Says, holds, maybe, one, or_by, said, text}
-use Rattle.irs_read.specs.References.{first_of, has_id, href_of, reference_in, the_one}
+use Rattle.irs_read.specs.References.{href_of, reference_in, the_one}
 use Rattle.irs_read.specs.StreamElements.{StreamSays, adjustable, adjusting, adjustments, always, calculation}
 use Rattle.irs_read.specs.StreamElements.{stream_by}
 use Rattle.irs_read.specs.StreamElements.{center_list, date, exchanges, fixing_dates, floating, frequency, index_name}

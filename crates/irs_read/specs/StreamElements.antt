@@ -2,13 +2,12 @@
 -- text is read, the field that it gives, and what holds where it is absent. A name continues the path of the object
 -- that it stands in. Which elements are in the profile, their counts, their order and the defaults are our rule.
 use Rattle.irs_base.specs.Limits.{most_centers, most_steps}
-use Rattle.irs_base.specs.declared.rounding.Direction.{Direction}
 use Rattle.irs_base.specs.declared.rounding.Direction.TheVariants.{Nearest}
 use Rattle.irs_elements.specs.Codes.{calculation_method_at, compounding_at, convention_at, day_count_at, day_kind_at}
 use Rattle.irs_elements.specs.Codes.{direction_at, offset_unit_at, relative_at, roll_at, stub_kind_at, tenor_unit_at}
 use Rattle.irs_elements.specs.Codes.{treatment_at, truth_at, unit_at}
 use Rattle.irs_elements.specs.Dates.{day_at}
-use Rattle.irs_elements.specs.Find.{once, values_in}
+use Rattle.irs_elements.specs.Find.{once}
 use Rattle.irs_elements.specs.Lines.{at_most_one, at_most_one_of_three, exactly_one, object}
 use Rattle.irs_elements.specs.Lines.{reference as reference_form}
 use Rattle.irs_elements.specs.Numbers.{multiplier_at, notional_at, observation_days_at, offset_at, precision_at}
@@ -41,28 +40,17 @@ use Rattle.irs_terms.specs.declared.amounts.Rounding.{Rounding}
 use Rattle.irs_terms.specs.declared.amounts.StubRate.{StubRate}
 use Rattle.irs_terms.specs.declared.amounts.StubRate.TheVariants.{Index, Fixed as FixedStub}
 use Rattle.irs_terms.specs.declared.amounts.StubTerms.{StubTerms}
-use Rattle.irs_terms.specs.declared.codes.CompCode.{CompCode}
 use Rattle.irs_terms.specs.declared.codes.CompCode.TheVariants.{Simple}
-use Rattle.irs_terms.specs.declared.codes.ConvCode.{ConvCode}
 use Rattle.irs_terms.specs.declared.codes.ConvCode.TheVariants.{Unadjusted}
-use Rattle.irs_terms.specs.declared.codes.DayCountCode.{DayCountCode}
-use Rattle.irs_terms.specs.declared.codes.DayKind.{DayKind}
 use Rattle.irs_terms.specs.declared.codes.DayKind.TheVariants.{Unsaid}
 use Rattle.irs_terms.specs.declared.codes.RefState.{RefState}
 use Rattle.irs_terms.specs.declared.codes.RefState.TheVariants.{Absent as NoReference, Good, Dangling as NoTarget}
-use Rattle.irs_terms.specs.declared.codes.Relative.{Relative}
 use Rattle.irs_terms.specs.declared.codes.Relative.TheVariants.{Start}
-use Rattle.irs_terms.specs.declared.codes.RollCode.{RollCode}
-use Rattle.irs_terms.specs.declared.codes.StubKind.{StubKind}
-use Rattle.irs_terms.specs.declared.codes.Treatment.{Treatment}
 use Rattle.irs_terms.specs.declared.codes.Treatment.TheVariants.{AsIs}
-use Rattle.irs_terms.specs.declared.currency.Currency.{Currency}
 use Rattle.irs_terms.specs.declared.dates.FixTerms.{FixTerms}
 use Rattle.irs_terms.specs.declared.dates.PayTerms.{PayTerms}
 use Rattle.irs_terms.specs.declared.dates.ResetTerms.{ResetTerms}
 use Rattle.irs_terms.specs.declared.frequency.Frequency.{Frequency}
-use Rattle.irs_terms.specs.declared.frequency.Unit.{Unit as Period}
-use Rattle.irs_terms.specs.declared.parameters.CalculationMethod.{CalculationMethod}
 use Rattle.irs_terms.specs.declared.parameters.CalculationParameters.{CalculationParameters}
 use Rattle.irs_terms.specs.declared.parameters.ObservationOffset.{ObservationOffset}
 use Rattle.irs_terms.specs.declared.parameters.ObservationOffset.TheVariants.{Absent as NoOffset, Shift, Lookback}
