@@ -22,21 +22,24 @@ const PASSED: Kind = Kind::Passed;
 
 const REFUSED: Kind = Kind::Refused;
 
-// The rows of members.
+/// The rows of members, of a list of them.
+#[macro_export]
 macro_rules! rows {
     ($([$parent:expr, $place:expr, $name:expr, $kind:expr, $count:expr, $end:expr]),*) => {
         [$(row!($parent, $place, $kind, $count)),*]
     };
 }
 
-// Their names.
+/// Their names.
+#[macro_export]
 macro_rules! names {
     ($([$parent:expr, $place:expr, $name:expr, $kind:expr, $count:expr, $end:expr]),*) => {
         [$($name),*]
     };
 }
 
-// Where the members of each end.
+/// Where the members of each end.
+#[macro_export]
 macro_rules! ends {
     ($([$parent:expr, $place:expr, $name:expr, $kind:expr, $count:expr, $end:expr]),*) => {
         [$($end),*]

@@ -2,7 +2,6 @@ use Rattle.irs_elements.specs.Codes.{compounding_at, day_count_at, roll_at, stub
 use Rattle.irs_elements.specs.Dates.{day_at}
 use Rattle.irs_elements.specs.Find.{member, seen}
 use Rattle.irs_elements.specs.Words.{currency_at}
-use Rattle.irs_read.proofs.Parts.{same_stream}
 use Rattle.irs_read.proofs.stream.stream_of.Goals as goal
 use Rattle.irs_read.specs.Private.Meaning.{exchanges_in, no_currency, pay_in}
 use Rattle.irs_read.specs.Private.Meaning.{reset_in, schedule_in, stubs_in}
@@ -19,28 +18,35 @@ returns c =
     let lists = map seen c.args.lists.now in
     let dates = seen c.args.dates in
     let notionals = c.member-notionals.ensures ∙ ap (member (codes "notionalStepSchedule")) c.member.ensures in
-    same_stream _ _ (record {
-      effective = c.in_ok-term.ensures.effective;
-      first_start = c.in_ok-term.ensures.first_start;
-      termination = c.in_ok-term.ensures.termination;
-      period_adj = c.in_ok-term.ensures.period_adj;
-      first_regular = c.maybe_day.ensures ∙ ap (said day_at) c.member-2.ensures;
-      last_regular = c.maybe_day-2.ensures ∙ ap (said day_at) c.member-3.ensures;
-      stub = c.stub_kind.ensures ∙ ap (said stub_kind_at) c.member-4.ensures;
-      freq = c.frequency.ensures;
-      roll = c.unwrap_or.ensures ∙ ap (λ o. unwrap_or o NoRoll) (c.roll.ensures ∙ ap (said roll_at) c.member-5.ensures);
-      pay = c.in_ok-pay.ensures ∙ ap (pay_in lists dates) c.once.ensures;
-      reset = c.in_ok-reset.ensures ∙ ap (option_map (reset_in lists dates)) c.once-2.ensures;
-      notional = c.in_ok-amounts.ensures.notional ∙ ap (schedule_in Notionals) notionals;
-      currency = c.unwrap_or-2.ensures
-          ∙ ap (λ o. unwrap_or o no_currency) (c.currency.ensures
-          ∙ ap (said currency_at) (c.member-6.ensures ∙ ap (member (codes "currency")) notionals));
-      leg = c.in_ok-amounts.ensures.leg;
-      day_count = c.unwrap_or-3.ensures
-          ∙ ap (λ o. unwrap_or o OneOne) (c.day_count.ensures ∙ ap (said day_count_at) c.member-7.ensures);
-      compounding =
-          c.unwrap_or-4.ensures
-          ∙ ap (λ o. unwrap_or o Simple) (c.compounding.ensures ∙ ap (said compounding_at) c.member-8.ensures);
-      stubs = c.in_ok-amounts.ensures.stubs ∙ ap (option_map (stubs_in dates)) c.once-stubs.ensures;
-      exchanges = c.exchanges.ensures ∙ ap exchanges_in c.once-3.ensures;
-    })
+    let roll =
+    c.unwrap_or.ensures ∙ ap (λ o. unwrap_or o NoRoll) (c.roll.ensures ∙ ap (said roll_at) c.member-5.ensures) in
+    let currency =
+    c.unwrap_or-2.ensures
+    ∙ ap (λ o. unwrap_or o no_currency) (c.currency.ensures
+    ∙ ap (said currency_at) (c.member-6.ensures ∙ ap (member (codes "currency")) notionals)) in
+    let day_count =
+    c.unwrap_or-3.ensures
+    ∙ ap (λ o. unwrap_or o OneOne) (c.day_count.ensures ∙ ap (said day_count_at) c.member-7.ensures) in
+    let compounding =
+    c.unwrap_or-4.ensures
+    ∙ ap (λ o. unwrap_or o Simple) (c.compounding.ensures ∙ ap (said compounding_at) c.member-8.ensures) in
+    λ i. record {
+      effective = c.in_ok-term.ensures.effective i;
+      first_start = c.in_ok-term.ensures.first_start i;
+      termination = c.in_ok-term.ensures.termination i;
+      period_adj = c.in_ok-term.ensures.period_adj i;
+      first_regular = (c.maybe_day.ensures ∙ ap (said day_at) c.member-2.ensures) i;
+      last_regular = (c.maybe_day-2.ensures ∙ ap (said day_at) c.member-3.ensures) i;
+      stub = (c.stub_kind.ensures ∙ ap (said stub_kind_at) c.member-4.ensures) i;
+      freq = c.frequency.ensures i;
+      roll = roll i;
+      pay = (c.in_ok-pay.ensures ∙ ap (pay_in lists dates) c.once.ensures) i;
+      reset = (c.in_ok-reset.ensures ∙ ap (option_map (reset_in lists dates)) c.once-2.ensures) i;
+      notional = (c.in_ok-amounts.ensures.notional ∙ ap (schedule_in Notionals) notionals) i;
+      currency = currency i;
+      leg = c.in_ok-amounts.ensures.leg i;
+      day_count = day_count i;
+      compounding = compounding i;
+      stubs = (c.in_ok-amounts.ensures.stubs ∙ ap (option_map (stubs_in dates)) c.once-stubs.ensures) i;
+      exchanges = (c.exchanges.ensures ∙ ap exchanges_in c.once-3.ensures) i;
+    }
