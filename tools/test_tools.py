@@ -427,6 +427,200 @@ kept n = IsSet n
         return (self.top / "docs" / "READING.md").read_text()
 
 
+class MovePrivate(InRoom):
+    """What moves to specs/Private, in a repository of two crates."""
+
+    HEAD = "-- Private: no public contract rests on this file.\n"
+    LONG = ", ".join(f"name_{number:02}" for number in range(9))
+
+    FILES = {
+        "irs_low/src/lib.rt": "pub use days::first;\n",
+        "irs_low/src/days.rt": """ghost use Rattle.irs_low.specs.Days.{IsDay, last};
+
+pub fn first() -> u8
+    ensures { IsDay result }
+{
+    helped()
+}
+
+#[tactic(auto, using(crate::specs::Days::last, crate::specs::Days::IsDay))]
+fn helped() -> u8
+    ensures { result ≡ last }
+{
+    1
+}
+""",
+        "irs_low/specs/Lib.antt": "pub mod Days\npub mod Loose\n",
+        "irs_low/specs/Days.antt": """-- Days of a week.
+use Rattle.std.specs.Prelude.{◌≡◌, ℕ, ◌+◌, suc}
+
+-- ---- all
+
+-- a day
+abbrev pub IsDay : ℕ → Type 0
+IsDay n = n ≡ start
+
+-- the first one
+abbrev pub start : ℕ
+start = 1
+
+-- ---- the last
+
+-- the last one
+abbrev pub last : ℕ
+last = start + 6
+
+-- both kinds of end
+pub data End : Type 0 where
+  Front : End
+  Back : End
+
+module _ (n : ℕ)
+    (m : ℕ) where
+  -- the days after it
+  abbrev pub after : ℕ
+  after = suc n
+""",
+        "irs_low/specs/Loose.antt": """-- Nobody's days.
+use Rattle.irs_low.specs.Days.{start, last}
+
+-- any day
+abbrev pub any : ℕ
+any = last
+""",
+        "irs_high/src/lib.rt": "",
+        "irs_high/proofs/Facts.antt": f"""use Rattle.irs_low.specs.Days.{{Back, IsDay, after, {LONG}}}
+use Rattle.irs_low.specs.Days as days
+use Rattle.irs_low.specs.Loose.{{any}}
+
+fact : days.last ≡ days.start
+""",
+        "irs_high/must-fail/a_day_more.edit": "file: specs/Days.antt of irs_low\n",
+    }
+
+    def setUp(self) -> None:
+        super().setUp()
+        self.top = self.copy("tools/reading", "tools/move_private")
+        for name, text in self.FILES.items():
+            self.write(name, text)
+
+    def write(self, name: str, text: str) -> None:
+        path = self.top / "crates" / name
+        path.parent.mkdir(parents=True, exist_ok=True)
+        path.write_text(text)
+
+    def moved(self) -> List[str]:
+        status, out, said = self.run_tool(["tools/move_private"], self.top)
+        self.assertEqual((status, said), (0, ""))
+        return out.splitlines()
+
+    def text(self, name: str) -> str:
+        return (self.top / "crates" / name).read_text()
+
+    def files(self) -> List[Tuple[str, str]]:
+        paths = sorted(path for path in (self.top / "crates").rglob("*") if path.is_file())
+        return [(str(path), path.read_text()) for path in paths]
+
+    def test_a_file_of_both_kinds_is_split(self) -> None:
+        self.assertEqual(
+            self.moved(),
+            [
+                "split: irs_low Days (3 of 5 definitions are private)",
+                "moved to specs/Private: irs_low Loose (1 definitions)",
+                "2 of 2 files of specs are private or have a private part; 0 hold both kinds, with 0 definitions; "
+                "7 files changed",
+            ],
+        )
+        self.assertEqual(
+            self.text("irs_low/specs/Days.antt"),
+            """-- Days of a week.
+use Rattle.std.specs.Prelude.{◌≡◌, ℕ}
+
+-- ---- all
+
+-- a day
+abbrev pub IsDay : ℕ → Type 0
+IsDay n = n ≡ start
+
+-- the first one
+abbrev pub start : ℕ
+start = 1
+""",
+        )
+        self.assertEqual(
+            self.text("irs_low/specs/Private/Days.antt"),
+            self.HEAD
+            + """-- Days of a week.
+use Rattle.std.specs.Prelude.{ℕ, ◌+◌, suc}
+use Rattle.irs_low.specs.Days.{start}
+
+-- ---- the last
+
+-- the last one
+abbrev pub last : ℕ
+last = start + 6
+
+-- both kinds of end
+pub data End : Type 0 where
+  Front : End
+  Back : End
+
+module _ (n : ℕ)
+    (m : ℕ) where
+  -- the days after it
+  abbrev pub after : ℕ
+  after = suc n
+""",
+        )
+        self.assertEqual(self.text("irs_low/specs/Lib.antt"), "pub mod Days\npub mod Private\n")
+        self.assertEqual(self.text("irs_low/specs/Private.antt"), "pub mod Days\npub mod Loose\n")
+
+    def test_imports_follow(self) -> None:
+        self.moved()
+        self.assertEqual(
+            self.text("irs_high/proofs/Facts.antt"),
+            f"""use Rattle.irs_low.specs.Days.{{IsDay, {self.LONG}}}
+use Rattle.irs_low.specs.Private.Days.{{Back, after}}
+use Rattle.irs_low.specs.Days as days
+use Rattle.irs_low.specs.Private.Days as private_days
+use Rattle.irs_low.specs.Private.Loose.{{any}}
+
+fact : private_days.last ≡ days.start
+""",
+        )
+        source = self.text("irs_low/src/days.rt")
+        self.assertIn("use Rattle.irs_low.specs.Days.{IsDay};\n", source)
+        self.assertIn("use Rattle.irs_low.specs.Private.Days.{last};\n", source)
+        self.assertIn("using(crate::specs::Private::Days::last, crate::specs::Days::IsDay)", source)
+        loose = self.text("irs_low/specs/Private/Loose.antt")
+        self.assertIn("specs.Days.{start}\nuse Rattle.irs_low.specs.Private.Days.{last}\n", loose)
+        self.assertEqual(self.text("irs_high/must-fail/a_day_more.edit"), "file: specs/Days.antt of irs_low\n")
+
+    def test_a_second_run_changes_nothing(self) -> None:
+        self.moved()
+        files = self.files()
+        self.assertIn("0 files changed", self.moved()[-1])
+        self.assertEqual(self.files(), files)
+
+    def test_what_is_reached_comes_back(self) -> None:
+        self.moved()
+        source = self.text("irs_low/src/days.rt")
+        self.write("irs_low/src/days.rt", source.replace("{ IsDay result }", "{ IsDay last }"))
+        self.assertEqual(self.moved()[0], "split: irs_low Days (2 of 5 definitions are private)")
+        self.assertIn("-- ---- the last\n\n-- the last one\nabbrev pub last", self.text("irs_low/specs/Days.antt"))
+        self.assertIn("specs.Days.{IsDay, last};\n", self.text("irs_low/src/days.rt"))
+        self.assertIn("specs.Days.{start, last}\n", self.text("irs_low/specs/Private/Loose.antt"))
+        self.assertIn("0 files changed", self.moved()[-1])
+
+    def test_a_file_in_one_part_again(self) -> None:
+        self.moved()
+        self.write("irs_low/src/days.rt", "ghost use Rattle.irs_low.specs.Days.{IsDay};\n")
+        self.assertEqual(self.moved()[0], "split: irs_low Days (5 of 5 definitions are private)")
+        self.assertFalse((self.top / "crates" / "irs_low" / "specs" / "Days.antt").exists())
+        self.assertEqual(self.text("irs_low/specs/Lib.antt"), "pub mod Private\n")
+        self.assertIn("0 files changed", self.moved()[-1])
+
+
 class Shown(InRoom):
     """The commands of pages, and what they print there."""
 
