@@ -15,6 +15,7 @@ module _ (day : ℤ → ℤ) (stays : (m : ℤ) → InMonth (day m) m) where
       let b = stays k in
       omega (arith, signed_arith, a.to, b.from, month_start-later j k below)
 
+module _ (day : ℤ → ℤ) (stays : (m : ℤ) → InMonth (day m) m) where
   roll_range : (m : ℤ) → IsDay (day m) → (pos first_month ≤ℤ m) × (m ≤ℤ pos last_month)
   roll_range m r = month_range m (day m) r (stays m)
 
@@ -64,6 +65,8 @@ module _ (rolls : ℤ → ℤ → Type 0) (day : ℤ → ℤ) (is : (m : ℤ) �
       → (k : ℤ) × (day (kth start step k) ≡ d)
   roll_misses_none step anchor start d begins h = kth-from step start d (from_start step anchor start d begins h)
 
+module _ (rolls : ℤ → ℤ → Type 0) (day : ℤ → ℤ) (is : (m : ℤ) → rolls m (day m)) (only : (m d : ℤ) → rolls m d
+    → d ≡ day m) (stays : (m : ℤ) → InMonth (day m) m) where
   -- a roll day in a month that is k steps away is the k-th day of the grid
   pub roll_at : (s : ℕ) (start month d k : ℤ) → month -ℤ start ≡ k *ℤ pos s → day month ≡ d → day (kth start s k) ≡ d
   roll_at s start month d k apart rolled = ap day (kth_month s start month k apart) ∙ rolled
