@@ -14,7 +14,7 @@ use Rattle.irs_calendar.specs.GoodDays.{DaySet, InCover, IsGood, Next, Prev}
 use Rattle.irs_adjust.specs.Conventions.{SameMonth, ModFollows, ModPrecedes, IsSundayOrMonday, GoesNearest}
 use Rattle.irs_adjust.specs.ConventionLaws.{one_next, one_prev, next_stays, prev_stays}
 use Rattle.irs_adjust.specs.Codes.{Adjusts}
-use Rattle.irs_base.specs.Order.{IsDecided}
+use Rattle.irs_base.specs.Private.Order.{IsDecided}
 use Rattle.irs_base.proofs.Decided.{order_of, decides_same}
 
 -- every day of the cover is a day in range

@@ -8,7 +8,8 @@ use Rattle.irs_terms.specs.declared.codes.DayKind.{DayKind}
 use Rattle.irs_terms.specs.declared.codes.DayKind.TheVariants.{Business, Calendar, Unsaid}
 use Rattle.irs_calendar.specs.GoodDays.{DaySet}
 use Rattle.irs_adjust.specs.Codes.{Adjusts}
-use Rattle.irs_adjust.specs.MovedDays.{MovesAndAdjusts, MovesNowhere, LacksResult, LeavesRange, no_move_of}
+use Rattle.irs_adjust.specs.MovedDays.{MovesAndAdjusts, MovesNowhere, LacksResult, LeavesRange}
+use Rattle.irs_adjust.specs.Private.MovedDays.{no_move_of}
 use Rattle.irs_adjust.specs.declared.moved.NoDate.TheVariants.{OutOfRange}
 use Rattle.irs_adjust.proofs.CodeLaws.{one_adjusts}
 use Rattle.irs_adjust.proofs.FoundDays.{InRange, decides_adjusts}

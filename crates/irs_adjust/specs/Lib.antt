@@ -4,3 +4,4 @@ pub mod Codes
 pub mod Ways
 pub mod Offsets
 pub mod MovedDays
+pub mod Private

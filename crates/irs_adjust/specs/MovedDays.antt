@@ -3,13 +3,10 @@
 use Rattle.std.specs.Prelude.{◌≡◌, ◌⊎◌, ℤ}
 use Rattle.irs_terms.specs.declared.adjustments.Offset.{Offset}
 use Rattle.irs_terms.specs.declared.codes.ConvCode.{ConvCode}
-use Rattle.irs_terms.specs.declared.codes.DayKind.{DayKind}
-use Rattle.irs_terms.specs.declared.codes.DayKind.TheVariants.{Business, Calendar, Unsaid}
+use Rattle.irs_terms.specs.declared.codes.DayKind.TheVariants.{Business, Calendar}
 use Rattle.irs_calendar.specs.GoodDays.{DaySet}
 use Rattle.irs_adjust.specs.Codes.{Adjusts}
 use Rattle.irs_adjust.specs.Offsets.{Moves}
-use Rattle.irs_adjust.specs.declared.moved.NoDate.{NoDate}
-use Rattle.irs_adjust.specs.declared.moved.NoDate.TheVariants.{NoResult, OutOfRange}
 
 -- r is the start moved by the offset, and then adjusted by the convention
 pub record MovesAndAdjusts (offset : Offset) (code : ConvCode) (set : DaySet) (start r : ℤ) : Type 0 where
@@ -35,9 +32,3 @@ LacksResult offset code set start =
 -- the Calendar offset leaves the range of dates, as K38 has it
 abbrev pub LeavesRange : Offset → DaySet → ℤ → Type 0
 LeavesRange offset set start = (offset.kind ≡ Calendar) × MovesNowhere offset set start
-
--- how it fails where the offset moves the start to no day; an offset of no kind is 0 and moves to one
-abbrev pub no_move_of : DayKind → NoDate
-no_move_of Business = NoResult
-no_move_of Calendar = OutOfRange
-no_move_of Unsaid = OutOfRange

@@ -2,17 +2,12 @@
 use Rattle.std.specs.Prelude.{◌≡◌, ℕ, zero, suc, ◌+◌, ℤ, pos, ◌+ℤ◌, ◌-ℤ◌, if◌then◌else◌}
 use Rattle.irs_adjust.specs.declared.ways.Way.{Way}
 use Rattle.irs_adjust.specs.declared.ways.Way.TheVariants.{Ahead, Back}
-use Rattle.irs_calendar.specs.GoodDays.{DaySet, InCover, IsGood, Next, Prev}
+use Rattle.irs_calendar.specs.GoodDays.{DaySet, InCover, IsGood}
 
 -- the day that lies n days after d, or before it
 abbrev pub away : Way → ℤ → ℕ → ℤ
 away Ahead d n = d +ℤ pos n
 away Back d n = d -ℤ pos n
-
--- r is the business day nearest to d on that side, d left out
-abbrev pub IsNextOn : Way → DaySet → ℤ → ℤ → Type 0
-IsNextOn Ahead s d r = Next s (d +ℤ pos 1) r
-IsNextOn Back s d r = Prev s (d -ℤ pos 1) r
 
 -- how many of the n days next to d on that side are business days, d left out
 abbrev pub good_days : Way → DaySet → ℤ → ℕ → ℕ

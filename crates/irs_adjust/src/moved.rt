@@ -2,7 +2,8 @@
 //! `paymentDaysOffset`, `paymentDatesAdjustments`), and so is a fixing date (FpML `fixingDates`).
 //! The order of the two steps is our rule.
 ghost use Rattle.std.specs.Prelude.{◌≡◌, ◌⊎◌, ℤ, IfOk, IsErrOf};
-ghost use Rattle.irs_adjust.specs.MovedDays.{MovesAndAdjusts, LacksResult, LeavesRange, no_move_of};
+ghost use Rattle.irs_adjust.specs.MovedDays.{MovesAndAdjusts, LacksResult, LeavesRange};
+ghost use Rattle.irs_adjust.specs.Private.MovedDays.{no_move_of};
 ghost use Rattle.irs_terms.specs.DayTypes.{IsSaid};
 
 use crate::by_code::adjust_by;

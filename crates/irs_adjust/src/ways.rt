@@ -5,7 +5,8 @@
 ghost use Rattle.std.specs.Prelude.{◌<◌, ℤ, IfSome, IfNone};
 ghost use Rattle.irs_base.specs.Days.{IsDay};
 ghost use Rattle.irs_calendar.specs.GoodDays.{InCover};
-ghost use Rattle.irs_adjust.specs.Ways.{IsNextOn, MovesOn};
+ghost use Rattle.irs_adjust.specs.Ways.{MovesOn};
+ghost use Rattle.irs_adjust.specs.Private.Ways.{IsNextOn};
 
 use irs_base::{Day, plus};
 use irs_calendar::GoodDays;

@@ -16,7 +16,8 @@ use Rattle.irs_schedule.proofs.OnePart.{schedule_determined}
 use Rattle.irs_accrue.specs.AccrualTexts.{accrual_text}
 use Rattle.irs_accrue.specs.DailyAccruals.{HasSpan, IsAccrualOf}
 use Rattle.irs_accrue.specs.declared.accruals.Accrual.{Accrual}
-use Rattle.irs_answers.specs.Accrued.{AccruesAt, Accruing, AreAccrued, IsAccruing, TellsAccrued, accrued_page}
+use Rattle.irs_answers.specs.Accrued.{AccruesAt, Accruing, AreAccrued, TellsAccrued, accrued_page}
+use Rattle.irs_answers.specs.Private.Accrued.{IsAccruing}
 
 module _ (x : Accruing) (d : ℤ) where
   one_accrued : (k : ℕ) (ps : List Part) (a b : List ℕ) → AreAccrued x d k ps a → AreAccrued x d k ps b → b ≡ a

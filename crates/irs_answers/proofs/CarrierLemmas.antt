@@ -20,7 +20,8 @@ use Rattle.irs_xml.specs.Document.{XmlReads}
 use Rattle.irs_xml.specs.Places.{PlaceIn, ReadsNone}
 use Rattle.irs_xml.specs.declared.reading.XmlErr.{XmlErr}
 use Rattle.irs_xml.specs.declared.reading.XmlErr.TheVariants as xml
-use Rattle.irs_answers.specs.Carried.{DueCarrier, MeansXml, ReadsBack, carrier_text}
+use Rattle.irs_answers.specs.Carried.{DueCarrier, ReadsBack, carrier_text}
+use Rattle.irs_answers.specs.Private.Carried.{MeansXml}
 use Rattle.irs_answers.specs.Forms.{json_text, xml_text}
 use Rattle.irs_answers.specs.Messages.{refused, unreadable}
 use Rattle.irs_answers.specs.Outcomes.{Ends, IfRefused, ReadFails, answer_of, of_json, of_read, of_xml}

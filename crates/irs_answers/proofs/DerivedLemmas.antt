@@ -36,7 +36,8 @@ use Rattle.irs_average.specs.declared.stubs.Side.TheVariants.{Initial, Last}
 use Rattle.irs_terms.specs.declared.amounts.StubRate.{StubRate}
 use Rattle.irs_terms.specs.declared.amounts.StubRate.TheVariants.{Index}
 use Rattle.irs_terms.specs.declared.amounts.StubTerms.{StubTerms}
-use Rattle.irs_answers.specs.Derived.{DueAveraged, DueCompounded, DueStub, FloatingStream, IsFloatingAt, IsUnfixed}
+use Rattle.irs_answers.specs.Derived.{DueAveraged, DueCompounded, DueStub, FloatingStream, IsFloatingAt}
+use Rattle.irs_answers.specs.Private.Derived.{IsUnfixed}
 use Rattle.irs_answers.specs.Derived.{NotFloating, PrintsOne, PrintsStub}
 use Rattle.irs_answers.specs.Messages.{refused}
 use Rattle.irs_answers.specs.Outcomes.{Ends, IfRefused, of_stopped}

@@ -56,7 +56,8 @@ use Rattle.irs_answers.specs.Due.{Spells, AreFixings, BadCalendars, BadFixings, 
 use Rattle.irs_answers.specs.Due.{HasSides, IsFixingsFault, KeepsTerms, SidesIf, Facts, facts, Answered, rates_for}
 use Rattle.irs_answers.specs.Due.{DueKept, DueDated, DueTerms, DueFixings, DueCalendars, DueSides, DueDocument, DueFor}
 use Rattle.irs_answers.specs.Due.{Passes}
-use Rattle.irs_answers.specs.Outcomes.{Answer, answer_of, of_read, of_stopped, Ends, FixingsFail, IfRefused, IfAnswered}
+use Rattle.irs_answers.specs.Outcomes.{Answer, answer_of, of_read, of_stopped, Ends, FixingsFail, IfRefused}
+use Rattle.irs_answers.specs.Private.Outcomes.{IfAnswered}
 use Rattle.irs_answers.specs.Outcomes.{IsRuleFirst, IsUnscheduled, IsScheduled, ReadFails}
 use Rattle.irs_answers.proofs.AccrueSame.{accrued_same}
 use Rattle.irs_answers.proofs.FirstLemmas.{one_first, one_fixings_fault, no_fixings}

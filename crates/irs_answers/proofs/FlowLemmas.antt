@@ -26,7 +26,8 @@ use Rattle.irs_breaks.specs.Findings.{Findings}
 use Rattle.irs_answers.specs.CashFlows.{BadFlows, DueBreaks, DueFlows, DueStated, DueVerdict, IsStatusOf, OfFlows}
 use Rattle.irs_answers.specs.Steps.{Is}
 use Rattle.irs_answers.specs.FlowMessages.{bad_flows, whole_document, verdict_status, verdict_text}
-use Rattle.irs_answers.specs.Outcomes.{Ends, FlowsRefused, IfRefused, SpellsFlows}
+use Rattle.irs_answers.specs.Outcomes.{Ends, IfRefused}
+use Rattle.irs_answers.specs.Private.Outcomes.{FlowsRefused, SpellsFlows}
 use Rattle.irs_answers.specs.Unread.{IsPlaced}
 use Rattle.irs_answers.proofs.DueLemmas.{one_reading}
 use Rattle.irs_answers.proofs.FirstLemmas.{one_first}

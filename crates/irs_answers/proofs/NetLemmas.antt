@@ -18,7 +18,7 @@ use Rattle.irs_net.specs.Parties.{SidesOf}
 use Rattle.irs_net.specs.declared.sides.Sides.{Sides}
 use Rattle.irs_answers.specs.Due.{Facts, Passes, SidesIf}
 use Rattle.irs_answers.specs.Given.{Given}
-use Rattle.irs_answers.specs.Netted.{IsSided}
+use Rattle.irs_answers.specs.Private.Netted.{IsSided}
 use Rattle.irs_answers.specs.declared.tasks.Task.TheVariants.{Net}
 
 same_ok : {A E : Type 0} (x y : A) → (let r : Result A E = Ok x in r ≡ Ok y) → x ≡ y

@@ -19,7 +19,8 @@ use Rattle.irs_answers.specs.Forms.{SourceText}
 use Rattle.irs_answers.specs.Given.{Given}
 use Rattle.irs_answers.specs.Notes.{IsAmountsNote, IsAmountsNoteIf, IsFixedNote, IsNoteOf, IsPassedNote, IsRefusalNote}
 use Rattle.irs_answers.specs.Notes.{IsUnfixed, fixing_of, made_by, place_of}
-use Rattle.irs_answers.specs.Replying.{IsCarriedOut, reply_status, reply_text}
+use Rattle.irs_answers.specs.Replying.{reply_status, reply_text}
+use Rattle.irs_answers.specs.Private.Replying.{IsCarriedOut}
 use Rattle.irs_answers.specs.Tasks.{states_amounts}
 use Rattle.irs_answers.specs.Unread.{IsPlaced, IsPlacedReply}
 use Rattle.irs_answers.specs.declared.causes.Cause.TheVariants.{Done, Uncompared}

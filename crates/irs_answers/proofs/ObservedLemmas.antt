@@ -45,9 +45,11 @@ use Rattle.irs_schedule.specs.Schedules.{IsPart}
 use Rattle.irs_schedule.specs.StreamResets.{FactorPassesAt, resets_by, resets_in}
 use Rattle.irs_schedule.proofs.LayoutRules.{layout_kept}
 use Rattle.irs_schedule.proofs.OnePart.{one_schedule, schedule_determined, schedule_is}
-use Rattle.irs_answers.specs.Accrued.{Accruing, IsAccruing, accruing}
+use Rattle.irs_answers.specs.Accrued.{Accruing, accruing}
+use Rattle.irs_answers.specs.Private.Accrued.{IsAccruing}
 use Rattle.irs_answers.specs.Messages.{refused}
-use Rattle.irs_answers.specs.Observed.{AreRowsIn, DailyStream, DueObservations, IsDailyAt, NotDaily, ShowsRows, daily_stream}
+use Rattle.irs_answers.specs.Observed.{AreRowsIn, DailyStream, DueObservations, IsDailyAt, NotDaily, ShowsRows}
+use Rattle.irs_answers.specs.Private.Observed.{daily_stream}
 use Rattle.irs_answers.specs.Observed.{no_daily_stream, source_in}
 use Rattle.irs_answers.specs.Outcomes.{Ends, IfRefused}
 use Rattle.irs_answers.specs.declared.refusals.Refusal.TheVariants.{Rule}

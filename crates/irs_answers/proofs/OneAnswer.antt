@@ -57,8 +57,9 @@ use Rattle.irs_daily.specs.declared.rows.ObservedRow.{ObservedRow}
 use Rattle.irs_answers.specs.Accrued.{Accruing, accruing}
 use Rattle.irs_answers.specs.Observed.{AreRowsIn, DueObservations, IsDailyAt, NotDaily, ShowsRows, no_daily_stream}
 use Rattle.irs_answers.specs.CashFlows.{BadFlows, DueBreaks, DueFlows, DueStated, DueVerdict, IsStatusOf, OfFlows}
-use Rattle.irs_answers.specs.Due.{Answered, AreFixings, BadCalendars, BadFixings}
-use Rattle.irs_answers.specs.Due.{BreaksSides, Facts, facts, HasSides, IsFixingsFault, IsOneDue, KeepsTerms, rates_for}
+use Rattle.irs_answers.specs.Due.{Answered, AreFixings, BadCalendars, BadFixings, BreaksSides, Facts, facts, HasSides}
+use Rattle.irs_answers.specs.Due.{IsFixingsFault, KeepsTerms, rates_for}
+use Rattle.irs_answers.specs.Private.Due.{IsOneDue}
 use Rattle.irs_answers.proofs.StubLemmas.{one_index}
 use Rattle.irs_answers.proofs.AccrueLemmas.{one_page}
 use Rattle.irs_answers.proofs.StepLemmas.{rules_both, step_both}

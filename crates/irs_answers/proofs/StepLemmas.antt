@@ -7,7 +7,8 @@ use Rattle.irs_answers.specs.declared.replies.Reply.{Reply}
 use Rattle.irs_answers.specs.Steps.{Step, Rules}
 use Rattle.irs_base.specs.Order.{Only}
 use Rattle.irs_answers.specs.Replying.{reply_status, reply_text}
-use Rattle.irs_answers.specs.Outcomes.{Answer, answer_of, IfRefused, IfAnswered, Ends}
+use Rattle.irs_answers.specs.Outcomes.{Answer, answer_of, IfRefused, Ends}
+use Rattle.irs_answers.specs.Private.Outcomes.{IfAnswered}
 
 -- a property of an answer gives another that follows from it
 pub some_more : (o : Option Answer) (P Q : ℕ → List ℕ → Type 0)

@@ -2,17 +2,13 @@
 use Rattle.std.specs.Prelude.{◌≡◌, ℕ, ◌+◌, ◌-◌, List, [], ◌∷◌, ◌++◌, Some, codes, slice_get, ℤ}
 use Rattle.irs_base.specs.Order.{Only}
 use Rattle.irs_base.specs.Texts.{day_text}
-use Rattle.irs_terms.specs.Lawful.{IsLawful}
 use Rattle.irs_terms.specs.declared.stream.Stream.{Stream}
 use Rattle.irs_terms.specs.declared.stream_list.Swap.{Swap}
 use Rattle.irs_calendar.specs.declared.sections.Section.{Section}
 use Rattle.irs_resets.specs.Rates.{RateTable}
-use Rattle.irs_rules.specs.TermsRules.{BreaksNone}
-use Rattle.irs_schedule.specs.DatedRules.{DatedKept}
 use Rattle.irs_schedule.specs.DaySets.{applicable_days}
 use Rattle.irs_schedule.specs.Parts.{Part}
 use Rattle.irs_schedule.specs.RowTexts.{footer}
-use Rattle.irs_schedule.specs.Schedules.{IsSchedule}
 use Rattle.irs_accrue.specs.AccrualTexts.{accrual_text}
 use Rattle.irs_accrue.specs.DailyAccruals.{IsAccrualOf}
 use Rattle.irs_accrue.specs.declared.accruals.Accrual.{Accrual}
@@ -26,13 +22,6 @@ pub record Accruing : Type 0 where
 -- a swap with these calendars and rates
 abbrev pub accruing : Swap → List Section → RateTable → Accruing
 accruing swap cal table = record { swap = swap; cal = cal; table = table }
-
--- a lawful swap breaks no rule, and this is its schedule
-pub record IsAccruing (x : Accruing) (parts : List Part) : Type 0 where
-  pub lawful : IsLawful x.swap
-  pub terms : BreaksNone x.swap x.cal
-  pub dated : DatedKept x.swap x.cal x.table
-  pub schedule : IsSchedule x.swap x.cal x.table parts
 
 -- what has accrued on d in the stream with this number, from 1, of which p is the part of the schedule
 pub record AccruesAt (x : Accruing) (d : ℤ) (number : ℕ) (p : Part) (a : Accrual) : Type 0 where

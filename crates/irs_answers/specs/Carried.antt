@@ -19,7 +19,3 @@ DueCarrier bytes status text =
 -- the text reads, as JSON, as the value that the bytes mean as FpML XML
 abbrev pub ReadsBack : List ℕ → List ℕ → Type 0
 ReadsBack bytes text = (v : Data) × XmlReads bytes v × Reads text v
-
--- some bytes mean the value as FpML XML
-abbrev pub MeansXml : Data → Type 0
-MeansXml v = (bytes : List ℕ) × XmlReads bytes v

@@ -1,5 +1,5 @@
 -- What a reply says, for the sentence about it; and when that is said of a status and a text.
-use Rattle.std.specs.Prelude.{◌≡◌, ℕ, ◌<◌, ◌==◌, List, Result, IfOk, if◌then◌else◌}
+use Rattle.std.specs.Prelude.{◌≡◌, ℕ, ◌<◌, ◌==◌, List, if◌then◌else◌}
 use Rattle.irs_audit.specs.declared.departures.Verdict.{Verdict}
 use Rattle.irs_audit.specs.declared.departures.Verdict.TheVariants.{Yes, No}
 use Rattle.irs_answers.specs.FlowMessages.{departure_text, verdict_text}
@@ -7,7 +7,6 @@ use Rattle.irs_answers.specs.Replying.{refusal_status, refusal_text}
 use Rattle.irs_answers.specs.Steps.{Is}
 use Rattle.irs_answers.specs.declared.causes.Cause.{Cause}
 use Rattle.irs_answers.specs.declared.causes.Cause.TheVariants.{Done, Uncompared, NotAgreed, Breaks, Refused}
-use Rattle.irs_answers.specs.declared.refusals.Refusal.{Refusal}
 use Rattle.irs_answers.specs.declared.replies.Reply.{Reply}
 use Rattle.irs_answers.specs.declared.replies.Reply.TheVariants as reply
 use Rattle.irs_answers.specs.declared.tasks.Task.{Task}
@@ -69,18 +68,3 @@ IsJudged (reply.Rows schedule) = ⊥
 IsJudged (reply.Breaks text) = ⊥
 IsJudged (reply.Verdict w) = Unit {0}
 IsJudged (reply.Refused r) = Unit {0}
-
--- the reply of an audit, if there is one, is a verdict or a refusal
-abbrev pub JudgedIf : Task → Result Reply Refusal → Type 0
-JudgedIf task.Check r = Unit {0}
-JudgedIf task.Schedule r = Unit {0}
-JudgedIf task.Audit r = IfOk r IsJudged
-JudgedIf (task.Breaks from) r = Unit {0}
-JudgedIf task.Emit r = Unit {0}
-JudgedIf task.EmitXml r = Unit {0}
-JudgedIf (task.Accrue date) r = Unit {0}
-JudgedIf task.Net r = Unit {0}
-JudgedIf (task.Observations stream) r = Unit {0}
-JudgedIf (task.Overnight stream) r = Unit {0}
-JudgedIf (task.Average stream mean step) r = Unit {0}
-JudgedIf (task.Interpolate stream side low high) r = Unit {0}

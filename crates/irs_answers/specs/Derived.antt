@@ -1,7 +1,6 @@
 -- What is due for the tasks that derive rates for a floating stream: their own rules, then a fixing file.
 use Rattle.std.specs.Prelude.{◌≡◌, ℕ, ◌-◌, ◌≤◌, List, [], ◌∷◌, Option, Some, None, slice_get}
 use Rattle.irs_base.specs.Order.{Only}
-use Rattle.irs_terms.specs.Lawful.{IsLawful}
 use Rattle.irs_terms.specs.declared.amounts.FloatTerms.{FloatTerms}
 use Rattle.irs_terms.specs.declared.amounts.Leg.TheVariants.{Floating}
 use Rattle.irs_terms.specs.declared.frequency.Frequency.{Frequency}
@@ -9,11 +8,8 @@ use Rattle.irs_terms.specs.declared.stream.Stream.{Stream}
 use Rattle.irs_terms.specs.declared.stream_list.Swap.{Swap}
 use Rattle.irs_calendar.specs.declared.sections.Section.{Section}
 use Rattle.irs_resets.specs.Rates.{RateTable}
-use Rattle.irs_rules.specs.TermsRules.{BreaksNone}
-use Rattle.irs_schedule.specs.DatedRules.{DatedKept}
 use Rattle.irs_schedule.specs.DaySets.{reset_days}
 use Rattle.irs_schedule.specs.Parts.{Part}
-use Rattle.irs_schedule.specs.Schedules.{IsSchedule}
 use Rattle.irs_overnight.specs.DerivedRules.{no_floating_stream}
 use Rattle.irs_overnight.specs.FileLaw.{file_text}
 use Rattle.irs_overnight.specs.Overnight.{Asked, IsFirstDerived, IsOvernight, OvernightKept, asked}
@@ -37,13 +33,6 @@ pub record IsFloatingAt (swap : Swap) (number : ℕ) (x : FloatingStream) : Type
   pub at : slice_get swap.streams (number - 1) ≡ Some x.stream
   pub pays : x.stream.leg ≡ Floating x.float
   pub plain : x.float.parameters ≡ None
-
--- a lawful swap breaks no rule without fixings, by these calendars, and this is its schedule
-pub record IsUnfixed (swap : Swap) (cal : List Section) (parts : List Part) : Type 0 where
-  pub lawful : IsLawful swap
-  pub terms : BreaksNone swap cal
-  pub dated : DatedKept swap cal []
-  pub schedule : IsSchedule swap cal [] parts
 
 -- K40: the swap has no such stream, or it is fixed, or it has calculationParameters
 abbrev pub NotFloating : ℕ → ℕ → List ℕ → Type 0

@@ -159,10 +159,6 @@ abbrev pub DueFor : Task → Given → ℕ → List ℕ → Type 0
 DueFor t g status text =
     Step (TextReads g.document) (Is 2 (refused unreadable) status text) (λ v. DueDocument t g v status text)
 
--- one status and one text are due for a task and its files
-abbrev pub IsOneDue : Task → Given → Type 0
-IsOneDue t g = (s u : ℕ) (x y : List ℕ) → DueFor t g s x → DueFor t g u y → (s ≡ u) × (x ≡ y)
-
 -- the text has a reading, it means the swap, and these are the sides that the task needs
 pub record Spells (t : Task) (document : SourceText) (swap : Swap) (sides : Option Sides) : Type 0 where
   pub value : Data

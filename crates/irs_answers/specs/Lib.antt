@@ -23,3 +23,4 @@ pub mod Listed
 pub mod Misfits
 pub mod Spots
 pub mod Notes
+pub mod Private

@@ -1,5 +1,5 @@
 -- The text of `net`: what falls due between the two parties, a line for each date and currency.
-use Rattle.std.specs.Prelude.{◌≡◌, ℕ, List, length, ◌++◌, codes, Option, Some}
+use Rattle.std.specs.Prelude.{◌≡◌, ℕ, List, ◌++◌, codes, Option, Some}
 use Rattle.std.specs.List.{flat_map}
 use Rattle.irs_base.specs.Order.{Only}
 use Rattle.irs_schedule.specs.Parts.{Part}
@@ -24,7 +24,3 @@ TellsNetOf sides parts text = (rows : List NetRow) × Only (Net parts sides.forw
 -- the sides were read, and the text has the rows of the only table of these sides
 abbrev pub TellsNet : Option Sides → List Part → List ℕ → Type 0
 TellsNet read parts text = (sides : Sides) × (read ≡ Some sides) × TellsNetOf sides parts text
-
--- the sides were read, one for each stream
-abbrev pub IsSided : Option Sides → List Part → Type 0
-IsSided read parts = (sides : Sides) × (read ≡ Some sides) × (sides.count ≡ length parts)

@@ -29,10 +29,6 @@ pub record DailyStream : Type 0 where
   pub float : FloatTerms
   pub parameters : CalculationParameters
 
--- a stream with these floating terms and calculation parameters
-abbrev pub daily_stream : Stream → FloatTerms → CalculationParameters → DailyStream
-daily_stream s float parameters = record { stream = s; float = float; parameters = parameters }
-
 -- the swap has it as the stream with that number, from 1
 pub record IsDailyAt (swap : Swap) (number : ℕ) (y : DailyStream) : Type 0 where
   pub from_one : 1 ≤ number

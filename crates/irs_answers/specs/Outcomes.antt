@@ -1,5 +1,5 @@
 -- What a task comes to: a reply, or a refusal.
-use Rattle.std.specs.Prelude.{◌⊎◌, ℕ, ◌<◌, List, Option, Some, None, IfSome, option_map, Result, Ok, Err}
+use Rattle.std.specs.Prelude.{◌⊎◌, ℕ, ◌<◌, List, Option, Some, None, IfSome, option_map}
 use Rattle.irs_base.specs.declared.places.Broken.{Broken}
 use Rattle.irs_base.specs.Order.{Only}
 use Rattle.irs_base.specs.declared.stopped.Stopped.{Stopped}
@@ -8,7 +8,7 @@ use Rattle.irs_json.specs.declared.JsonErr.{JsonErr}
 use Rattle.irs_json.specs.declared.JsonErr.TheVariants as json
 use Rattle.irs_xml.specs.declared.XmlErr.{XmlErr}
 use Rattle.irs_xml.specs.declared.XmlErr.TheVariants as xml
-use Rattle.irs_answers.specs.Forms.{IsUnread, TextReads, SourceText}
+use Rattle.irs_answers.specs.Forms.{IsUnread, SourceText}
 use Rattle.irs_answers.specs.declared.forms.ReadErr.{ReadErr}
 use Rattle.irs_answers.specs.declared.forms.ReadErr.TheVariants as reading
 use Rattle.irs_answers.specs.declared.forms.Unread.TheVariants as unread
@@ -23,19 +23,14 @@ use Rattle.irs_schedule.specs.DatedRules.{DatedKept, DatedBroken}
 use Rattle.irs_schedule.specs.Parts.{Part}
 use Rattle.irs_schedule.specs.Schedules.{IsSchedule}
 use Rattle.irs_terms.specs.declared.stream_list.Swap.{Swap}
-use Rattle.serde_json.specs.Data.{Data}
-use Rattle.irs_audit.specs.FlowParts.{FlowPart}
-use Rattle.irs_audit.specs.FlowReading.{FlowsOf, IsFirstFault}
 use Rattle.irs_audit.specs.declared.error.FlowErr.{FlowErr}
 use Rattle.irs_audit.specs.declared.error.FlowErr.TheVariants as flowing
 use Rattle.irs_audit.specs.declared.error.ShapeKind.TheVariants.{NotJson}
 use Rattle.irs_answers.specs.declared.refusals.Refusal.{Refusal}
 use Rattle.irs_answers.specs.declared.refusals.Refusal.TheVariants.{Rule, Calendars, Fixings, Flows, Memory}
 use Rattle.irs_answers.specs.declared.refusals.Refusal.TheVariants.{Unreadable, UnreadableFlows}
-use Rattle.irs_answers.specs.declared.replies.Reply.{Reply}
 use Rattle.irs_answers.specs.Messages.{refused, unreadable, bad_calendar, bad_fixings}
 use Rattle.irs_answers.specs.FlowMessages.{bad_flows, whole_document}
-use Rattle.irs_answers.specs.Replying.{reply_status, reply_text}
 use Rattle.irs_answers.specs.Due.{KeepsTerms, IsFixingsFault}
 use Rattle.irs_answers.specs.Steps.{Is}
 
@@ -92,11 +87,6 @@ answer_of Memory = None
 abbrev pub IfRefused : Refusal → (ℕ → List ℕ → Type 0) → Type 0
 IfRefused r P = IfSome (answer_of r) (λ a. P a.0 a.1)
 
--- P holds of the answer, if there is one
-abbrev pub IfAnswered : Result Reply Refusal → (ℕ → List ℕ → Type 0) → Type 0
-IfAnswered (Ok o) P = P (reply_status o) (reply_text o)
-IfAnswered (Err r) P = IfRefused r P
-
 -- P holds of the status and the text, and the status is none of those of bad words, a fetch or a write
 pub record Ends (P : ℕ → List ℕ → Type 0) (status : ℕ) (text : List ℕ) : Type 0 where
   pub due : P status text
@@ -108,28 +98,10 @@ FixingsFail bytes (fixing.Syntax line) = IsFixingsFault bytes (fixing.Syntax lin
 FixingsFail bytes (fixing.Repeat line) = IsFixingsFault bytes (fixing.Repeat line)
 FixingsFail bytes fixing.Memory = Unit {0}
 
--- the text has a reading, and it states the flows
-abbrev pub SpellsFlows : SourceText → List FlowPart → Type 0
-SpellsFlows w flows = (v : Data) × TextReads w v × FlowsOf v flows
-
 -- an error of reading a text reports how it has no reading, or that memory ran out
 abbrev pub ReadFails : SourceText → ReadErr → Type 0
 ReadFails w (reading.Unreadable u) = IsUnread w u
 ReadFails w reading.Memory = Unit {0}
-
--- an error of flows that have a reading reports its first fault, or that memory ran out
-abbrev pub FlowsFail : SourceText → FlowErr → Type 0
-FlowsFail w e = (v : Data) × TextReads w v × IsFirstFault v e
-
--- a refusal of flows reports how they have no reading, their first fault, or that memory ran out
-abbrev pub FlowsRefused : SourceText → Refusal → Type 0
-FlowsRefused w (Unreadable u) = ⊥
-FlowsRefused w (Rule b) = ⊥
-FlowsRefused w (Calendars e) = ⊥
-FlowsRefused w (Fixings e) = ⊥
-FlowsRefused w (UnreadableFlows u) = IsUnread w u
-FlowsRefused w (Flows e) = FlowsFail w e
-FlowsRefused w Memory = Unit {0}
 
 -- no rule of the swap is broken, and the schedule is the only one
 pub record IsScheduled (swap : Swap) (cal : List Section) (table : RateTable) (s : List Part) : Type 0 where

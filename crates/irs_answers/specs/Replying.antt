@@ -70,11 +70,3 @@ reply_text (Rows schedule) = text_of schedule
 reply_text (Breaks text) = text.items
 reply_text (Verdict w) = verdict_text w
 reply_text (Refused r) = refusal_text r
-
--- the task is carried out: the reply is no refusal
-abbrev pub IsCarriedOut : Reply → Type 0
-IsCarriedOut (Text text) = Unit {0}
-IsCarriedOut (Rows schedule) = Unit {0}
-IsCarriedOut (Breaks text) = Unit {0}
-IsCarriedOut (Verdict w) = Unit {0}
-IsCarriedOut (Refused r) = ⊥

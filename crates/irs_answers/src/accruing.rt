@@ -4,7 +4,8 @@ ghost use Rattle.std.specs.Prelude.{◌≡◌, ◌+◌, ◌<◌, Some, length, s
 ghost use Rattle.irs_base.specs.Order.{Only};
 ghost use Rattle.irs_schedule.specs.Parts.{Part};
 ghost use Rattle.irs_accrue.specs.Accruals.{HasPlaces};
-ghost use Rattle.irs_answers.specs.Accrued.{AccruesAt, IsAccruing, TellsAccrued, accrued_header, accruing};
+ghost use Rattle.irs_answers.specs.Accrued.{AccruesAt, TellsAccrued, accrued_header, accruing};
+ghost use Rattle.irs_answers.specs.Private.Accrued.{IsAccruing};
 
 use crate::due::Found;
 use irs_accrue::{Accrual, accrued_of, accrued_text};

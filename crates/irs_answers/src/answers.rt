@@ -2,19 +2,22 @@
 ghost use Rattle.std.specs.Prelude.{◌≡◌, IfOk};
 ghost use Rattle.irs_emit.specs.Emitted.{emit_text};
 ghost use Rattle.irs_emit_xml.specs.Flows.{flows_text};
-ghost use Rattle.irs_answers.specs.Accrued.{IsAccruing, TellsAccrued, accruing};
+ghost use Rattle.irs_answers.specs.Accrued.{TellsAccrued, accruing};
+ghost use Rattle.irs_answers.specs.Private.Accrued.{IsAccruing};
 ghost use Rattle.irs_answers.specs.CashFlows.{DueFlows, DueVerdict};
-ghost use Rattle.irs_answers.specs.Causes.{IsJudged, JudgedIf};
+ghost use Rattle.irs_answers.specs.Causes.{IsJudged};
+ghost use Rattle.irs_answers.specs.Private.Causes.{JudgedIf};
 ghost use Rattle.irs_answers.specs.Due.{Answered, Passes};
 ghost use Rattle.irs_answers.specs.Forms.{source_by};
 ghost use Rattle.irs_answers.specs.Found.{facts_by};
 ghost use Rattle.irs_answers.specs.Given.{given_with};
 ghost use Rattle.irs_answers.specs.Messages.{all_kept};
-ghost use Rattle.irs_answers.specs.Outcomes.{Ends, IfAnswered};
-ghost use Rattle.irs_answers.specs.Replying.{IsCarriedOut};
+ghost use Rattle.irs_answers.specs.Outcomes.{Ends};
+ghost use Rattle.irs_answers.specs.Private.Outcomes.{IfAnswered};
+ghost use Rattle.irs_answers.specs.Private.Replying.{IsCarriedOut};
 ghost use Rattle.irs_answers.specs.Steps.{Is};
 ghost use Rattle.irs_answers.specs.Tasks.{IsLawfulTask};
-ghost use Rattle.irs_answers.specs.Unread.{AllPlaced, FlowsAlone, NoneUnread};
+ghost use Rattle.irs_answers.specs.Private.Unread.{AllPlaced, FlowsAlone, NoneUnread};
 ghost use Rattle.irs_terms.specs.Lawful.{IsLawful};
 
 use crate::accruing::accrued_page;

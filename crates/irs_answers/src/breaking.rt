@@ -2,9 +2,11 @@
 ghost use Rattle.std.specs.Prelude.{◌≡◌, IfOk};
 ghost use Rattle.irs_answers.specs.CashFlows.{DueBreaks, DueFlows, IsStatusOf};
 ghost use Rattle.irs_answers.specs.Forms.{source_by};
-ghost use Rattle.irs_answers.specs.Outcomes.{Ends, IfAnswered};
-ghost use Rattle.irs_answers.specs.Replying.{IsCarriedOut, reply_status, reply_text};
-ghost use Rattle.irs_answers.specs.Unread.{FlowsAlone, IsPlain};
+ghost use Rattle.irs_answers.specs.Outcomes.{Ends};
+ghost use Rattle.irs_answers.specs.Private.Outcomes.{IfAnswered};
+ghost use Rattle.irs_answers.specs.Replying.{reply_status, reply_text};
+ghost use Rattle.irs_answers.specs.Private.Replying.{IsCarriedOut};
+ghost use Rattle.irs_answers.specs.Private.Unread.{FlowsAlone, IsPlain};
 
 use crate::flows::stated_flows;
 use crate::forms::Source;

@@ -7,10 +7,11 @@ ghost use Rattle.irs_average.specs.Averages.{most_step};
 ghost use Rattle.irs_overnight.specs.DerivedRules.{no_floating_stream};
 ghost use Rattle.irs_overnight.specs.FileLaw.{file_text};
 ghost use Rattle.irs_answers.specs.Derived.{DueAverage, DueInterpolate, DueOvernight, FloatingStream, IsFloatingAt};
-ghost use Rattle.irs_answers.specs.Derived.{IsUnfixed};
-ghost use Rattle.irs_answers.specs.Outcomes.{Ends, IfAnswered};
-ghost use Rattle.irs_answers.specs.Replying.{IsCarriedOut};
-ghost use Rattle.irs_answers.specs.Unread.{NoneUnread};
+ghost use Rattle.irs_answers.specs.Private.Derived.{IsUnfixed};
+ghost use Rattle.irs_answers.specs.Outcomes.{Ends};
+ghost use Rattle.irs_answers.specs.Private.Outcomes.{IfAnswered};
+ghost use Rattle.irs_answers.specs.Private.Replying.{IsCarriedOut};
+ghost use Rattle.irs_answers.specs.Private.Unread.{NoneUnread};
 
 use crate::due::Found;
 use crate::refusals::Refusal;

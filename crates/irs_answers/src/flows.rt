@@ -3,8 +3,9 @@ ghost use Rattle.std.specs.Prelude.{IfOk, IfErr};
 ghost use Rattle.irs_answers.specs.CashFlows.{DueFlows, DueVerdict};
 ghost use Rattle.irs_answers.specs.Forms.{source_by};
 ghost use Rattle.irs_answers.specs.FlowMessages.{verdict_status, verdict_text};
-ghost use Rattle.irs_answers.specs.Outcomes.{Ends, FlowsRefused, IfRefused, SpellsFlows};
-ghost use Rattle.irs_answers.specs.Unread.{IsOfFlows};
+ghost use Rattle.irs_answers.specs.Outcomes.{Ends, IfRefused};
+ghost use Rattle.irs_answers.specs.Private.Outcomes.{FlowsRefused, SpellsFlows};
+ghost use Rattle.irs_answers.specs.Private.Unread.{IsOfFlows};
 
 use crate::forms::{ReadErr, Source, read_document};
 use crate::refusals::Refusal;

@@ -3,10 +3,12 @@
 ghost use Rattle.std.specs.Prelude.{◌≡◌, Some, length, IfOk};
 ghost use Rattle.irs_base.specs.Members.{Every};
 ghost use Rattle.irs_net.specs.Nets.{HasPlaces};
-ghost use Rattle.irs_answers.specs.Netted.{IsSided, TellsNet, TellsNetOf, net_page};
-ghost use Rattle.irs_answers.specs.Outcomes.{Ends, IfAnswered};
-ghost use Rattle.irs_answers.specs.Replying.{IsCarriedOut};
-ghost use Rattle.irs_answers.specs.Unread.{NoneUnread};
+ghost use Rattle.irs_answers.specs.Netted.{TellsNet, TellsNetOf, net_page};
+ghost use Rattle.irs_answers.specs.Private.Netted.{IsSided};
+ghost use Rattle.irs_answers.specs.Outcomes.{Ends};
+ghost use Rattle.irs_answers.specs.Private.Outcomes.{IfAnswered};
+ghost use Rattle.irs_answers.specs.Private.Replying.{IsCarriedOut};
+ghost use Rattle.irs_answers.specs.Private.Unread.{NoneUnread};
 
 use crate::due::Found;
 use crate::refusals::Refusal;

@@ -6,8 +6,9 @@ ghost use Rattle.irs_answers.specs.Outcomes.{answer_of};
 ghost use Rattle.irs_answers.specs.declared.refusals.Refusal.TheVariants.{Calendars as OfCalendars, Fixings as OfFixings};
 ghost use Rattle.irs_answers.specs.declared.refusals.Refusal.TheVariants.{Flows as OfFlows};
 ghost use Rattle.irs_answers.specs.declared.replies.Reply.TheVariants.{Refused};
-ghost use Rattle.irs_answers.specs.Unread.{IsPlain};
-ghost use Rattle.irs_answers.specs.Replying.{IsCarriedOut, reply_status, reply_text};
+ghost use Rattle.irs_answers.specs.Private.Unread.{IsPlain};
+ghost use Rattle.irs_answers.specs.Replying.{reply_status, reply_text};
+ghost use Rattle.irs_answers.specs.Private.Replying.{IsCarriedOut};
 ghost use Rattle.irs_answers.specs.Replying.{calendars_text, fixings_text, flows_text, refusal_text};
 
 use crate::flow_messages::{bad_flows_line, departure_line, not_read_line, yes_line};

@@ -19,7 +19,8 @@ use Rattle.irs_schedule.specs.Parts.{Part, Covers, KeepsBounds, IsAmount, HasAmo
 use Rattle.irs_schedule.specs.PeriodViews.{period_at, dated_period}
 use Rattle.irs_schedule.proofs.PlaceLemmas.{decimals_few}
 use Rattle.irs_schedule.proofs.WalkLemmas.{covers_within}
-use Rattle.irs_audit.specs.Comparisons.{IsSmall, IsPayment}
+use Rattle.irs_audit.specs.Comparisons.{IsSmall}
+use Rattle.irs_audit.specs.Private.Comparisons.{IsPayment}
 use Rattle.irs_daycount.specs.Actual.{act_act_denominator}
 use Rattle.irs_base.proofs.MemberLemmas.{every_get}
 use Rattle.irs_base.specs.Members.{Every}

@@ -2,7 +2,7 @@
 use Rattle.irs_audit.proofs.FlowRules.{of_flows, told}
 use Rattle.irs_audit.specs.FlowFaults.{FlowFault, OnceFault, StreamFault, StreamsFault, SwapFault, at, below, in_stream}
 use Rattle.irs_audit.specs.FlowFaults.{many_periods, many_streams, payments_in, periods_of}
-use Rattle.irs_audit.specs.FlowMeaning.{AllHaveFewPeriods, HasFewPeriods}
+use Rattle.irs_audit.specs.Private.FlowMeaning.{AllHaveFewPeriods, HasFewPeriods}
 use Rattle.irs_audit.specs.FlowReading.{IsFirstFault, kind_of}
 use Rattle.irs_audit.specs.declared.error.FlowErr.TheVariants.{Shape}
 use Rattle.irs_base.specs.Elements.{cashflows, flow_period, swap_stream}

@@ -11,7 +11,7 @@ use Rattle.irs_base.specs.declared.places.Broken.{Broken}
 use Rattle.irs_base.specs.declared.places.Rule.{Rule}
 use Rattle.irs_base.specs.declared.places.Rule.TheVariants.{K2, K3, K4, K5, K6, K7}
 use Rattle.irs_elements.proofs.TableRules.{of_table}
-use Rattle.irs_elements.specs.Elements.{IsOfTables}
+use Rattle.irs_elements.specs.Private.Elements.{IsOfTables}
 use Rattle.irs_elements.specs.Find.{values_in}
 use Rattle.irs_json.specs.Names.{names_of}
 use Rattle.irs_read.specs.Documents.{Way, by_root, document_below, has, one_object, one_swap, onward, swap_below}

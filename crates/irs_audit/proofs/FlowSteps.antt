@@ -8,7 +8,7 @@ use Rattle.irs_base.specs.declared.places.Broken.{Broken}
 use Rattle.irs_base.specs.declared.places.Rule.TheVariants.{K2, K3, K7}
 use Rattle.irs_elements.proofs.First.{first_is, first_one, first_or, first_same}
 use Rattle.irs_elements.proofs.Steps.{first_if}
-use Rattle.irs_elements.specs.Elements.{fault_if}
+use Rattle.irs_elements.specs.Private.Elements.{fault_if}
 use Rattle.irs_json.specs.Names.{names_of}
 use Rattle.irs_read.specs.Documents.{the_swap}
 use Rattle.irs_read.specs.Swaps.{Among}

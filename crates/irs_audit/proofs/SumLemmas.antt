@@ -13,7 +13,7 @@ use Rattle.irs_base.specs.declared.line.Dec.{Dec}
 use Rattle.irs_schedule.specs.Parts.{Part, KeepsBounds, IsWithin}
 use Rattle.irs_schedule.specs.declared.entries.PaymentEntry.{PaymentEntry}
 use Rattle.irs_schedule.specs.declared.entries.PeriodEntry.{PeriodEntry}
-use Rattle.irs_audit.specs.Comparisons.{IsStatableDec}
+use Rattle.irs_audit.specs.Private.Comparisons.{IsStatableDec}
 use Rattle.irs_audit.specs.StatedFlows.{stated_amount}
 use Rattle.irs_audit.specs.Sums.{days_from, known_or_zero, most_amount, paid_from, payment_rows}
 use Rattle.irs_audit.proofs.BoundLemmas.{payments_few}

@@ -19,7 +19,7 @@ use Rattle.irs_terms.specs.declared.results.Frac.{Frac}
 use Rattle.irs_audit.specs.declared.flows.StatedFraction.{StatedFraction}
 use Rattle.irs_audit.specs.StatedValues.{IsNumber, IsFraction}
 use Rattle.irs_base.specs.Limits.{most_numerator}
-use Rattle.irs_audit.specs.Comparisons.{most_scaled}
+use Rattle.irs_audit.specs.Private.Comparisons.{most_scaled}
 
 cancel : (a b p : ℕ) → 0 < p → a * p ≡ b * p → a ≡ b
 cancel a b p some e =

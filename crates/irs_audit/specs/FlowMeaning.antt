@@ -6,7 +6,6 @@ use Rattle.irs_audit.specs.declared.flows.FlowPayment.{FlowPayment}
 use Rattle.irs_audit.specs.declared.flows.FlowPeriod.{FlowPeriod}
 use Rattle.irs_audit.specs.declared.flows.FlowReset.{FlowReset}
 use Rattle.irs_audit.specs.declared.flows.StatedFraction.{StatedFraction}
-use Rattle.irs_base.specs.Limits.{most_rows}
 use Rattle.irs_base.specs.declared.line.Dec.{Dec}
 use Rattle.irs_elements.specs.Codes.{either}
 use Rattle.irs_elements.specs.Dates.{day_at}
@@ -16,7 +15,7 @@ use Rattle.irs_elements.specs.Numbers.{amount_at, whole_at}
 use Rattle.irs_elements.specs.Words.{currency_at}
 use Rattle.irs_read.specs.Readings.{said}
 use Rattle.serde_json.specs.Data.{Data}
-use Rattle.std.specs.Prelude.{◌≡◌, ◌≤◌, ℕ, List, length, map, slice_get, ℤ, Option, Some, option_map, codes}
+use Rattle.std.specs.Prelude.{List, length, map, ℤ, Option, Some, option_map, codes}
 
 -- the fields of a principal exchange
 abbrev pub exchange_in : Data → FlowExchange
@@ -84,14 +83,6 @@ flows_in o = record {
 -- the flows of a stream
 abbrev pub stream_in : Data → FlowPart
 stream_in d = flows_in (once (codes "cashflows") d)
-
--- a stream has no more calculation periods than the limit
-abbrev pub HasFewPeriods : Data → Type 0
-HasFewPeriods d = length (periods_of (payments_in (once (codes "cashflows") d))) ≤ most_rows
-
--- each of these streams has no more calculation periods than the limit
-abbrev pub AllHaveFewPeriods : List Data → Type 0
-AllHaveFewPeriods ds = (j : ℕ) (d : Data) → slice_get ds j ≡ Some d → HasFewPeriods d
 
 -- the flows of a swap
 abbrev pub streams_in : Data → List FlowPart

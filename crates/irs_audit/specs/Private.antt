@@ -1,3 +1,5 @@
+pub mod FlowMeaning
+pub mod Comparisons
 pub mod FieldTables
 pub mod RowSets
 pub mod StreamSets

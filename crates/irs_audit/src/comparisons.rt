@@ -4,7 +4,8 @@ ghost use Rattle.std.specs.Prelude.{◌≡◌, ◌^◌, ◌≤◌, pos, ◌*ℤ�
 ghost use Rattle.irs_base.specs.Limits.{most_numerator};
 ghost use Rattle.std.specs.Int.{int_div_euclid, int_rem_euclid};
 ghost use Rattle.irs_audit.specs.StatedValues.{IsNumber, IsAmount, IsFraction, StatedWrongly, NotStatedRightly};
-ghost use Rattle.irs_audit.specs.Comparisons.{IsSmall, most_scaled};
+ghost use Rattle.irs_audit.specs.Comparisons.{IsSmall};
+ghost use Rattle.irs_audit.specs.Private.Comparisons.{most_scaled};
 
 use crate::StatedFraction;
 use irs_base::{Day, Dec, Direction, round};

@@ -9,7 +9,8 @@ ghost use Rattle.irs_audit.specs.FlowFaults.{has_both_rates as has_both_rates_of
 ghost use Rattle.irs_audit.specs.FlowFaults.{has_calculated_rate as has_calculated_rate_of, is_sound as is_sound_of};
 ghost use Rattle.irs_audit.specs.FlowFaults.{payments_in, periods_of, sole as sole_of};
 ghost use Rattle.irs_base.specs.Elements.{flow_period};
-ghost use Rattle.irs_elements.specs.Elements.{fault_if, is_odd as is_odd_of};
+ghost use Rattle.irs_elements.specs.Elements.{is_odd as is_odd_of};
+ghost use Rattle.irs_elements.specs.Private.Elements.{fault_if};
 ghost use Rattle.irs_elements.specs.Find.{seen};
 ghost use Rattle.irs_json.specs.Carrier.{child_of};
 ghost use Rattle.irs_read.specs.Swaps.{Among};

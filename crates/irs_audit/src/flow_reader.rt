@@ -1,10 +1,11 @@
 //! Reading cash flows: the flows that a document states, or its first fault.
-ghost use Rattle.irs_elements.specs.Elements.{IsOfTables};
+ghost use Rattle.irs_elements.specs.Private.Elements.{IsOfTables};
 ghost use Rattle.irs_elements.specs.Find.{values_in};
 ghost use Rattle.irs_audit.specs.FlowBounds.{FlowsAreWithin};
 ghost use Rattle.irs_audit.specs.FlowOutcomes.{HidesNone, flows_of_document};
 ghost use Rattle.irs_base.specs.Outcomes.{Determined};
-ghost use Rattle.irs_audit.specs.FlowMeaning.{AllHaveFewPeriods, stream_in, streams_in};
+ghost use Rattle.irs_audit.specs.FlowMeaning.{stream_in, streams_in};
+ghost use Rattle.irs_audit.specs.Private.FlowMeaning.{AllHaveFewPeriods};
 ghost use Rattle.irs_audit.specs.FlowParts.{FlowPart};
 ghost use Rattle.irs_audit.specs.FlowReading.{FlowsOf, IsFirstFault, kind_of as kind_by};
 ghost use Rattle.irs_audit.specs.FlowsStated.{EachFlowStated};

@@ -1,7 +1,8 @@
 //! The rows of cash flows: exchanges, payments with their calculation periods, and resets.
 ghost use Rattle.irs_audit.specs.FlowFaults.{payments_in, periods_in, periods_of};
 ghost use Rattle.irs_base.specs.Limits.{most_rows};
-ghost use Rattle.irs_audit.specs.FlowMeaning.{HasFewPeriods, exchange_in, flows_in, payment_in, period_in, period_with};
+ghost use Rattle.irs_audit.specs.FlowMeaning.{exchange_in, flows_in, payment_in, period_in, period_with};
+ghost use Rattle.irs_audit.specs.Private.FlowMeaning.{HasFewPeriods};
 ghost use Rattle.irs_audit.specs.FlowMeaning.{reset_at, reset_in, stream_in};
 ghost use Rattle.irs_elements.specs.Codes.{either};
 ghost use Rattle.irs_elements.specs.Find.{seen};

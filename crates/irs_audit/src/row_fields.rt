@@ -1,7 +1,8 @@
 //! The first field of a row that departs: each kind of rows is a table of its fields in order, with
 //! whether each departs.
 ghost use Rattle.std.specs.Prelude.{◌≡◌, ◌+◌, ◌-◌, ◌≤◌, IfSome, IsTrue, ◌↔◌};
-ghost use Rattle.irs_audit.specs.Comparisons.{IsSmall, IsPayment};
+ghost use Rattle.irs_audit.specs.Comparisons.{IsSmall};
+ghost use Rattle.irs_audit.specs.Private.Comparisons.{IsPayment};
 ghost use Rattle.irs_audit.specs.DepartureOrder.{field_before};
 ghost use Rattle.irs_audit.specs.FieldDepartures.{ExchangeDeparts, PaymentDeparts, PeriodDeparts, ResetDeparts};
 ghost use Rattle.irs_audit.specs.Private.FieldTables.{first_true};

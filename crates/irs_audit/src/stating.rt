@@ -3,8 +3,9 @@
 ghost use Rattle.std.specs.Prelude.{◌≡◌, ◌+◌, ◌-◌, ◌<◌, ◌*◌, ◌^◌, ◌*ℤ◌, unsigned_abs, map};
 ghost use Rattle.std.specs.Prelude.{option_map, slice_get, IfOk, IfSome};
 ghost use Rattle.irs_audit.specs.Agreement.{Agrees};
-ghost use Rattle.irs_audit.specs.Comparisons.{IsPayment, IsSmall, IsStatable, IsStatableDec, IsStatablePeriod};
-ghost use Rattle.irs_audit.specs.Comparisons.{IsStatableRate};
+ghost use Rattle.irs_audit.specs.Comparisons.{IsSmall};
+ghost use Rattle.irs_audit.specs.Private.Comparisons.{IsPayment, IsStatable, IsStatableDec, IsStatablePeriod};
+ghost use Rattle.irs_audit.specs.Private.Comparisons.{IsStatableRate};
 ghost use Rattle.irs_audit.specs.StatedFlows.{period_with, stated_amount, stated_exchange, stated_flows};
 ghost use Rattle.irs_audit.specs.StatedFlows.{stated_fraction, stated_number, stated_part, stated_payment};
 ghost use Rattle.irs_audit.specs.StatedFlows.{stated_periods_from, stated_reset};

@@ -2,7 +2,7 @@
 ghost use Rattle.std.specs.Prelude.{◌≡◌, ◌+◌, ◌*◌, ◌<◌, ◌≤◌, ◌^◌, ◌+ℤ◌, pos, length, unsigned_abs, slice_get, sum_by};
 ghost use Rattle.std.specs.Prelude.{IfSome};
 ghost use Rattle.irs_base.specs.Limits.{most_streams};
-ghost use Rattle.irs_audit.specs.Comparisons.{IsStatableDec};
+ghost use Rattle.irs_audit.specs.Private.Comparisons.{IsStatableDec};
 ghost use Rattle.irs_audit.specs.Sums.{all_days_from, days_from, known_or_zero, most_amount, most_of_stream, paid_from};
 ghost use Rattle.irs_audit.specs.Sums.{payment_rows, sums_in, total_from};
 

@@ -12,7 +12,7 @@ use Rattle.irs_base.proofs.Firsts.{one_first}
 use Rattle.irs_terms.specs.declared.amounts.FloatTerms.{FloatTerms}
 use Rattle.irs_schedule.specs.Parts.{KeepsBounds, Part, Rises}
 use Rattle.irs_overnight.specs.DerivedRules.{NotAfter, derived_before, not_after_at}
-use Rattle.irs_overnight.specs.FileLaw.{IsInRange}
+use Rattle.irs_overnight.specs.Private.FileLaw.{IsInRange}
 use Rattle.irs_overnight.specs.Sources.{PaysFloating}
 use Rattle.irs_overnight.specs.declared.derived.DerivedRow.{DerivedRow}
 use Rattle.irs_overnight.specs.declared.derived.Found.{Found}

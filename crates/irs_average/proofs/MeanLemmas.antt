@@ -12,7 +12,8 @@ use Rattle.irs_overnight.specs.declared.derived.Found.{Found}
 use Rattle.irs_overnight.specs.declared.derived.Found.TheVariants.{Rate, Missing}
 use Rattle.irs_overnight.specs.declared.observations.Observation.{Observation}
 use Rattle.irs_overnight.proofs.ObservationLemmas.{known_or}
-use Rattle.irs_average.specs.Means.{IsMean, IsWithin, LiesAmong, ShareOut, counted, divisor, rate_in, sum_over}
+use Rattle.irs_average.specs.Means.{IsMean, IsWithin, LiesAmong, counted, divisor, rate_in, sum_over}
+use Rattle.irs_average.specs.Private.Means.{ShareOut}
 use Rattle.irs_average.specs.MeanPeriods.{IsMeanFound}
 use Rattle.irs_average.specs.declared.means.Mean.{Mean}
 use Rattle.irs_average.specs.declared.means.Mean.TheVariants.{Plain, Weighted}

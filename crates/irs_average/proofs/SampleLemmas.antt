@@ -15,7 +15,8 @@ use Rattle.irs_adjust.proofs.FoundDays.{decides_prev}
 use Rattle.irs_overnight.specs.Private.Bounds.{IsSmall}
 use Rattle.irs_overnight.specs.Sources.{RateLines, rate_by}
 use Rattle.irs_overnight.specs.declared.observations.Observation.{Observation}
-use Rattle.irs_average.specs.Means.{ShareOut, sum_over}
+use Rattle.irs_average.specs.Means.{sum_over}
+use Rattle.irs_average.specs.Private.Means.{ShareOut}
 use Rattle.irs_average.specs.Samples.{AreSamples, IsSample, LacksSample, step_day, step_end}
 use Rattle.irs_average.proofs.StepCounts.{before_end, multiples_below, one_count}
 

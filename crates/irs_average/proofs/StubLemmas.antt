@@ -28,7 +28,8 @@ use Rattle.irs_overnight.proofs.SourceLemmas.{partner, same_stream, some_part}
 use Rattle.irs_average.specs.Interpolations.{BreaksStub, BreaksTenors, IsInterpolated, IsStubBroken, LiesAmongTwo}
 use Rattle.irs_average.specs.Interpolations.{StubKept, outside_at}
 use Rattle.irs_average.specs.StubRates.{IsStubRow, StubSource, tenor_rate}
-use Rattle.irs_average.specs.Stubs.{GivesIndex, GivesOn, HasStub, IsStubAsked, IsStubOn, Stub, StubAsked, number_on}
+use Rattle.irs_average.specs.Stubs.{GivesIndex, GivesOn, HasStub, IsStubAsked, IsStubOn, Stub, StubAsked}
+use Rattle.irs_average.specs.Private.Stubs.{number_on}
 use Rattle.irs_average.specs.Stubs.{stub_source}
 use Rattle.irs_average.specs.declared.stubs.Side.{Side}
 use Rattle.irs_average.specs.declared.stubs.Side.TheVariants.{Initial, Last}

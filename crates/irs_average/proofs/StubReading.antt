@@ -11,13 +11,15 @@ use Rattle.irs_terms.specs.declared.amounts.StubRate.TheVariants.{Index}
 use Rattle.irs_terms.specs.declared.amounts.StubTerms.{StubTerms}
 use Rattle.irs_terms.specs.declared.frequency.Frequency.{Frequency}
 use Rattle.irs_schedule.specs.Parts.{KeepsBounds}
-use Rattle.irs_overnight.specs.FileLaw.{AreKept, IsInRange}
+use Rattle.irs_overnight.specs.FileLaw.{AreKept}
+use Rattle.irs_overnight.specs.Private.FileLaw.{IsInRange}
 use Rattle.irs_overnight.specs.Reading.{IsLawfulLine}
 use Rattle.irs_overnight.specs.declared.derived.DerivedRow.{DerivedRow}
 use Rattle.irs_overnight.proofs.FileRead.{are_fixings}
 use Rattle.irs_overnight.proofs.SourceLemmas.{every_at}
 use Rattle.irs_average.specs.Interpolations.{IsInterpolated, StubReadsBack}
-use Rattle.irs_average.specs.Stubs.{GivesOn, HasStub, IsStubAsked, Stub, StubAsked, number_on}
+use Rattle.irs_average.specs.Stubs.{GivesOn, HasStub, IsStubAsked, Stub, StubAsked}
+use Rattle.irs_average.specs.Private.Stubs.{number_on}
 use Rattle.irs_average.specs.declared.stubs.Side.{Side}
 use Rattle.irs_average.specs.declared.stubs.Side.TheVariants.{Initial, Last}
 use Rattle.irs_average.proofs.StubLemmas.{is_with}

@@ -9,3 +9,4 @@ pub mod TenorEnds
 pub mod StubRates
 pub mod Stubs
 pub mod Interpolations
+pub mod Private

@@ -1,5 +1,5 @@
 -- The two means of the rates that were observed in a calculation period, in units of 10^-9.
-use Rattle.std.specs.Prelude.{◌≡◌, ◌<◌, List, [], ◌∷◌, length, None, IfSome, All, unwrap_or, ℤ, pos, ◌+ℤ◌, ◌*ℤ◌, ◌≤ℤ◌}
+use Rattle.std.specs.Prelude.{◌≡◌, List, [], ◌∷◌, length, None, IfSome, All, unwrap_or, ℤ, pos, ◌+ℤ◌, ◌*ℤ◌, ◌≤ℤ◌}
 use Rattle.irs_base.specs.Rounding.{Rounded}
 use Rattle.irs_base.specs.declared.rounding.Direction.TheVariants.{Nearest}
 use Rattle.irs_overnight.specs.Observations.{first_absent}
@@ -25,12 +25,6 @@ sum_over f (o ∷ os) = f o +ℤ sum_over f os
 abbrev pub divisor : Mean → ℤ → List Observation → ℤ
 divisor Plain days os = pos (length os)
 divisor Weighted days os = days
-
--- the days of a period are shared out among its observations, of which there are some
-pub record ShareOut (days : ℤ) (os : List Observation) : Type 0 where
-  pub some : 0 < length os
-  pub weights : All (λ o. pos 0 ≤ℤ o.weight) os
-  pub whole : sum_over (λ o. o.weight) os ≡ days
 
 -- x is the mean of the rates observed in a period of this number of days, each of which is there
 pub record IsMean (kind : Mean) (days : ℤ) (os : List Observation) (x : ℤ) : Type 0 where

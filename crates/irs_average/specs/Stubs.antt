@@ -47,11 +47,6 @@ abbrev pub IsStubOn : Side → Stream → Span → ℕ → ℕ → Type 0
 IsStubOn Initial s span n i = IsInitial s span i
 IsStubOn Last s span n i = IsFinal s span n i
 
--- the number of the period on that side, of n periods: the first, or the last
-abbrev pub number_on : Side → ℕ → ℕ
-number_on Initial n = 1
-number_on Last n = n
-
 -- the stream of a swap by its number, the side, two tenors, the parts of a schedule, and the rates
 pub record StubAsked : Type 0 where
   pub swap : Swap

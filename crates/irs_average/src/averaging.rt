@@ -4,7 +4,7 @@
 ghost use Rattle.std.specs.Prelude.{◌≡◌, All, List, IfOk};
 ghost use Rattle.irs_base.specs.Faults.{IfBroken};
 ghost use Rattle.irs_base.specs.declared.places.Broken.{Broken as BrokenRule};
-ghost use Rattle.irs_overnight.specs.FileLaw.{IsInRange};
+ghost use Rattle.irs_overnight.specs.Private.FileLaw.{IsInRange};
 ghost use Rattle.irs_overnight.specs.Overnight.{asked};
 ghost use Rattle.irs_overnight.specs.declared.derived.DerivedRow.{DerivedRow as Row};
 ghost use Rattle.irs_average.specs.Averages.{AverageKept, AverageReadsBack, IsAverage, IsAverageAsked};

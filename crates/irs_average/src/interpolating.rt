@@ -2,7 +2,7 @@
 ghost use Rattle.std.specs.Prelude.{◌≡◌, IfOk, IfErr, IfSome, IfNone, IsTrue};
 ghost use Rattle.irs_base.specs.declared.places.Broken.{Broken as BrokenRule};
 ghost use Rattle.irs_resets.specs.ResetDates.{IsPeriod};
-ghost use Rattle.irs_overnight.specs.FileLaw.{IsInRange};
+ghost use Rattle.irs_overnight.specs.Private.FileLaw.{IsInRange};
 ghost use Rattle.irs_overnight.specs.declared.derived.DerivedRow.{DerivedRow as Row};
 ghost use Rattle.irs_average.specs.Interpolations.{BreaksStub, IsInterpolated, IsStubBroken, LiesAmongTwo, StubKept};
 ghost use Rattle.irs_average.specs.Interpolations.{StubReadsBack, no_stub, outside_at};

@@ -10,7 +10,8 @@ ghost use Rattle.irs_overnight.specs.Observations.{first_absent};
 ghost use Rattle.irs_base.specs.Rounding.{Rounded};
 ghost use Rattle.irs_base.specs.declared.rounding.Direction.TheVariants.{Nearest};
 ghost use Rattle.irs_average.specs.MeanPeriods.{IsMeanFound};
-ghost use Rattle.irs_average.specs.Means.{IsMean, ShareOut, counted, divisor, sum_over};
+ghost use Rattle.irs_average.specs.Means.{IsMean, counted, divisor, sum_over};
+ghost use Rattle.irs_average.specs.Private.Means.{ShareOut};
 
 use crate::rates::{as_rate, over_days};
 use irs_base::{Direction, round};

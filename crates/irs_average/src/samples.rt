@@ -4,7 +4,7 @@ ghost use Rattle.std.specs.Prelude.{◌<ℤ◌, ◌-ℤ◌};
 ghost use Rattle.irs_base.specs.Days.{IsDay};
 ghost use Rattle.irs_calendar.specs.GoodDays.{Prev};
 ghost use Rattle.irs_overnight.specs.Private.Bounds.{IsSmall};
-ghost use Rattle.irs_average.specs.Means.{ShareOut};
+ghost use Rattle.irs_average.specs.Private.Means.{ShareOut};
 ghost use Rattle.irs_average.specs.MeanSources.{own_lines};
 ghost use Rattle.irs_average.specs.Samples.{AreSamples, IsSample, LacksSample, step_day, step_end};
 

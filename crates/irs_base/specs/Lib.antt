@@ -20,3 +20,4 @@ pub mod Faults
 pub mod Statuses
 pub mod Order
 pub mod Outcomes
+pub mod Private

@@ -1,14 +1,10 @@
 -- What comes first of all that meet a condition, in any order; and the order of broken rules.
-use Rattle.std.specs.Prelude.{◌≡◌, ◌⊎◌, ℕ, Bool, false, ◌&&◌, ◌||◌, ◌==◌, nat_lt, Option, Some, None, if◌then◌else◌}
+use Rattle.std.specs.Prelude.{◌≡◌, ℕ, Bool, false, ◌&&◌, ◌||◌, ◌==◌, nat_lt, Option, Some, None, if◌then◌else◌}
 use Rattle.irs_base.specs.Rules.{rule_number}
 use Rattle.irs_base.specs.declared.places.Rule.{Rule}
 use Rattle.irs_base.specs.declared.places.Rule.TheVariants.{K33, K34, K38, K39}
 use Rattle.irs_base.specs.declared.places.Fault.{Fault}
 use Rattle.irs_base.specs.declared.places.Broken.{Broken}
-
--- the statement holds, or it doesn't
-abbrev pub IsDecided : Type 0 → Type 0
-IsDecided A = A ⊎ (A → ⊥)
 
 -- x meets P, and nothing else does
 pub record Only {X : Type 0} (P : X → Type 0) (x : X) : Type 0 where

@@ -5,7 +5,7 @@ use Rattle.std.specs.List.Sorted.{IsPermutation}
 use Rattle.std.specs.Ordering.{int_eq}
 use Rattle.std.proofs.lemmas.Bool.{both_ways, cases_Bool}
 use Rattle.std.proofs.lemmas.List.Sorted.{Contains-permutation, IsPermutation-sym, list_any-IsPermutation, sum_by-IsPermutation}
-use Rattle.irs_breaks.specs.Blocks.{AreTogether, IsCommon}
+use Rattle.irs_breaks.specs.Private.Blocks.{AreTogether, IsCommon}
 use Rattle.irs_breaks.specs.Dated.{row_before}
 use Rattle.irs_breaks.specs.Pairing.{ArePaired, are_together, has_date, is_common, rank_at, size_at}
 use Rattle.irs_breaks.specs.declared.dated.DatedRow.{DatedRow}

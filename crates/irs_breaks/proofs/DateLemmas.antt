@@ -6,7 +6,7 @@ use Rattle.std.specs.Ordering.{int_cmp, int_eq, is_lt}
 use Rattle.std.proofs.lemmas.Bool.{and_parts, cases_Bool, cond-false, cond-true, or_cases, not-true, not_from_false, both_ways, false_from_ne_true}
 use Rattle.jiff_core.proofs.SignedLemmas.{signed_arith}
 use Rattle.irs_base.proofs.Orders.{lt_true, true_lt}
-use Rattle.irs_breaks.specs.Blocks.{AreInGap, AreTogether, HasDate, IsBetween, IsCommon}
+use Rattle.irs_breaks.specs.Private.Blocks.{AreInGap, AreTogether, HasDate, IsBetween, IsCommon}
 use Rattle.irs_breaks.specs.Pairing.{are_cut, are_in_gap, are_together, has_date, is_common, lies_between}
 use Rattle.irs_breaks.specs.declared.dated.DatedRow.{DatedRow}
 use Rattle.irs_breaks.proofs.RowLemmas.{any_at, any_true, eq_true, true_eq}

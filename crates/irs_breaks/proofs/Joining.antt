@@ -4,7 +4,8 @@ use Rattle.std.proofs.Common.{arith, get_or}
 use Rattle.std.specs.Prelude.{slice_get}
 use Rattle.std.proofs.lemmas.List.{append-nil, append_assoc}
 use Rattle.std.proofs.lemmas.Option.{slice_get-get_or}
-use Rattle.irs_breaks.specs.Findings.{Adds, EachRow, Exactly, Findings, OnRow, RowAt, Then, UpTo, joined, nothing}
+use Rattle.irs_breaks.specs.Findings.{EachRow, Exactly, Findings, OnRow, RowAt, Then, UpTo, joined, nothing}
+use Rattle.irs_breaks.specs.Private.Findings.{Adds}
 use Rattle.irs_breaks.specs.declared.counting.Counts.{Counts}
 use Rattle.irs_breaks.specs.declared.findings.Break.{Break}
 

@@ -7,7 +7,8 @@ use Rattle.std.proofs.lemmas.Bool.{cases_lt}
 use Rattle.std.proofs.lemmas.List.Elements.{Contains-append_left, Contains-push}
 use Rattle.std.proofs.lemmas.List.Sorted.{Contains-permutation, IsPermutation-sym}
 use Rattle.std.proofs.lemmas.Option.{none-some, slice_get_within}
-use Rattle.irs_breaks.specs.Blocks.{At, IsPartner}
+use Rattle.irs_breaks.specs.Blocks.{At}
+use Rattle.irs_breaks.specs.Private.Blocks.{IsPartner}
 use Rattle.irs_breaks.specs.Dated.{rows_from}
 use Rattle.irs_breaks.specs.Private.Merging.{IsDatedRow, IsMergedTo}
 use Rattle.irs_breaks.specs.PairedRows.{Ahead, ComesBefore, IsListed, IsPairing, row_of_ours}

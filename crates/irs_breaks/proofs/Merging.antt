@@ -12,7 +12,8 @@ use Rattle.std.proofs.lemmas.Bool.{cases_lt}
 use Rattle.std.proofs.lemmas.List.Elements.{Contains-append_left, Contains-push, Contains-push_cases}
 use Rattle.std.proofs.lemmas.Option.{get_or_from_slice_get, none-some, same_Some, slice_get-get_or, slice_get_within}
 use Rattle.jiff_core.proofs.SignedLemmas.{signed_arith}
-use Rattle.irs_breaks.specs.Blocks.{AreRising, At, IsEarlier, IsPartner}
+use Rattle.irs_breaks.specs.Blocks.{At}
+use Rattle.irs_breaks.specs.Private.Blocks.{AreRising, IsEarlier, IsPartner}
 use Rattle.irs_breaks.specs.Private.Merging.{IsAlone, IsBeforeAll, IsDatedRow, IsMergedBefore, IsMergedTo, IsNotBefore}
 use Rattle.irs_breaks.specs.PairedRows.{AreInOrder, ComesBefore, row_of_ours, row_of_theirs}
 use Rattle.irs_breaks.specs.Pairing.{ArePaired}

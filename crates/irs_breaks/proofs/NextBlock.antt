@@ -4,8 +4,9 @@ use Rattle.std.proofs.Common.{arith, refl, sym, subst, ap, ◌∙◌}
 use Rattle.std.proofs.lemmas.Bool.{cases_lt}
 use Rattle.std.proofs.lemmas.Option.{slice_get_within}
 use Rattle.jiff_core.proofs.SignedLemmas.{signed_arith}
-use Rattle.irs_breaks.specs.Blocks.{AreRising, AreTogether, At, IsBetween, IsBlock, IsCommon, IsDateEnd, IsDone}
-use Rattle.irs_breaks.specs.Blocks.{IsEarlier, IsEdge, IsGapTo, IsInside, IsLeft, MeetsAt, MeetsBoth}
+use Rattle.irs_breaks.specs.Blocks.{At}
+use Rattle.irs_breaks.specs.Private.Blocks.{AreRising, AreTogether, IsBetween, IsBlock, IsCommon, IsDateEnd, IsDone}
+use Rattle.irs_breaks.specs.Private.Blocks.{IsEarlier, IsEdge, IsGapTo, IsInside, IsLeft, MeetsAt, MeetsBoth}
 use Rattle.irs_breaks.specs.declared.blocks.Block.{Block}
 use Rattle.irs_breaks.specs.declared.dated.DatedRow.{DatedRow}
 use Rattle.irs_breaks.proofs.RowLemmas.{one_at}

@@ -20,8 +20,10 @@ use Rattle.irs_audit.specs.declared.flows.FlowReset.{FlowReset}
 use Rattle.irs_audit.proofs.BoundLemmas.{payment_kept, period_small}
 use Rattle.irs_breaks.specs.Counting.{counts_in}
 use Rattle.irs_breaks.specs.Fields.{payment_fields, period_fields}
-use Rattle.irs_breaks.specs.Findings.{Adds, Findings, Then, counted, joined, nothing, told}
-use Rattle.irs_breaks.specs.RowFindings.{AreFieldBreaks, ArePayments, ArePeriods, ArePeriodsOf, AreStarts, IsReset, UnlessBare}
+use Rattle.irs_breaks.specs.Findings.{Findings, Then, counted, joined, nothing, told}
+use Rattle.irs_breaks.specs.Private.Findings.{Adds}
+use Rattle.irs_breaks.specs.RowFindings.{AreFieldBreaks, ArePayments, ArePeriods, ArePeriodsOf, IsReset, UnlessBare}
+use Rattle.irs_breaks.specs.Private.RowFindings.{AreStarts}
 use Rattle.irs_breaks.specs.RowFindings.{counted_reset, extra_reset, member_at, payment_counts, periods_before}
 use Rattle.irs_breaks.specs.declared.counting.Counts.{Counts}
 use Rattle.irs_breaks.specs.declared.findings.BreakPlace.{BreakPlace}

@@ -2,7 +2,8 @@
 use Rattle.std.proofs.Common.{◌≡◌, ℕ, ◌+◌, ◌<◌, ◌≤◌, List, [], ◌∷◌, ◌++◌, length, take, get_or, Option, Some, None}
 use Rattle.std.proofs.Common.{ℤ, refl, sym, subst, ap, ◌∙◌}
 use Rattle.std.proofs.lemmas.List.{map-append, take_all}
-use Rattle.irs_breaks.specs.Findings.{Adds, EachRow, Exactly, Findings, Then, joined, nothing, told}
+use Rattle.irs_breaks.specs.Findings.{EachRow, Exactly, Findings, Then, joined, nothing, told}
+use Rattle.irs_breaks.specs.Private.Findings.{Adds}
 use Rattle.std.proofs.lemmas.Option.{none-some}
 use Rattle.irs_terms.specs.declared.results.Exchange.{Exchange}
 use Rattle.irs_schedule.specs.Parts.{KeepsBounds, Part}

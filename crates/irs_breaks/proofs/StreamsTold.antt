@@ -6,7 +6,8 @@ use Rattle.std.proofs.lemmas.Option.{slice_get_past, slice_get_read}
 use Rattle.irs_schedule.specs.Parts.{Part}
 use Rattle.irs_audit.specs.FlowParts.{FlowPart}
 use Rattle.irs_breaks.specs.BreakLists.{AreExchangesOf, ArePaymentsOf, IsStream, StreamAt, whole_stream}
-use Rattle.irs_breaks.specs.Findings.{Adds, Findings, UpTo, joined, nothing}
+use Rattle.irs_breaks.specs.Findings.{Findings, UpTo, joined, nothing}
+use Rattle.irs_breaks.specs.Private.Findings.{Adds}
 use Rattle.irs_breaks.specs.declared.findings.What.TheVariants as what
 use Rattle.irs_breaks.proofs.Joining.{adds_then, joined_nothing}
 use Rattle.irs_breaks.proofs.PaymentsTold.{added_to_nothing}

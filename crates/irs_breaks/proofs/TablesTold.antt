@@ -4,7 +4,8 @@ use Rattle.std.proofs.lemmas.List.{take_all}
 use Rattle.irs_base.specs.Members.{Every}
 use Rattle.irs_audit.specs.FlowParts.{FlowPart}
 use Rattle.irs_audit.specs.declared.flows.FlowPeriod.{FlowPeriod}
-use Rattle.irs_breaks.specs.Findings.{Adds, EachRow, Findings}
+use Rattle.irs_breaks.specs.Findings.{EachRow, Findings}
+use Rattle.irs_breaks.specs.Private.Findings.{Adds}
 use Rattle.irs_breaks.specs.PairedRows.{IsPairing, IsPlaced}
 use Rattle.irs_breaks.specs.RowFindings.{AreTold}
 use Rattle.irs_breaks.specs.declared.dated.PairedRow.{PairedRow}

@@ -1,5 +1,5 @@
 -- The breaks among the fields of a pair, and how its fields are counted.
-use Rattle.std.specs.Prelude.{◌≡◌, ◌⊎◌, ℕ, ◌+◌, Bool, true, false, List, [], ◌∷◌}
+use Rattle.std.specs.Prelude.{◌≡◌, ◌⊎◌, ℕ, Bool, true, false, List, [], ◌∷◌}
 use Rattle.std.specs.List.{count_by}
 use Rattle.irs_audit.specs.declared.departures.Field.{Field}
 use Rattle.irs_breaks.specs.Values.{CanBeCompared, Differ, standing_of}
@@ -32,14 +32,6 @@ abbrev pub counted_as : Standing → Counts → ℕ
 counted_as Compared c = c.compared
 counted_as Unstated c = c.unstated
 counted_as Unknown c = c.unknown
-
--- the sums of two counts
-abbrev pub together : Counts → Counts → Counts
-together a b = record {
-  compared = a.compared + b.compared;
-  unstated = a.unstated + b.unstated;
-  unknown = a.unknown + b.unknown;
-}
 
 -- the two values of a field can be compared
 abbrev pub IsComparable : FieldValues → Type 0

@@ -57,10 +57,6 @@ RowAt Told rows place list = OnRow Told (slice_get rows place) list
 abbrev pub EachRow : {X : Type 0} → (X → Findings → Type 0) → List X → Findings → Type 0
 EachRow Told rows list = UpTo (RowAt Told rows) (length rows) list
 
--- findings that meet P were added to others
-abbrev pub Adds : (Findings → Type 0) → Findings → Findings → Type 0
-Adds P old new = (more : Findings) × P more × (new ≡ joined old more)
-
 -- the values of a break can be printed: they have at most twelve decimals
 abbrev pub IsPrintableWhat : What → Type 0
 IsPrintableWhat (what.Missing v) = IfSome v (λ d. d.places ≤ 12)

@@ -194,8 +194,3 @@ IsPaymentRow stream p g m list =
     IsRow (ArePayments (place_of stream row.Payment m) p g (periods_before g (unwrap_or m.theirs 0))) (λ x. ours_alone (place_of stream row.Payment m) x.amount)
     (λ y. theirs_alone (place_of stream row.Payment m) (decimals_of p.currency.letters) y.amount)
     (member_at p.payments m.ours) (member_at g.payments m.theirs) list
-
--- the places at which the periods of each payment of theirs begin
-abbrev pub AreStarts : FlowPart → List ℕ → Type 0
-AreStarts g starts = (place : ℕ) (y : FlowPayment) → slice_get g.payments place ≡ Some y
-    → slice_get starts place ≡ Some (periods_before g place)

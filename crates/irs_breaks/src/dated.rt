@@ -1,7 +1,7 @@
 //! The rows of a list that have a date, in the order of their dates.
 ghost use Rattle.std.specs.Prelude.{◌≡◌, IfOk};
 ghost use Rattle.std.specs.List.Sorted.{IsPermutation};
-ghost use Rattle.irs_breaks.specs.Blocks.{AreRising};
+ghost use Rattle.irs_breaks.specs.Private.Blocks.{AreRising};
 ghost use Rattle.irs_breaks.specs.Dated.{dated_row, rows_from};
 
 use irs_base::{Day, Memory};

@@ -2,7 +2,8 @@
 ghost use Rattle.std.specs.Prelude.{◌≡◌, ◌≤◌, IfOk, OnOk, length};
 ghost use Rattle.irs_base.specs.Members.{Every};
 ghost use Rattle.irs_breaks.specs.BreakLists.{AreExchangesOf, exchange_dates, stated_exchange_dates};
-ghost use Rattle.irs_breaks.specs.Findings.{Adds, EachRow};
+ghost use Rattle.irs_breaks.specs.Findings.{EachRow};
+ghost use Rattle.irs_breaks.specs.Private.Findings.{Adds};
 ghost use Rattle.irs_breaks.specs.PairedRows.{IsPlaced};
 ghost use Rattle.irs_breaks.specs.RowFindings.{AreExchanges, IsExchangeRow};
 

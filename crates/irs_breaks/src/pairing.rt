@@ -5,7 +5,8 @@
 //! standard has no such pairing; it is our rule.
 ghost use Rattle.std.specs.Prelude.{◌≡◌, ◌<◌, ◌≤◌, ℕ, ℤ, IfOk, IsFalse, IsTrue, OnOk, Option, is_none, length, take};
 ghost use Rattle.irs_base.specs.Members.{Every, Pairs};
-ghost use Rattle.irs_breaks.specs.Blocks.{AreRising, At, IsBlock, IsEdge, IsPartner};
+ghost use Rattle.irs_breaks.specs.Blocks.{At};
+ghost use Rattle.irs_breaks.specs.Private.Blocks.{AreRising, IsBlock, IsEdge, IsPartner};
 ghost use Rattle.irs_breaks.specs.Private.Merging.{IsBeforeAll, IsMergedBefore, IsMergedTo, IsNotBefore};
 ghost use Rattle.irs_breaks.specs.PairedRows.{IsPairing, IsPlaced, row_of_ours};
 ghost use Rattle.irs_breaks.specs.Private.Undated.{ListsUndated, ListsUndatedExtras};

@@ -3,9 +3,11 @@ ghost use Rattle.std.specs.Prelude.{◌≡◌, ◌+◌, ◌<◌, ◌≤◌, min,
 ghost use Rattle.irs_base.specs.Members.{Every};
 ghost use Rattle.irs_breaks.specs.BreakLists.{ArePaymentsOf, payment_dates, stated_payment_dates};
 ghost use Rattle.irs_breaks.specs.Counting.{counts_in};
-ghost use Rattle.irs_breaks.specs.Findings.{Adds, EachRow};
+ghost use Rattle.irs_breaks.specs.Findings.{EachRow};
+ghost use Rattle.irs_breaks.specs.Private.Findings.{Adds};
 ghost use Rattle.irs_breaks.specs.PairedRows.{IsPlaced};
-ghost use Rattle.irs_breaks.specs.RowFindings.{ArePayments, AreStarts, IsPaymentRow, member_at, payment_counts};
+ghost use Rattle.irs_breaks.specs.RowFindings.{ArePayments, IsPaymentRow, member_at, payment_counts};
+ghost use Rattle.irs_breaks.specs.Private.RowFindings.{AreStarts};
 
 use crate::PairedRow;
 use crate::counting::{Counts, counts_of};

@@ -2,7 +2,8 @@
 ghost use Rattle.std.specs.Prelude.{◌≡◌, ◌+◌, ◌<◌, ◌≤◌, IfSome, OnOk, option_copied};
 ghost use Rattle.irs_base.specs.Members.{Every};
 ghost use Rattle.irs_breaks.specs.Counting.{IsComparable};
-ghost use Rattle.irs_breaks.specs.Findings.{Adds, joined};
+ghost use Rattle.irs_breaks.specs.Findings.{joined};
+ghost use Rattle.irs_breaks.specs.Private.Findings.{Adds};
 ghost use Rattle.irs_breaks.specs.PairedRows.{IsPlaced};
 ghost use Rattle.irs_breaks.specs.RowFindings.{AreFieldBreaks, alone, member_at, numbered, ours_alone, place_of, theirs_alone};
 

@@ -5,7 +5,8 @@
 //! the order of the pairing. The standard has no such list; its order is our rule.
 ghost use Rattle.std.specs.Prelude.{◌≡◌, max, IfOk, OnOk, length, option_copied};
 ghost use Rattle.irs_breaks.specs.BreakLists.{IsBreakList, IsStream, StreamAt, first_due, whole_stream};
-ghost use Rattle.irs_breaks.specs.Findings.{Adds, Findings, IsPrintableWhat, UpTo, joined};
+ghost use Rattle.irs_breaks.specs.Findings.{Findings, IsPrintableWhat, UpTo, joined};
+ghost use Rattle.irs_breaks.specs.Private.Findings.{Adds};
 
 use crate::exchange_breaks::push_exchanges;
 use crate::findings::{BreakList, BreakPlace, What};

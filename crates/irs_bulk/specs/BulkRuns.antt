@@ -1,11 +1,5 @@
 -- What `bulk N` comes to: the first of its documents that has no schedule, or the sums over the schedules of all.
-use Rattle.std.specs.Prelude.{◌≡◌, ◌⊎◌, ℕ, zero, suc, ◌<◌, ◌≤◌, List, [], ◌∷◌, Bool, true, false, None, IfSome, Result}
-use Rattle.std.specs.Prelude.{Ok, Err}
-use Rattle.irs_calendar.specs.Calendars.{spot_of}
-use Rattle.irs_calendar.specs.FirstFaults.{IsFirstFault}
-use Rattle.irs_calendar.specs.Grammar.{CalFiles}
-use Rattle.irs_calendar.specs.declared.calendars.CalErr.{CalErr}
-use Rattle.irs_calendar.specs.declared.sections.Section.{Section}
+use Rattle.std.specs.Prelude.{◌≡◌, ◌⊎◌, ℕ, zero, suc, ◌<◌, ◌≤◌, List, [], ◌∷◌, Bool, true, false, None}
 use Rattle.irs_answers.specs.declared.tasks.Task.TheVariants.{Schedule}
 use Rattle.irs_answers.specs.Due.{DueFor, Facts, Passes}
 use Rattle.irs_answers.specs.Forms.{json_text, no_text}
@@ -34,11 +28,6 @@ files_of plain k =
       calendars =
           calendar_text ∷ [];
     }
-
--- the sections of the calendar, or its first fault
-abbrev pub IsCalendar : Result (List Section) CalErr → Type 0
-IsCalendar (Ok cal) = CalFiles (calendar_text ∷ []) cal
-IsCalendar (Err e) = IfSome (spot_of e) (IsFirstFault (calendar_text ∷ []))
 
 -- what is due for `schedule` on these files
 abbrev pub DueSchedule : Bool → ℕ → ℕ → List ℕ → Type 0

@@ -1,1 +1,2 @@
+pub mod BulkRuns
 pub mod Tables

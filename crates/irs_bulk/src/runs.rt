@@ -6,12 +6,14 @@ ghost use Rattle.std.specs.Prelude.{◌≡◌, ◌<◌, ◌≤◌, ◌^◌, [], 
 ghost use Rattle.irs_terms.specs.Lawful.{IsLawful};
 ghost use Rattle.irs_answers.specs.Due.{Spells};
 ghost use Rattle.irs_answers.specs.Forms.{json_text};
-ghost use Rattle.irs_answers.specs.Outcomes.{Ends, IfAnswered, IfRefused, IsScheduled, IsUnscheduled};
+ghost use Rattle.irs_answers.specs.Outcomes.{Ends, IfRefused, IsScheduled, IsUnscheduled};
+ghost use Rattle.irs_answers.specs.Private.Outcomes.{IfAnswered};
 ghost use Rattle.irs_answers.specs.Replying.{reply_status, reply_text};
 ghost use Rattle.irs_answers.specs.declared.tasks.Task.TheVariants.{Schedule as OfSchedule};
 ghost use Rattle.irs_bulk.specs.BulkCalendars.{calendar_text};
 ghost use Rattle.irs_bulk.specs.BulkLines.{IsRun, line_text};
-ghost use Rattle.irs_bulk.specs.BulkRuns.{Adds, AreSums, DueAt, DueBulk, DueSchedule, IsCalendar, IsOneBulk};
+ghost use Rattle.irs_bulk.specs.BulkRuns.{Adds, AreSums, DueAt, DueBulk, DueSchedule, IsOneBulk};
+ghost use Rattle.irs_bulk.specs.Private.BulkRuns.{IsCalendar};
 ghost use Rattle.irs_bulk.specs.BulkRuns.{IsScheduleOf, agree_of, first_of, one_total};
 ghost use Rattle.irs_bulk.specs.Documents.{document_text, most_bulk};
 ghost use Rattle.irs_bulk.specs.Private.Tables.{IsTable};

@@ -9,8 +9,10 @@ use Rattle.std.proofs.lemmas.List.{append-nil, take_all}
 use Rattle.irs_cli.specs.Commands.{IsListed, Words, texts}
 use Rattle.irs_cli.specs.Due.{Due}
 use Rattle.irs_cli.proofs.OneAnswer.{one_answer}
-use Rattle.irs_c.specs.Each.{AreOutcomes, AreRuns, IsExplained, IsOutcome, IsRun, Made, Outcome}
-use Rattle.irs_c.specs.Each.{RunFor, no_text, said_by, slot_of}
+use Rattle.irs_c.specs.Each.{AreOutcomes, IsExplained, IsOutcome, IsRun, Outcome}
+use Rattle.irs_c.specs.Private.Each.{AreRuns, Made}
+use Rattle.irs_c.specs.Each.{no_text, said_by, slot_of}
+use Rattle.irs_c.specs.Private.Each.{RunFor}
 use Rattle.irs_c.specs.Given.{AreText, IsAbsent, file_in, gives_in, words_in}
 use Rattle.irs_c.specs.declared.each.Answer.{Answer}
 use Rattle.irs_c.specs.declared.given.Bytes.{Bytes}

@@ -13,7 +13,7 @@ use Rattle.irs_cli.specs.Fetching.{Holds, IsGiven}
 use Rattle.irs_cli.specs.Sharing.{files_with}
 use Rattle.irs_cli.proofs.FetchLemmas.{front_whole}
 use Rattle.irs_cli.proofs.SharingLemmas.{gathers_as}
-use Rattle.irs_c.specs.Each.{IsCommonIn, Made}
+use Rattle.irs_c.specs.Private.Each.{IsCommonIn, Made}
 use Rattle.irs_c.specs.Given.{file_in, gives_in}
 use Rattle.irs_c.specs.declared.given.File.{File}
 

@@ -1,15 +1,11 @@
 -- What one command over many trades comes to.
-use Rattle.std.specs.Prelude.{◌≡◌, ◌≢◌, ◌⊎◌, ℕ, ◌<◌, List, [], ◌∷◌, ◌++◌, length, take, drop, map, Result, Ok, Err, Vec}
-use Rattle.std.specs.Prelude.{String}
-use Rattle.std.specs.declared.alloc.Global.{Global}
+use Rattle.std.specs.Prelude.{◌≡◌, ◌≢◌, ◌⊎◌, ℕ, ◌<◌, List, [], ◌∷◌, ◌++◌, length, take, drop, map}
 use Rattle.irs_cli.specs.Causes.{IsRunCause}
-use Rattle.irs_cli.specs.Commands.{IsListed, Words, texts}
+use Rattle.irs_cli.specs.Commands.{IsListed, Words}
 use Rattle.irs_cli.specs.Due.{Due, IsOneAnswer}
 use Rattle.irs_cli.specs.Fetching.{Gives}
 use Rattle.irs_cli.specs.Given.{TellsAll}
-use Rattle.irs_cli.specs.Sharing.{IsCommon}
 use Rattle.irs_cli.specs.declared.causes.RunCause.{RunCause}
-use Rattle.irs_answers.specs.declared.common.Common.{Common}
 use Rattle.irs_plain.specs.Sentences.{sentence_of}
 use Rattle.irs_plain.specs.Shown.{shown}
 use Rattle.irs_c.specs.Given.{AreText, IsAbsent, file_in, gives_in, words_in}
@@ -18,7 +14,6 @@ use Rattle.irs_c.specs.declared.each.Answer.{Answer}
 use Rattle.irs_c.specs.declared.given.Bytes.{Bytes}
 use Rattle.irs_c.specs.declared.given.File.{File}
 use Rattle.irs_c.specs.declared.given.Trade.{Trade}
-use Rattle.irs_c.specs.declared.telling.Told.{Told}
 
 -- what a trade comes to: a status, the text, and the sentence that says what the text means
 pub record Outcome : Type 0 where
@@ -45,10 +40,6 @@ pub record IsExplained (ws : Words) (gives : Gives) (status : ℕ) (text sentenc
   pub cause : RunCause
   pub is : IsRunCause ws gives cause status text
   pub sentence_is : sentence ≡ sentence_of (map shown ws) cause
-
--- what the code keeps of what a run comes to
-abbrev pub outcome_by : Told → Outcome
-outcome_by t = record { status = t.status; text = t.text.items; sentence = t.sentence.items }
 
 -- what the words come to over the files, where each word is text: the status and the text that `irs_run` gives
 pub record IsRun (ws : Words) (fs : List File) (o : Outcome) : Type 0 where
@@ -87,26 +78,3 @@ pub record Said (ws : List Bytes) (common : List File) (trades : List Trade) (be
   pub are : AreOutcomes ws common (take (length before) trades) outcomes
   pub answers : after ≡ map slot_of outcomes ++ drop (length outcomes) before
   pub shown : Shown was now needed (said_by outcomes)
-
--- ---- words as text, or the status where there are none
-
--- words that were made into text, or the status where there is none
-abbrev pub Made : Type 0
-Made = Result (Vec (String Global) Global) ℕ
-
--- what the words come to over the files
-abbrev pub RunFor : Made → List File → Outcome → Type 0
-RunFor (Ok words) fs o = IsRun (texts words.items) fs o
-RunFor (Err s) fs o = o ≡ no_text s
-
--- one outcome a trade, in order
-abbrev pub AreRuns : Made → List File → List Trade → List Outcome → Type 0
-AreRuns words common [] os = os ≡ []
-AreRuns words common (t ∷ ts) [] = ⊥
-AreRuns words common (t ∷ ts) (o ∷ os) = RunFor words (common ++ t.files.now) o × AreRuns words common ts os
-
--- ---- what was read of the common files
-
--- the common files that the words name, as they are lent, are read
-abbrev pub IsCommonIn : Words → List File → Common → Type 0
-IsCommonIn ws fs c = IsCommon ws (file_in fs) (gives_in fs) c

@@ -1,6 +1,7 @@
 //! One command over many trades.
 ghost use Rattle.std.specs.Prelude.{◌≡◌, ◌++◌, List, IfOk, IfErr, IfSome, Ok, length, take, drop, map};
-ghost use Rattle.irs_c.specs.Each.{AreOutcomes, AreRuns, IsCommonIn, Outcome, RunFor, no_text, said_by, slot_of};
+ghost use Rattle.irs_c.specs.Each.{AreOutcomes, Outcome, no_text, said_by, slot_of};
+ghost use Rattle.irs_c.specs.Private.Each.{AreRuns, IsCommonIn, RunFor};
 ghost use Rattle.irs_cli.specs.Commands.{texts};
 
 use crate::exports::{append, words_of};

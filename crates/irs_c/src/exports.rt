@@ -3,7 +3,8 @@ ghost use Rattle.std.specs.Prelude.{◌≡◌, ◌≢◌, ◌⊎◌, ℕ, ◌<�
 ghost use Rattle.irs_cli.specs.Commands.{IsListed, texts};
 ghost use Rattle.irs_cli.specs.Due.{Due, IsOneAnswer};
 ghost use Rattle.irs_cli.specs.Given.{TellsAll};
-ghost use Rattle.irs_c.specs.Each.{IsExplained, IsRun, Said, outcome_by};
+ghost use Rattle.irs_c.specs.Each.{IsExplained, IsRun, Said};
+ghost use Rattle.irs_c.specs.Private.Each.{outcome_by};
 ghost use Rattle.irs_c.specs.Given.{words_in, file_in, gives_in, AreText, IsAbsent};
 ghost use Rattle.irs_c.specs.Shown.{Shown};
 

@@ -3,7 +3,8 @@ ghost use Rattle.std.specs.Prelude.{◌≡◌, ◌≢◌, ◌<◌, ◌++◌, map
 ghost use Rattle.irs_cli.specs.Causes.{IsRunCause};
 ghost use Rattle.irs_cli.specs.Commands.{IsListed, texts};
 ghost use Rattle.irs_cli.specs.Due.{Due};
-ghost use Rattle.irs_c.specs.Each.{IsCommonIn, IsRun, outcome_by};
+ghost use Rattle.irs_c.specs.Each.{IsRun};
+ghost use Rattle.irs_c.specs.Private.Each.{IsCommonIn, outcome_by};
 ghost use Rattle.irs_c.specs.Given.{file_in, gives_in, IsAbsent};
 ghost use Rattle.irs_plain.specs.Sentences.{sentence_of};
 ghost use Rattle.irs_plain.specs.Shown.{shown};

@@ -3,7 +3,8 @@ use Rattle.std.proofs.Common.{◌≡◌, inl, inr, ℕ, ◌+◌, ◌==◌, Bool,
 use Rattle.std.proofs.Common.{refl, ap, arith}
 use Rattle.std.proofs.lemmas.Bool.{cases_Bool}
 use Rattle.irs_base.specs.Lines.{begins_feed, lines_of, with_byte}
-use Rattle.irs_calendar.specs.EndLines.{EndsTruly, bad_line, is_none, seen_from}
+use Rattle.irs_calendar.specs.EndLines.{bad_line, is_none, seen_from}
+use Rattle.irs_calendar.specs.Private.EndLines.{EndsTruly}
 use Rattle.irs_calendar.specs.Words.{Wrong}
 use Rattle.irs_calendar.specs.Words.{kind_of}
 

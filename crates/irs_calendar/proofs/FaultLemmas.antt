@@ -14,15 +14,16 @@ use Rattle.irs_calendar.specs.declared.part.Part.TheVariants.{Between, Named, Co
 use Rattle.irs_calendar.specs.declared.part.State.{State}
 use Rattle.irs_calendar.specs.declared.machine.Fault.{Fault}
 use Rattle.irs_calendar.specs.declared.machine.Fault.TheVariants.{Syntax, Repeat, TooMany}
-use Rattle.irs_calendar.specs.Rising.{all_before}
+use Rattle.irs_calendar.specs.Private.Rising.{all_before}
 use Rattle.irs_calendar.specs.Sections.{is_named, AreDistinct}
 use Rattle.irs_calendar.specs.Words.{Said, Nothing, Center, Cover, Weekend, Holiday, Wrong}
-use Rattle.irs_calendar.specs.Machine.{begun, after_center}
-use Rattle.irs_calendar.specs.Machine.{after_cover, after_weekend, after_holiday, after_line, at_end, fits_section}
+use Rattle.irs_calendar.specs.Private.Machine.{begun, after_center, after_cover, after_weekend, after_holiday}
+use Rattle.irs_calendar.specs.Private.Machine.{after_line, at_end}
+use Rattle.irs_calendar.specs.Private.Machine.{fits_section}
 use Rattle.irs_calendar.specs.Words.{kind_of, no_days}
-use Rattle.irs_calendar.specs.Files.{Place, numbered, then_read, sections_in, sections_of}
+use Rattle.irs_calendar.specs.Private.Files.{Place, numbered, then_read, sections_in, sections_of}
 use Rattle.irs_calendar.specs.FirstFaults.{Spot}
-use Rattle.irs_calendar.specs.Calendars.{in_file, then_file, calendars_in}
+use Rattle.irs_calendar.specs.Private.Calendars.{in_file, then_file, calendars_in}
 use Rattle.irs_calendar.specs.Grammar.{RisesWithin, CalFiles}
 use Rattle.irs_calendar.specs.FirstFaults.{Spells, CanGoOn, IsRepeat, IsOneTooMany, IsKind, IsFaultBehind, IsFirstFault}
 use Rattle.irs_calendar.proofs.DistinctLemmas.{same_state, then_ok, numbered_ok, then_file_ok, file_ok, calendars_apart}

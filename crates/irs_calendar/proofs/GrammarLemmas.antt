@@ -15,14 +15,15 @@ use Rattle.irs_calendar.specs.declared.part.Part.{Part}
 use Rattle.irs_calendar.specs.declared.part.Part.TheVariants.{Between, Named, Covered, Open}
 use Rattle.irs_calendar.specs.declared.part.State.{State}
 use Rattle.irs_calendar.specs.declared.machine.Fault.{Fault}
-use Rattle.irs_calendar.specs.Rising.{all_before}
+use Rattle.irs_calendar.specs.Private.Rising.{all_before}
 use Rattle.irs_calendar.specs.Sections.{is_named, AreDistinct}
 use Rattle.irs_calendar.specs.Words.{Said, Nothing, Center, Cover, Weekend, Holiday, Wrong}
-use Rattle.irs_calendar.specs.Machine.{begun, after_center}
-use Rattle.irs_calendar.specs.Machine.{after_cover, after_weekend, after_holiday, after_line, at_end, fits_section}
+use Rattle.irs_calendar.specs.Private.Machine.{begun, after_center, after_cover, after_weekend, after_holiday}
+use Rattle.irs_calendar.specs.Private.Machine.{after_line, at_end}
+use Rattle.irs_calendar.specs.Private.Machine.{fits_section}
 use Rattle.irs_calendar.specs.Words.{kind_of}
-use Rattle.irs_calendar.specs.Files.{numbered, sections_in, sections_of}
-use Rattle.irs_calendar.specs.Calendars.{in_file, calendars_in}
+use Rattle.irs_calendar.specs.Private.Files.{numbered, sections_in, sections_of}
+use Rattle.irs_calendar.specs.Private.Calendars.{in_file, calendars_in}
 use Rattle.irs_calendar.specs.Grammar.{with_said, said_lines, section_lines, spelt, RisesWithin, IsLawful, AreLawful}
 use Rattle.irs_calendar.specs.Grammar.{AreSpelt, joined, CalFiles}
 use Rattle.irs_calendar.proofs.DistinctLemmas.{numbered_ok, then_ok, file_ok, then_file_ok, same_state, or_false}

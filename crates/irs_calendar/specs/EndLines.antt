@@ -1,5 +1,5 @@
 -- The end line of a file: its last line may be `# end N`, and then N is the number of lines before it.
-use Rattle.std.specs.Prelude.{◌≡◌, ℕ, ◌+◌, Bool, true, false, not, ◌&&◌, ◌==◌, List, [], ◌∷◌, ◌++◌, take, drop, codes}
+use Rattle.std.specs.Prelude.{ℕ, ◌+◌, Bool, true, false, not, ◌&&◌, ◌==◌, List, [], ◌∷◌, ◌++◌, take, drop, codes}
 use Rattle.std.specs.Prelude.{nat_le, if◌then◌else◌}
 use Rattle.std.specs.Fmt.{decimal}
 use Rattle.std.specs.List.{list_all}
@@ -36,11 +36,6 @@ is_false_end before line = is_end_line line && not (bytes_eq line (end_text befo
 abbrev pub is_none : List (List ℕ) → Bool
 is_none [] = true
 is_none (l ∷ ls) = false
-
--- where the last line is an end line it is true; any other line may be what it likes
-abbrev pub EndsTruly : ℕ → List (List ℕ) → Type 0
-EndsTruly before [] = Unit {0}
-EndsTruly before (l ∷ ls) = ((is_none ls && is_false_end before l) ≡ false) × EndsTruly (before + 1) ls
 
 -- ` #`, a line outside the grammar of every file: white space comes before its first field
 abbrev pub bad_line : List ℕ

@@ -7,8 +7,6 @@ pub mod Places
 pub mod Selected
 pub mod Words
 pub mod EndLines
-pub mod Machine
-pub mod Files
 pub mod Calendars
 pub mod Grammar
 pub mod FirstFaults

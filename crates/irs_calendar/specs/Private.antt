@@ -1,3 +1,8 @@
+pub mod Rising
+pub mod EndLines
+pub mod Machine
+pub mod Files
+pub mod Calendars
 pub mod Splits
 pub mod Halves
 pub mod Weekends

@@ -1,9 +1,9 @@
 //! Reading a calendar file line by line.
 ghost use Rattle.std.specs.Prelude.{◌≤◌, length};
 ghost use Rattle.irs_base.specs.Limits.{most_bytes};
-ghost use Rattle.irs_calendar.specs.Machine.{after_line, at_end};
+ghost use Rattle.irs_calendar.specs.Private.Machine.{after_line, at_end};
 ghost use Rattle.irs_calendar.specs.Words.{kind_of};
-ghost use Rattle.irs_calendar.specs.Files.{numbered, sections_of, GivesFile};
+ghost use Rattle.irs_calendar.specs.Private.Files.{numbered, sections_of, GivesFile};
 
 use crate::end_lines::split_seen;
 use crate::machine::{Fault, StepErr, step};

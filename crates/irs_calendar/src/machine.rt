@@ -4,8 +4,8 @@
 //! On one line a fault of the grammar takes precedence over a repeated centre and over too many
 //! holidays.
 ghost use Rattle.std.specs.Prelude.{◌≡◌, Ok};
-ghost use Rattle.irs_calendar.specs.Machine.{fits_section, begun, after_center, after_cover, after_weekend};
-ghost use Rattle.irs_calendar.specs.Machine.{after_holiday, after_line, said_of};
+ghost use Rattle.irs_calendar.specs.Private.Machine.{fits_section, begun, after_center, after_cover, after_weekend};
+ghost use Rattle.irs_calendar.specs.Private.Machine.{after_holiday, after_line, said_of};
 ghost use Rattle.irs_calendar.specs.Private.Given.{Gives};
 ghost use Rattle.irs_calendar.specs.declared.machine.StepErr.TheVariants.{Memory};
 

@@ -6,7 +6,7 @@
 ghost use Rattle.std.specs.Prelude.{◌≡◌, ◌<◌, IfSome, true};
 ghost use Rattle.std.specs.List.{list_all};
 ghost use Rattle.irs_base.specs.Fields.{fields};
-ghost use Rattle.irs_calendar.specs.Machine.{said_of};
+ghost use Rattle.irs_calendar.specs.Private.Machine.{said_of};
 ghost use Rattle.irs_calendar.specs.Words.{is_plain, is_center_name, said_center, said_cover, place_of, weekend_of};
 ghost use Rattle.irs_calendar.specs.Words.{no_days, said_holiday, said_by, kind_of};
 

@@ -23,9 +23,11 @@ use Rattle.irs_cli.specs.declared.commands.Command.{Command}
 use Rattle.irs_cli.specs.declared.commands.Named.{Named}
 use Rattle.irs_cli.specs.Commands.{Words, texts, Wanted, Asked, Asks, AsksAs, AsksAccrue, AsksAverage, AsksBreaks}
 use Rattle.irs_cli.specs.Commands.{AsksBulk, AsksInterpolate, AsksObservations, AsksOvernight, IsRequest, IsListed}
-use Rattle.irs_cli.specs.Commands.{asked_by, wanted_by, kind_of, params_of, roles_of, calendars_of, role_at, is_file}
-use Rattle.irs_cli.specs.Commands.{IsCommand, IsCommandAs, kept, files_from}
-use Rattle.irs_cli.specs.Due.{IsLawfulRequest}
+use Rattle.irs_cli.specs.Commands.{kind_of, params_of, roles_of, calendars_of, role_at, is_file}
+use Rattle.irs_cli.specs.Private.Commands.{asked_by, wanted_by}
+use Rattle.irs_cli.specs.Commands.{kept, files_from}
+use Rattle.irs_cli.specs.Private.Commands.{IsCommand, IsCommandAs}
+use Rattle.irs_cli.specs.Private.Due.{IsLawfulRequest}
 use Rattle.irs_cli.specs.Params.{IsCountWord, IsDateWord, IsFromWord, IsMeanWord, IsSideWord, IsStepWord, IsStreamWord}
 use Rattle.irs_cli.specs.Params.{IsTenorWord}
 use Rattle.irs_cli.proofs.ParamLemmas.{one_at, one_count, one_date, one_from, one_mean, one_side, one_step, one_stream}

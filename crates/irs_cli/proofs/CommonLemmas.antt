@@ -10,7 +10,8 @@ use Rattle.irs_answers.specs.declared.notes.Note.{Note}
 use Rattle.irs_cli.specs.Causes.{IsCauseFor, IsNotedFor, IsReplyCause}
 use Rattle.irs_cli.specs.Commands.{Asked, Asks, Wanted, Words}
 use Rattle.irs_cli.specs.Due.{DueOf}
-use Rattle.irs_cli.specs.Fetching.{FailedAt, Gives, Holds, IsGiven, NotLong, OverAt, Stops}
+use Rattle.irs_cli.specs.Fetching.{FailedAt, Gives, Holds, IsGiven, NotLong}
+use Rattle.irs_cli.specs.Private.Fetching.{OverAt, Stops}
 use Rattle.irs_cli.specs.Given.{Gathers, Told}
 use Rattle.irs_cli.specs.Run.{Replies, source}
 use Rattle.irs_cli.specs.Sharing.{IsCommon, files_with}

@@ -14,9 +14,11 @@ use Rattle.irs_answers.specs.declared.files.TaskFiles.{TaskFiles}
 use Rattle.irs_answers.specs.Given.{Given, no_files, too_many}
 use Rattle.irs_cli.specs.declared.fetching.Unfetched.{Unfetched}
 use Rattle.irs_cli.specs.declared.fetching.Unfetched.TheVariants.{NoFile, TooLong, Memory}
-use Rattle.irs_cli.specs.Commands.{Wanted, wanted_by}
+use Rattle.irs_cli.specs.Commands.{Wanted}
+use Rattle.irs_cli.specs.Private.Commands.{wanted_by}
 use Rattle.irs_cli.specs.Given.{Told, Gathers, Reaches, text_as, with_file}
-use Rattle.irs_cli.specs.Fetching.{Holds, NotLong, FailedAt, OverAt, Stops, StopsOne, FetchesAll}
+use Rattle.irs_cli.specs.Fetching.{Holds, NotLong, FailedAt}
+use Rattle.irs_cli.specs.Private.Fetching.{OverAt, Stops, StopsOne, FetchesAll}
 use Rattle.irs_cli.proofs.FileLemmas.{gathers_reach, gathers_more}
 
 -- ---- the source states the same at a later call

@@ -43,13 +43,6 @@ run_cause_of BadWords = cause.BadWords
 run_cause_of (NoFile place) = cause.NoFile place
 run_cause_of (TooLong place) = cause.TooLong place
 
--- the words are no listed command, or one of their files can't be read or is too long
-abbrev pub IsUnreplied : RunReply → Type 0
-IsUnreplied (Replied r) = ⊥
-IsUnreplied BadWords = Unit {0}
-IsUnreplied (NoFile place) = Unit {0}
-IsUnreplied (TooLong place) = Unit {0}
-
 -- ---- what a run comes to
 
 -- the status of what a run comes to

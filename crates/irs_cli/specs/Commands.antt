@@ -14,8 +14,6 @@ use Rattle.irs_cli.specs.declared.commands.Request.{Request}
 use Rattle.irs_cli.specs.declared.commands.Request.TheVariants.{OverFiles, Bulk, Carrier as CarrierOf}
 use Rattle.irs_cli.specs.declared.commands.Role.{Role}
 use Rattle.irs_cli.specs.declared.commands.Role.TheVariants.{Document, Fixings, Flows, Calendar}
-use Rattle.irs_cli.specs.declared.commands.Named.{Named}
-use Rattle.irs_cli.specs.declared.commands.Command.{Command}
 use Rattle.irs_cli.specs.Params.{At, IsCountWord, IsDateWord, IsFromWord, IsMeanWord, IsSideWord, IsStepWord}
 use Rattle.irs_cli.specs.Params.{IsStreamWord, IsTenorWord, form_of}
 use Rattle.irs_answers.specs.declared.forms.Form.TheVariants.{Xml}
@@ -38,18 +36,6 @@ pub record Wanted : Type 0 where
 pub record Asked : Type 0 where
   pub request : Request
   pub files : List Wanted
-
--- a wanted file as the code keeps it
-abbrev pub wanted_by : Named → Wanted
-wanted_by n = record { place = n.place; role = n.role; name = n.name.now }
-
--- a command as the code keeps it
-abbrev pub asked_by : Command → Asked
-asked_by c = record { request = c.request; files = map wanted_by c.files.items }
-
--- the most words that a command has after its parameters
-abbrev pub most_words : ℕ
-most_words = most_calendars + 3
 
 -- ---- the table: a command's name, its number of parameters, the roles of its files, and its most calendars
 
@@ -239,13 +225,3 @@ Asks (w ∷ ws) a = (k : Kind) × (kind_of w ≡ Some k) × AsksAs k ws a
 -- the words are a listed command
 abbrev pub IsListed : Words → Type 0
 IsListed ws = (a : Asked) × Asks ws a
-
--- the command that words are, none where they are no listed one
-abbrev pub IsCommand : Words → Option Asked → Type 0
-IsCommand ws None = IsListed ws → ⊥
-IsCommand ws (Some a) = Asks ws a
-
--- the command of a kind that the words after its name are
-abbrev pub IsCommandAs : Kind → Words → Option Asked → Type 0
-IsCommandAs k ws None = (a : Asked) → AsksAs k ws a → ⊥
-IsCommandAs k ws (Some a) = AsksAs k ws a

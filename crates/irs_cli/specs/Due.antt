@@ -1,12 +1,10 @@
 -- What is due for the words and the files: status and text, by the first case that applies.
-use Rattle.std.specs.Prelude.{◌≡◌, ℕ, ◌≤◌, List}
+use Rattle.std.specs.Prelude.{◌≡◌, ℕ, List}
 use Rattle.irs_answers.specs.Carried.{DueCarrier}
 use Rattle.irs_answers.specs.Due.{DueFor}
 use Rattle.irs_answers.specs.Given.{Given}
 use Rattle.irs_answers.specs.Steps.{Is}
-use Rattle.irs_answers.specs.Tasks.{IsLawfulTask}
 use Rattle.irs_bulk.specs.BulkRuns.{DueBulk}
-use Rattle.irs_bulk.specs.Documents.{most_bulk}
 use Rattle.irs_cli.specs.declared.commands.Request.{Request}
 use Rattle.irs_cli.specs.declared.commands.Request.TheVariants.{OverFiles, Bulk, Carrier}
 use Rattle.irs_cli.specs.Commands.{Words, Asked, Asks, IsListed}
@@ -18,12 +16,6 @@ abbrev pub DueOf : Request → Given → ℕ → List ℕ → Type 0
 DueOf (OverFiles task) g status text = DueFor task g status text
 DueOf (Bulk n) g status text = DueBulk n status text
 DueOf Carrier g status text = DueCarrier g.document.bytes status text
-
--- the parameters of a request lie in their ranges
-abbrev pub IsLawfulRequest : Request → Type 0
-IsLawfulRequest (OverFiles task) = IsLawfulTask task
-IsLawfulRequest (Bulk n) = n ≤ most_bulk
-IsLawfulRequest Carrier = Unit {0}
 
 -- the three cases: the words are no listed command, a file is too long, or the source has all files
 pub data WordsCase (ws : Words) (told : Told) : Type 0 where

@@ -10,3 +10,4 @@ pub mod Run
 pub mod Pages
 pub mod Causes
 pub mod Naming
+pub mod Private

@@ -1,32 +1,11 @@
 -- What a request comes to: a reply, or a refusal.
-use Rattle.std.specs.Prelude.{ℕ, List, Option, Some, None, IfSome, Result, Ok, Err}
-use Rattle.irs_answers.specs.Outcomes.{Answer}
-use Rattle.irs_answers.specs.Replying.{reply_status, reply_text}
-use Rattle.irs_answers.specs.declared.notes.NotedReply.{NotedReply}
 use Rattle.irs_cli.specs.declared.fetching.Unfetched.{Unfetched}
 use Rattle.irs_cli.specs.declared.fetching.Unfetched.TheVariants as fetching
 use Rattle.irs_cli.specs.declared.refusals.Refusal.{Refusal}
-use Rattle.irs_cli.specs.declared.refusals.Refusal.TheVariants.{BadWords, NoFile, TooLong, Memory}
-use Rattle.irs_cli.specs.Messages.{bad_words, no_file, too_long}
+use Rattle.irs_cli.specs.declared.refusals.Refusal.TheVariants.{NoFile, TooLong, Memory}
 
 -- the refusals that errors of a fetch become
 abbrev pub of_fetch : Unfetched → Refusal
 of_fetch (fetching.NoFile place) = NoFile place
 of_fetch (fetching.TooLong place) = TooLong place
 of_fetch fetching.Memory = Memory
-
--- the answer of a refusal; none where memory ran out
-abbrev pub answer_of : Refusal → Option Answer
-answer_of BadWords = Some (4, bad_words)
-answer_of (NoFile place) = Some (5, no_file place)
-answer_of (TooLong place) = Some (8, too_long place)
-answer_of Memory = None
-
--- P holds of the refusal's answer, if it has one
-abbrev pub IfRefused : Refusal → (ℕ → List ℕ → Type 0) → Type 0
-IfRefused r P = IfSome (answer_of r) (λ a. P a.0 a.1)
-
--- P holds of the answer, if there is one
-abbrev pub IfAnswered : Result NotedReply Refusal → (ℕ → List ℕ → Type 0) → Type 0
-IfAnswered (Ok o) P = P (reply_status o.reply) (reply_text o.reply)
-IfAnswered (Err r) P = IfRefused r P

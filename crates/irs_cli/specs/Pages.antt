@@ -1,13 +1,6 @@
 -- A text that goes to a sink by pages.
-use Rattle.std.specs.Prelude.{◌≡◌, ℕ, List, ◌++◌, Option}
-use Rattle.irs_outside.specs.Outside.{Grew}
+use Rattle.std.specs.Prelude.{ℕ}
 
 -- the most bytes that wait to be written
 abbrev pub page_size : ℕ
 page_size = 4_096
-
--- all of the text was written except what is left
-pub record Through (old now : Option (List ℕ)) (left text : List ℕ) : Type 0 where
-  pub front : List ℕ
-  pub grew : Grew old now front
-  pub is : text ≡ front ++ left

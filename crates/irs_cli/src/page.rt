@@ -2,7 +2,8 @@
 //!
 //! A text of many short lines takes one write a page, not one a line.
 ghost use Rattle.std.specs.Prelude.{◌≡◌, ℕ, ◌+◌, ◌<◌, ◌≤◌, List, [], ◌++◌, length, take, IsOk, OnOk, OnErr};
-ghost use Rattle.irs_cli.specs.Pages.{Through, page_size};
+ghost use Rattle.irs_cli.specs.Pages.{page_size};
+ghost use Rattle.irs_cli.specs.Private.Pages.{Through};
 ghost use Rattle.irs_outside.specs.Outside.{Rose, Grew, GrewByFront};
 
 use crate::{PutFailed, Sink};

@@ -12,8 +12,9 @@ ghost use Rattle.irs_answers.specs.Causes.{cause_of};
 ghost use Rattle.irs_answers.specs.declared.notes.Note.TheVariants.{Nothing};
 ghost use Rattle.irs_cli.specs.Causes.{IsCauseFor, IsCauseOfWritten, IsNotedFor, IsReplyCause, IsRunCause};
 ghost use Rattle.irs_cli.specs.Causes.{run_cause_of, run_reply_status, run_reply_text, run_status};
-ghost use Rattle.irs_cli.specs.Due.{DueOf, IsLawfulRequest};
-ghost use Rattle.irs_cli.specs.Outcomes.{IfAnswered};
+ghost use Rattle.irs_cli.specs.Due.{DueOf};
+ghost use Rattle.irs_cli.specs.Private.Due.{IsLawfulRequest};
+ghost use Rattle.irs_cli.specs.Private.Outcomes.{IfAnswered};
 ghost use Rattle.irs_cli.specs.Run.{Ran, Replies, source, written};
 ghost use Rattle.irs_cli.specs.Sharing.{IsCommon};
 

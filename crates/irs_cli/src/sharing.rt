@@ -1,6 +1,7 @@
 //! The files that many runs of the same words have in common: the fixings and the calendars, read once.
 ghost use Rattle.std.specs.Prelude.{◌≡◌, ℕ, List, map, IfOk, IfSome};
-ghost use Rattle.irs_cli.specs.Commands.{texts, wanted_by};
+ghost use Rattle.irs_cli.specs.Commands.{texts};
+ghost use Rattle.irs_cli.specs.Private.Commands.{wanted_by};
 ghost use Rattle.irs_cli.specs.Sharing.{IsCommon, belongs, files_with};
 
 use crate::Files;

@@ -19,8 +19,10 @@ use Rattle.irs_compound.proofs.Sizes.{positive_size}
 use Rattle.irs_compound.specs.Amounts.{IsFraction, IsTerm, IsPayment, AllPriced, AmountOf, IsOutOfRange, Pays}
 use Rattle.irs_compound.specs.Amounts.{RoundedAt, Follows, Stands, Within, Passes, amount, total, kept, kept_of}
 use Rattle.irs_compound.specs.Amounts.{denominator, code_for, most_amount, most_exact, most_places, most_units}
-use Rattle.irs_compound.specs.PartsLaws.{AllFractions, all_fractions, follows_exists, follows_more, follows_once}
-use Rattle.irs_compound.specs.PartsLaws.{stands_exists, total-push}
+use Rattle.irs_compound.specs.PartsLaws.{AllFractions, all_fractions, follows_exists, follows_once}
+use Rattle.irs_compound.specs.Private.PartsLaws.{follows_more}
+use Rattle.irs_compound.specs.PartsLaws.{stands_exists}
+use Rattle.irs_compound.specs.Private.PartsLaws.{total-push}
 use Rattle.irs_compound.specs.Tens.{ten_above}
 use Rattle.irs_compound.specs.declared.periods.PeriodTerm.{PeriodTerm}
 use Rattle.irs_compound.specs.declared.periods.Parts.{Parts}

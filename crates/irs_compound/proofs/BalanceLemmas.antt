@@ -13,7 +13,8 @@ use Rattle.irs_terms.specs.declared.codes.CompCode.TheVariants.{Simple, Straight
 use Rattle.irs_compound.specs.Amounts.{Pays, RoundedAt, IsTerm, StandsAt, Stands, Follows, SumsWithin, Within, Passes}
 use Rattle.irs_compound.specs.Amounts.{amount, total, kept_of, kept, denominator, most_exact}
 use Rattle.irs_compound.specs.Private.Balances.{BalanceFits, Takes, Stops, Balances}
-use Rattle.irs_compound.specs.PartsLaws.{all_fractions, follows_more, not_passed, number_within, total-push, kept-push}
+use Rattle.irs_compound.specs.PartsLaws.{all_fractions}
+use Rattle.irs_compound.specs.Private.PartsLaws.{follows_more, not_passed, number_within, total-push, kept-push}
 use Rattle.irs_compound.specs.declared.balances.Balance.{Balance}
 use Rattle.irs_compound.specs.declared.periods.PeriodTerm.{PeriodTerm}
 use Rattle.irs_compound.specs.declared.periods.Parts.{Parts}

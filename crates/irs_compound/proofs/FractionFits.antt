@@ -8,7 +8,7 @@ use Rattle.irs_terms.specs.declared.codes.DayCountCode.TheVariants.{OneOne, ActA
 use Rattle.irs_terms.specs.declared.codes.DayCountCode.TheVariants.{ThirtyE360, ThirtyE360Isda}
 use Rattle.irs_daycount.specs.Actual.{act_act_denominator}
 use Rattle.irs_daycount.specs.Fractions.{Fraction, IsNumerator, denominator_of}
-use Rattle.irs_daycount.specs.FractionLaws.{one_denominator}
+use Rattle.irs_daycount.specs.Private.FractionLaws.{one_denominator}
 use Rattle.irs_daycount.proofs.FractionBounds.{fraction_bounded}
 use Rattle.irs_compound.specs.Amounts.{IsFraction}
 

@@ -5,7 +5,7 @@ use Rattle.irs_base.specs.Outcomes.{Determined}
 use Rattle.irs_base.proofs.Outcomes.{unless_broken_determined}
 use Rattle.irs_terms.specs.declared.codes.CompCode.{CompCode}
 use Rattle.irs_compound.specs.Amounts.{AmountOf, IsOutOfRange}
-use Rattle.irs_compound.specs.AmountLaws.{one_amount}
+use Rattle.irs_compound.specs.Private.AmountLaws.{one_amount}
 use Rattle.irs_compound.specs.Outcomes.{payment_amount_of}
 use Rattle.irs_compound.specs.PartsLaws.{AllFractions}
 use Rattle.irs_compound.specs.declared.periods.PeriodTerm.{PeriodTerm}

@@ -13,7 +13,7 @@ use Rattle.irs_terms.specs.declared.codes.DayCountCode.{DayCountCode}
 use Rattle.irs_terms.specs.declared.codes.DayCountCode.TheVariants.{OneOne, ActActIsda, Act365Fixed, Act360, Thirty360}
 use Rattle.irs_terms.specs.declared.codes.DayCountCode.TheVariants.{ThirtyE360, ThirtyE360Isda}
 use Rattle.irs_daycount.specs.Fractions.{days_of, fraction_of}
-use Rattle.irs_daycount.specs.FractionLaws.{fraction_is}
+use Rattle.irs_daycount.specs.Private.FractionLaws.{fraction_is}
 use Rattle.irs_daycount.proofs.FractionBounds.{fraction_bounded}
 use Rattle.irs_compound.proofs.RateSizes.{rate_size}
 use Rattle.irs_compound.specs.PeriodRates.{most_rounded_rate, rates_by}

@@ -16,8 +16,10 @@ use Rattle.irs_terms.specs.Lawful.{IsLawfulValues, IsLawfulFloat, IsLawfulLeg, I
 use Rattle.irs_compound.specs.InForce.{value_in_force}
 use Rattle.irs_compound.specs.Private.InForceLaws.{in_force_is, in_force_within}
 use Rattle.irs_compound.specs.PeriodRates.{rate_at, exact_base, treated, rates_of, fixed_rates_of, rates_by}
-use Rattle.irs_compound.specs.PeriodRates.{most_exact_rate, most_rounded_rate}
-use Rattle.irs_compound.specs.Tens.{ten_above, ten_positive}
+use Rattle.irs_compound.specs.PeriodRates.{most_rounded_rate}
+use Rattle.irs_compound.specs.Private.PeriodRates.{most_exact_rate}
+use Rattle.irs_compound.specs.Tens.{ten_above}
+use Rattle.irs_compound.specs.Private.Tens.{ten_positive}
 
 -- a value in force is one of those that there are
 pub value_within : (Within : ℤ → Type 0) (values : StepValues) (d : ℤ) → IsLawfulValues Within values

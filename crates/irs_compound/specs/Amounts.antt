@@ -1,10 +1,9 @@
 -- Amounts of the periods of a payment, and of the payment: the 2006 ISDA Definitions, articles 5 and 6. Notionals are
 -- in units of 10^-4, rates in units of 10^-9. Two rules are ours: that flat compounding takes the base rate, and how
 -- the spread is excluded from compounding.
-use Rattle.std.specs.Prelude.{◌≡◌, ℕ, ℤ, pos, ◌+◌, ◌-◌, ◌*◌, ◌^◌, ◌≤◌, ◌+ℤ◌, ◌-ℤ◌, ◌*ℤ◌, ◌≤ℤ◌, unsigned_abs, List, []}
-use Rattle.std.specs.Prelude.{◌∷◌, ◌++◌, length, All, IsSome, IsSomeAnd, Option, Some, None, slice_get, take, nat_lt}
-use Rattle.irs_base.specs.Limits.{most_notional, most_numerator, most_periods, most_rate}
-use Rattle.irs_base.specs.Order.{First}
+use Rattle.std.specs.Prelude.{◌≡◌, ℕ, ℤ, pos, ◌-◌, ◌*◌, ◌^◌, ◌≤◌, ◌+ℤ◌, ◌-ℤ◌, ◌*ℤ◌, ◌≤ℤ◌, unsigned_abs, List, []}
+use Rattle.std.specs.Prelude.{◌∷◌, ◌++◌, length, All, IsSome, IsSomeAnd, Option, Some, None, slice_get, take}
+use Rattle.irs_base.specs.Limits.{most_numerator, most_periods}
 use Rattle.irs_base.specs.Rounding.{Rounded}
 use Rattle.irs_base.specs.declared.rounding.Direction.TheVariants.{Nearest}
 use Rattle.irs_terms.specs.Lawful.{IsNotional, IsRate}
@@ -23,14 +22,6 @@ most_amount = 10 ^ 20
 -- 10^14 units of currency, in units of 10^-13
 abbrev pub most_exact : ℕ
 most_exact = 10 ^ 27
-
--- the greatest balance that bears interest: the greatest notional and the greatest amount, in units of 10^-6
-abbrev pub most_balance : ℕ
-most_balance = 100 * most_notional + most_amount
-
--- what the greatest balance earns at the greatest rate, before it is divided
-abbrev pub most_product : ℕ
-most_product = most_balance * most_rate * most_numerator
 
 -- 10^14 units of currency, in units of 10^-places
 abbrev pub most_units : ℕ → ℕ
@@ -180,10 +171,6 @@ code_for code (p ∷ q ∷ ps) = code
 -- the period with that number, from 1, leaves the range, in a payment whose rates are all there
 abbrev pub IsOutOfRange : CompCode → List PeriodTerm → ℕ → Type 0
 IsOutOfRange code ps number = AllPriced ps × Passes (code_for code ps) ps number
-
--- the first such period
-abbrev pub IsFirstOut : CompCode → List PeriodTerm → ℕ → Type 0
-IsFirstOut code ps number = First nat_lt (IsOutOfRange code ps) number
 
 -- the amount of a payment: absent where the rates of a period are
 abbrev pub AmountOf : CompCode → List PeriodTerm → ℕ → Option ℤ → Type 0

@@ -2,13 +2,9 @@
 use Rattle.std.specs.Prelude.{ℕ, ℤ, List, Option, Result, Ok, Err, nat_lt}
 use Rattle.irs_base.specs.Outcomes.{Spec, unless_broken}
 use Rattle.irs_terms.specs.declared.codes.CompCode.{CompCode}
-use Rattle.irs_compound.specs.Amounts.{AmountOf, IsOutOfRange, Passes, Pays}
+use Rattle.irs_compound.specs.Amounts.{AmountOf, IsOutOfRange}
 use Rattle.irs_compound.specs.declared.compounding.OutOfRange.{OutOfRange}
 use Rattle.irs_compound.specs.declared.periods.PeriodTerm.{PeriodTerm}
-
--- what periods with all their rates pay, or the first of them that leaves the range
-abbrev pub pay_of : CompCode → List PeriodTerm → ℕ → Spec ℤ ℕ
-pay_of code ps places = unless_broken nat_lt (Passes code ps) (Pays code ps places)
 
 -- the amount of a payment, absent where the rates of a period are, or the first period that leaves the range
 abbrev pub payment_amount_of : CompCode → List PeriodTerm → ℕ → Spec (Option ℤ) ℕ

@@ -63,10 +63,6 @@ abbrev pub treated : Treatment → ℤ → ℤ
 treated AsIs rate = rate
 treated ZeroFloor rate = if int_lt rate (pos 0) then pos 0 else rate
 
--- the rate of an exact one: rounded, and then by its treatment
-abbrev pub all_in_at : FloatTerms → ℤ → ℤ
-all_in_at f exact = treated f.treatment (rate_at f.rounding exact)
-
 -- multiplier times observed, in units of 10^-18
 abbrev pub exact_base : FloatTerms → ℤ → ℤ → ℤ
 exact_base f start observed = value_in_force f.multiplier start *ℤ observed
@@ -87,14 +83,6 @@ fixed_rates_of values start = record { base = value_in_force values start; all_i
 abbrev pub rates_by : Leg → ℤ → Option ℤ → Option Rates
 rates_by (Fixed values) start observed = Some (fixed_rates_of values start)
 rates_by (Floating float) start observed = option_map (rates_of float start) observed
-
--- the size of an exact base rate, in units of 10^-18: the greatest multiplier times the greatest observed rate
-abbrev pub most_exact_base : ℕ
-most_exact_base = most_rate * most_rate
-
--- the size of an exact rate, in units of 10^-18: that, and the greatest spread
-abbrev pub most_exact_rate : ℕ
-most_exact_rate = most_exact_base + most_rate * 10 ^ 9
 
 -- the size of a rounded rate, in units of 10^-9: ten times the greatest rate, and the greatest spread
 abbrev pub most_rounded_rate : ℕ

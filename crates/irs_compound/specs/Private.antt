@@ -1,3 +1,9 @@
+pub mod PeriodRates
+pub mod Amounts
+pub mod Tens
+pub mod PartsLaws
+pub mod AmountLaws
+pub mod Outcomes
 pub mod InForceLaws
 pub mod StepCounts
 pub mod RateLaws

@@ -4,7 +4,8 @@ ghost use Rattle.irs_base.specs.Order.{First};
 ghost use Rattle.irs_daycount.specs.Actual.{act_act_denominator};
 ghost use Rattle.irs_compound.specs.Amounts.{IsPayment, AllPriced, Passes, RoundedAt, code_for, most_places};
 ghost use Rattle.irs_compound.specs.Private.Balances.{BalanceFits, Balances};
-ghost use Rattle.irs_compound.specs.Outcomes.{MeetsPosition, pay_of};
+ghost use Rattle.irs_compound.specs.Outcomes.{MeetsPosition};
+ghost use Rattle.irs_compound.specs.Private.Outcomes.{pay_of};
 
 use crate::balances::{Balance, next_balance};
 use crate::compounding::OutOfRange;

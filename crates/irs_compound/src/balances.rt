@@ -10,8 +10,9 @@ ghost use Rattle.irs_base.specs.Limits.{most_notional, most_rate};
 ghost use Rattle.irs_terms.specs.Lawful.{IsNotional};
 ghost use Rattle.irs_daycount.specs.Actual.{act_act_denominator};
 ghost use Rattle.irs_compound.specs.declared.periods.Parts.{Parts};
-ghost use Rattle.irs_compound.specs.Amounts.{IsTerm, StandsAt, PartsWithin, RatesWithin, amount};
-ghost use Rattle.irs_compound.specs.Amounts.{kept_of, most_amount, most_balance, most_exact, most_product};
+ghost use Rattle.irs_compound.specs.Amounts.{IsTerm, StandsAt, PartsWithin, RatesWithin, amount, kept_of, most_amount};
+ghost use Rattle.irs_compound.specs.Amounts.{most_exact};
+ghost use Rattle.irs_compound.specs.Private.Amounts.{most_balance, most_product};
 ghost use Rattle.irs_compound.specs.Private.Balances.{BalanceFits, Takes, Stops, after};
 
 use crate::interest::{earned, interest};

@@ -1,7 +1,8 @@
 //! What a balance earns in a period: balance times rate times fraction.
 ghost use Rattle.std.specs.Prelude.{◌≡◌, ◌*◌, ◌≤◌, ◌*ℤ◌, unsigned_abs};
 ghost use Rattle.irs_base.specs.Limits.{most_rate};
-ghost use Rattle.irs_compound.specs.Amounts.{IsFraction, Interest, most_balance, most_product};
+ghost use Rattle.irs_compound.specs.Amounts.{IsFraction, Interest};
+ghost use Rattle.irs_compound.specs.Private.Amounts.{most_balance, most_product};
 
 use crate::products::product;
 use irs_base::{Direction, round};

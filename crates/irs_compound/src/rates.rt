@@ -11,8 +11,10 @@ ghost use Rattle.irs_terms.specs.Lawful.{IsRate, IsLawfulValues, IsLawfulFloat};
 ghost use Rattle.irs_base.specs.Limits.{most_rate};
 ghost use Rattle.irs_compound.specs.declared.periods.Rates.{Rates};
 ghost use Rattle.irs_compound.specs.InForce.{value_in_force};
-ghost use Rattle.irs_compound.specs.PeriodRates.{RatesOf, FixedRatesOf, rate_at, treated, all_in_at};
-ghost use Rattle.irs_compound.specs.PeriodRates.{rates_of, fixed_rates_of, most_exact_base, most_exact_rate};
+ghost use Rattle.irs_compound.specs.PeriodRates.{RatesOf, FixedRatesOf, rate_at, treated};
+ghost use Rattle.irs_compound.specs.Private.PeriodRates.{all_in_at};
+ghost use Rattle.irs_compound.specs.PeriodRates.{rates_of, fixed_rates_of};
+ghost use Rattle.irs_compound.specs.Private.PeriodRates.{most_exact_base, most_exact_rate};
 ghost use Rattle.irs_compound.specs.PeriodRates.{most_rounded_rate};
 
 use crate::periods::Rates;

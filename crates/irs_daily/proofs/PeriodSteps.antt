@@ -19,7 +19,8 @@ use Rattle.irs_observed.specs.declared.method.DailyRateMethod.{DailyRateMethod}
 use Rattle.irs_observed.specs.declared.observation.NoObservations.{NoObservations}
 use Rattle.irs_observed.specs.declared.observation.Observation.{Observation}
 use Rattle.irs_observed.proofs.OutcomeLemmas.{one_observations}
-use Rattle.irs_daily.specs.Outcomes.{HasNoDailyRows, HasNoRows, daily_rows_of, period_rows_of, rows_by_of}
+use Rattle.irs_daily.specs.Outcomes.{HasNoDailyRows, HasNoRows}
+use Rattle.irs_daily.specs.Private.Outcomes.{daily_rows_of, period_rows_of, rows_by_of}
 use Rattle.irs_daily.specs.declared.periods.PeriodRows.{PeriodRows}
 use Rattle.irs_daily.specs.declared.rows.NoRowsWhy.{NoRowsWhy}
 use Rattle.irs_daily.specs.declared.rows.NoRowsWhy.TheVariants.{Unobserved, OutOfRange}

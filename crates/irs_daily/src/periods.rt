@@ -11,7 +11,7 @@ ghost use Rattle.irs_observed.specs.Observations.{HasWeights};
 ghost use Rattle.irs_observed.specs.OvernightRates.{overnight_source};
 ghost use Rattle.irs_daily.specs.Private.FactorSteps.{IsGrowthOf};
 ghost use Rattle.irs_daily.specs.ObservedRows.{day_rows};
-ghost use Rattle.irs_daily.specs.Outcomes.{daily_rows_of, period_rows_of, rows_by_of};
+ghost use Rattle.irs_daily.specs.Private.Outcomes.{daily_rows_of, period_rows_of, rows_by_of};
 ghost use Rattle.irs_daily.specs.declared.rows.ObservedRow.TheVariants.{Stub as OfStub};
 
 use crate::factors::{first_growth, grown};

@@ -1,12 +1,12 @@
 -- A period has one number of days and one fraction by a code; its denominator depends on the code alone.
-use Rattle.std.proofs.Common.{◌≡◌, ℕ, Bool, ℤ, pos, negsuc, ◌-ℤ◌, ◌<ℤ◌, unsigned_abs, arith, refl, sym, ap, ◌∙◌}
+use Rattle.std.proofs.Common.{◌≡◌, ℕ, Bool, ℤ, pos, arith, sym, ap, ◌∙◌}
 use Rattle.jiff_core.proofs.SignedLemmas.{signed_arith}
 use Rattle.irs_terms.specs.declared.results.Frac.{Frac}
 use Rattle.irs_terms.specs.declared.codes.DayCountCode.{DayCountCode}
 use Rattle.irs_terms.specs.declared.codes.DayCountCode.TheVariants.{OneOne, ActActIsda, Act365Fixed, Act360, Thirty360}
 use Rattle.irs_terms.specs.declared.codes.DayCountCode.TheVariants.{ThirtyE360, ThirtyE360Isda}
 use Rattle.irs_daycount.specs.Actual.{ActAct, act_act_parts}
-use Rattle.irs_daycount.specs.Fractions.{Days, Fraction, days_of, fraction_of, denominator_of}
+use Rattle.irs_daycount.specs.Fractions.{Fraction}
 
 -- fractions with one numerator and one denominator are equal
 same_frac : (f g : Frac) → f.num ≡ g.num → f.den ≡ g.den → f ≡ g
@@ -31,66 +31,3 @@ one_fraction Act360 s e last f g a b = same_frac f g (a.0 ∙ sym b.0) (a.1 ∙ 
 one_fraction Thirty360 s e last f g a b = same_frac f g (a.0 ∙ sym b.0) (a.1 ∙ sym b.1)
 one_fraction ThirtyE360 s e last f g a b = same_frac f g (a.0 ∙ sym b.0) (a.1 ∙ sym b.1)
 one_fraction ThirtyE360Isda s e last f g a b = same_frac f g (a.0 ∙ sym b.0) (a.1 ∙ sym b.1)
-
--- a number above 0 is its own size
-later : (z : ℤ) → pos 0 <ℤ z → z ≡ pos (unsigned_abs z)
-later (pos n) h = refl
-later (negsuc n) h = absurd (omega (arith, signed_arith, h))
-
--- the function gives the fraction
-pub fraction_is : (code : DayCountCode) (s e : ℤ) (last : Bool) → s <ℤ e
-    → Fraction code s e last (fraction_of code s e last)
-unfolding fraction_of
-fraction_is OneOne s e last h = (refl, refl)
-fraction_is ActActIsda s e last h =
-    let k = later (e -ℤ s) (omega (arith, signed_arith, h)) in
-    record { days = unsigned_abs (e -ℤ s); ends = omega (arith, signed_arith, k); num = refl; den = refl }
-fraction_is Act365Fixed s e last h = (refl, refl)
-fraction_is Act360 s e last h = (refl, refl)
-fraction_is Thirty360 s e last h = (refl, refl)
-fraction_is ThirtyE360 s e last h = (refl, refl)
-fraction_is ThirtyE360Isda s e last h = (refl, refl)
-
--- so a fraction of the period is the function's
-pub fraction_value : (code : DayCountCode) (s e : ℤ) (last : Bool) (f : Frac) → s <ℤ e → Fraction code s e last f
-    → f ≡ fraction_of code s e last
-fraction_value code s e last f h x =
-    one_fraction code s e last f (fraction_of code s e last) x (fraction_is code s e last h)
-
--- the denominator of a fraction is that of its day count
-pub one_denominator : (code : DayCountCode) (s e : ℤ) (last : Bool) (f : Frac) → Fraction code s e last f
-    → f.den ≡ denominator_of code
-one_denominator OneOne s e last f a = a.1
-one_denominator ActActIsda s e last f a = a.den
-one_denominator Act365Fixed s e last f a = a.1
-one_denominator Act360 s e last f a = a.1
-one_denominator Thirty360 s e last f a = a.1
-one_denominator ThirtyE360 s e last f a = a.1
-one_denominator ThirtyE360Isda s e last f a = a.1
-
--- any two numbers of days of one period by one code are equal
-pub one_days : (code : DayCountCode) (s e : ℤ) (last : Bool) (m n : ℤ) → Days code s e last m
-    → Days code s e last n → m ≡ n
-one_days OneOne s e last m n a b = a ∙ sym b
-one_days ActActIsda s e last m n a b = a ∙ sym b
-one_days Act365Fixed s e last m n a b = a ∙ sym b
-one_days Act360 s e last m n a b = a ∙ sym b
-one_days Thirty360 s e last m n a b = a ∙ sym b
-one_days ThirtyE360 s e last m n a b = a ∙ sym b
-one_days ThirtyE360Isda s e last m n a b = a ∙ sym b
-
--- the function gives the days
-pub days_is : (code : DayCountCode) (s e : ℤ) (last : Bool) → Days code s e last (days_of code s e last)
-unfolding days_of
-days_is OneOne s e last = refl
-days_is ActActIsda s e last = refl
-days_is Act365Fixed s e last = refl
-days_is Act360 s e last = refl
-days_is Thirty360 s e last = refl
-days_is ThirtyE360 s e last = refl
-days_is ThirtyE360Isda s e last = refl
-
--- so a number of days of the period is the function's
-pub days_value : (code : DayCountCode) (s e : ℤ) (last : Bool) (n : ℤ) → Days code s e last n
-    → n ≡ days_of code s e last
-days_value code s e last n x = one_days code s e last n (days_of code s e last) x (days_is code s e last)

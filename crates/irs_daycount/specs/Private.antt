@@ -1,1 +1,2 @@
+pub mod FractionLaws
 pub mod Places

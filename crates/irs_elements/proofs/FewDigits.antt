@@ -4,7 +4,8 @@ use Rattle.irs_base.proofs.DecimalLemmas.{digits_true}
 use Rattle.irs_base.specs.Limits.{most_notional}
 use Rattle.irs_elements.proofs.DecimalsAt.{dec_is}
 use Rattle.irs_elements.proofs.FractionsAt.{below_power}
-use Rattle.irs_elements.specs.Decimals.{dec_at, digits_at, few_digits_at}
+use Rattle.irs_elements.specs.Decimals.{dec_at}
+use Rattle.irs_elements.specs.Private.Decimals.{digits_at, few_digits_at}
 use Rattle.irs_elements.specs.Numbers.{notional_at, within}
 use Rattle.std.proofs.Common.{◌≡◌, inl, ℕ, ◌+◌, ◌*◌, ◌^◌, ◌<◌, ◌≤◌, nat_le, nat_lt, Bool, true, false, List, []}
 use Rattle.std.proofs.Common.{length, pos, Some, None, if◌then◌else◌, refl, sym, arith}

@@ -20,11 +20,12 @@ use Rattle.irs_elements.specs.declared.table.Choice.{Choice}
 use Rattle.irs_elements.specs.declared.walk.Unmet.{Unmet}
 use Rattle.irs_base.specs.declared.places.Rule.{Rule}
 use Rattle.irs_base.specs.declared.places.Rule.TheVariants.{K2, K3, K4, K5, K7}
-use Rattle.irs_elements.specs.Elements.{place, unmet_place, choice_unmet, is_chosen, fault_if, own_rule, name_at}
+use Rattle.irs_elements.specs.Elements.{place, unmet_place, choice_unmet, is_chosen, own_rule, name_at}
+use Rattle.irs_elements.specs.Private.Elements.{fault_if}
 use Rattle.irs_elements.specs.Elements.{is_unknown, is_element, is_refused, is_required, most, absent_index, index_in}
 use Rattle.irs_elements.specs.Elements.{IsMember, ShapeFault, unknown, unmet, odd, no_href, has_odd, lacks_href}
 use Rattle.irs_elements.specs.Elements.{FaultAt, own, shape, under, FaultUnder, missing, refused, too_many, inside}
-use Rattle.irs_elements.specs.Elements.{names_among}
+use Rattle.irs_elements.specs.Private.Elements.{names_among}
 use Rattle.irs_elements.specs.Private.Walk.{EndsHold, FaultAmong, MemberFault, end_at}
 use Rattle.irs_elements.proofs.Exact.{both_true}
 use Rattle.irs_elements.specs.Private.Walk.{are_one_right, is_right, is_right_leaf}

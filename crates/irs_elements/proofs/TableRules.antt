@@ -2,7 +2,8 @@
 use Rattle.irs_base.specs.declared.places.Broken.{Broken}
 use Rattle.irs_base.specs.declared.places.Rule.{Rule}
 use Rattle.irs_base.specs.declared.places.Rule.TheVariants.{K3, K5, K6}
-use Rattle.irs_elements.specs.Elements.{FaultAt, FaultUnder, IsOfTables, ShapeFault, inside, missing, no_href, odd}
+use Rattle.irs_elements.specs.Elements.{FaultAt, FaultUnder, ShapeFault, inside, missing, no_href, odd}
+use Rattle.irs_elements.specs.Private.Elements.{IsOfTables}
 use Rattle.irs_elements.specs.Elements.{own, own_rule, refused, shape, too_many, under, unknown, unmet}
 use Rattle.irs_elements.specs.Leaves.{has_value, leaf_rule, out_of_profile, text_of, text_rule}
 use Rattle.irs_elements.specs.declared.table.Choice.{Choice}

@@ -34,11 +34,3 @@ dec_at places (c ∷ cs) =
     if c == 43 then option_map pos (unsigned_at places cs) else
     (if c == 45 then option_map (λ n. neg_ℤ (pos n)) (unsigned_at places cs) else option_map pos
     (unsigned_at places (c ∷ cs)))
-
--- the number that a text of nothing but digits spells after those of n
-abbrev pub digits_at : ℕ → List ℕ → Option ℕ
-digits_at n s = if list_all is_digit s then Some (number_after n s) else None
-
--- the number that one to nine digits spell
-abbrev pub few_digits_at : List ℕ → Option ℕ
-few_digits_at s = if nat_lt 0 (length s) && nat_le (length s) 9 then digits_at 0 s else None

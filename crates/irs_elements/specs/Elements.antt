@@ -2,7 +2,7 @@
 use Rattle.irs_base.specs.Elements.{count}
 use Rattle.irs_base.specs.declared.places.Broken.{Broken}
 use Rattle.irs_base.specs.declared.places.Rule.{Rule}
-use Rattle.irs_base.specs.declared.places.Rule.TheVariants.{K2, K3, K4, K5, K6, K7}
+use Rattle.irs_base.specs.declared.places.Rule.TheVariants.{K2, K3, K4, K5, K7}
 use Rattle.irs_elements.specs.Leaves.{leaf_rule}
 use Rattle.irs_elements.specs.declared.table.Choice.{Choice}
 use Rattle.irs_elements.specs.declared.table.Choice.TheVariants.{Free, AtMostOne, AtMostOneOfThree, ExactlyOne}
@@ -119,10 +119,6 @@ abbrev pub place : List Row → ℕ → Rule → ℕ → ℕ → Broken
 place rows stream rule r index =
     record { rule = rule; place = record { stream = stream; elem = elem_at rows r; index = index } }
 
--- a broken rule, where the test is true
-abbrev pub fault_if : Bool → Broken → Option Broken
-fault_if b f = if b then Some f else None
-
 -- two members of a choice occur together, which has no index; none is an absence
 abbrev pub unmet_place : List Row → ℕ → ℕ → ℕ → Unmet → Broken
 unmet_place rows stream r i Both = place rows stream K7 r 0
@@ -133,11 +129,6 @@ unmet_place rows stream r i Neither = place rows stream K2 r i
 -- the names that the references lead to
 abbrev pub texts : List (Bor (List ℕ)) → List (List ℕ)
 texts names = map (λ n. n.now) names
-
--- the names of a value's elements, none where it is no object
-abbrev pub names_among : Option (List (List ℕ)) → List (List ℕ)
-names_among None = []
-names_among (Some names) = names
 
 -- a name, where there is one
 abbrev pub name_in : Option (List ℕ) → List ℕ
@@ -235,13 +226,3 @@ module _ (rows : List Row) (names : List (List ℕ)) (stream : ℕ) where
           → length (items_of m) ≤ most row.count → slice_get (items_of m) j ≡ Some x
           → FaultAt c row.kind (index_in row.count i j) x f
           → FaultUnder c row i d f
-
--- a rule that a table of elements can break: one of K2 to K7
-abbrev pub IsOfTables : Rule → Type 0
-IsOfTables K2 = Unit {0}
-IsOfTables K3 = Unit {0}
-IsOfTables K4 = Unit {0}
-IsOfTables K5 = Unit {0}
-IsOfTables K6 = Unit {0}
-IsOfTables K7 = Unit {0}
-IsOfTables k = ⊥

@@ -1,1 +1,4 @@
+pub mod Decimals
+pub mod Fractions
+pub mod Elements
 pub mod Walk

@@ -1,7 +1,8 @@
 //! Dates and numbers: the value of a text. `None` comes exactly where the text is outside the
 //! grammar or the range of its kind.
 ghost use Rattle.irs_elements.specs.Dates.{day_at};
-ghost use Rattle.irs_elements.specs.Decimals.{dec_at, digits_at, few_digits_at};
+ghost use Rattle.irs_elements.specs.Decimals.{dec_at};
+ghost use Rattle.irs_elements.specs.Private.Decimals.{digits_at, few_digits_at};
 ghost use Rattle.irs_elements.specs.Numbers.{amount_at, digits_of, has_no_point as no_point_of};
 ghost use Rattle.irs_elements.specs.Numbers.{is_whole as is_whole_of, multiplier_at, notional_at};
 ghost use Rattle.irs_elements.specs.Numbers.{observation_days_at, offset_at};

@@ -10,7 +10,8 @@ use Rattle.irs_elements.proofs.DatesAt.{day_is}
 use Rattle.irs_elements.proofs.DecimalsAt.{dec_is}
 use Rattle.irs_elements.proofs.Exact.{both_true, exact_same, true_both}
 use Rattle.irs_elements.proofs.FractionsAt.{fraction_exact, one_fraction}
-use Rattle.irs_elements.specs.Fractions.{IsFraction, fraction_at}
+use Rattle.irs_elements.specs.Fractions.{fraction_at}
+use Rattle.irs_elements.specs.Private.Fractions.{IsFraction}
 use Rattle.irs_elements.specs.Words.{currency_at, is_capital, is_currency}
 use Rattle.irs_base.specs.Rounding.{Rounded}
 use Rattle.irs_base.specs.declared.rounding.Direction.TheVariants.{Nearest}
@@ -20,7 +21,8 @@ use Rattle.irs_elements.specs.Dates.{day_at}
 use Rattle.irs_elements.specs.Find.{text_in}
 use Rattle.irs_elements.specs.Numbers.{amount_at, digits_of, has_no_point, is_whole, whole_at}
 use Rattle.irs_json.proofs.Trims.{front_stays, back_stays}
-use Rattle.irs_json.specs.Trim.{NoSpaceFirst, NoSpaceLast, is_space, trim, trim_back}
+use Rattle.irs_json.specs.Trim.{is_space, trim, trim_back}
+use Rattle.irs_json.specs.Private.Trim.{NoSpaceFirst, NoSpaceLast}
 use Rattle.jiff_core.proofs.SignedLemmas.{signed_arith}
 use Rattle.serde_json.specs.Data.{string}
 use Rattle.std.proofs.Common.{◌≡◌, inl, inr, ℕ, zero, suc, ◌+◌, ◌-◌, ◌*◌, ◌/◌, ◌^◌, ◌<◌, ◌≤◌, List, [], ◌∷◌, ◌++◌}

@@ -3,7 +3,8 @@ use Rattle.std.proofs.Common.{◌≡◌, ℕ, zero, suc, ◌+◌, List, [], ◌�
 use Rattle.std.proofs.lemmas.List.{append-nil}
 use Rattle.std.proofs.lemmas.List.Concat.{flat_map-append}
 use Rattle.irs_emit.proofs.Pieces.{same_piece, twice}
-use Rattle.irs_emit_xml.specs.Flows.{element, lines, listed}
+use Rattle.irs_emit_xml.specs.Flows.{element, listed}
+use Rattle.irs_emit_xml.specs.Private.Flows.{lines}
 use Rattle.irs_emit_xml.specs.Trees.{Node, close_text, declared_text, end_text, indent, leaf_text, namespace_text}
 use Rattle.irs_emit_xml.specs.Trees.{node_text, nodes_text, open_text, root_open_text}
 

@@ -6,7 +6,8 @@ use Rattle.irs_emit.specs.Private.Paid.{IsPaid}
 use Rattle.irs_schedule.specs.Parts.{Part}
 use Rattle.irs_schedule.specs.declared.entries.PaymentEntry.{PaymentEntry}
 use Rattle.irs_terms.specs.declared.currency.Currency.{Currency}
-use Rattle.irs_emit_xml.specs.Flows.{forecast_node, lines, one_period, period_nodes}
+use Rattle.irs_emit_xml.specs.Flows.{forecast_node, one_period, period_nodes}
+use Rattle.irs_emit_xml.specs.Private.Flows.{lines}
 use Rattle.irs_emit_xml.specs.Trees.{Node, node_text}
 use Rattle.irs_emit.proofs.Pieces.{nothing_more}
 use Rattle.irs_emit_xml.proofs.Lines.{lines_append, one_line}

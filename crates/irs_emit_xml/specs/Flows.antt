@@ -4,7 +4,6 @@
 use Rattle.std.specs.Fmt.{signed_decimal}
 use Rattle.std.specs.Prelude.{ℕ, zero, suc, ◌+◌, ◌-◌, ◌^◌, List, [], ◌∷◌, ◌++◌, map, Option, Some, None, ℤ, pos, ◌*ℤ◌}
 use Rattle.std.specs.Prelude.{slice_get, codes}
-use Rattle.std.specs.List.{flat_map}
 use Rattle.irs_base.specs.Rounding.{rounded}
 use Rattle.irs_base.specs.Texts.{day_text, dec_text}
 use Rattle.irs_base.specs.declared.line.Dec.{Dec}
@@ -17,16 +16,12 @@ use Rattle.irs_schedule.specs.Parts.{Part}
 use Rattle.irs_schedule.specs.PeriodViews.{period_at}
 use Rattle.irs_schedule.specs.declared.entries.PaymentEntry.{PaymentEntry}
 use Rattle.irs_schedule.specs.declared.views.CalculationPeriod.{CalculationPeriod}
-use Rattle.irs_emit_xml.specs.Trees.{Node, leaf, branch, Nodes, no_nodes, node, node_text, written_text}
+use Rattle.irs_emit_xml.specs.Trees.{Node, leaf, branch, Nodes, no_nodes, node, written_text}
 
 -- elements in this order
 abbrev pub listed : List Node → Nodes
 listed [] = no_nodes
 listed (n ∷ ns) = node n (listed ns)
-
--- the lines of elements, with this many levels round them
-abbrev pub lines : ℕ → List Node → List ℕ
-lines k ns = flat_map (node_text k) ns
 
 -- an element with elements
 abbrev pub element : List ℕ → List Node → Node

@@ -2,7 +2,8 @@
 ghost use Rattle.std.specs.Prelude.{◌≡◌, ◌++◌, ◌-◌, ◌≤◌, IfOk, OnOk, map};
 ghost use Rattle.irs_emit.specs.Emitted.{emit_value};
 ghost use Rattle.irs_emit.specs.Private.Paid.{IsPaid};
-ghost use Rattle.irs_emit_xml.specs.Flows.{cashflows_node, exchange_node, flows_text, lines, one_period, payment_node};
+ghost use Rattle.irs_emit_xml.specs.Flows.{cashflows_node, exchange_node, flows_text, one_period, payment_node};
+ghost use Rattle.irs_emit_xml.specs.Private.Flows.{lines};
 ghost use Rattle.irs_emit_xml.specs.Flows.{period_nodes, stream_node};
 ghost use Rattle.irs_emit_xml.specs.Ones.{ones};
 ghost use Rattle.irs_emit_xml.specs.StatedInXml.{StatesInXml};

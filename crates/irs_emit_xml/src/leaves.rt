@@ -3,7 +3,8 @@
 ghost use Rattle.std.specs.Prelude.{◌≡◌, ◌++◌, ◌≤◌, ◌<◌, ◌<ℤ◌, ◌*ℤ◌, ◌^◌, IfSome, OnOk, pos, unsigned_abs};
 ghost use Rattle.irs_base.specs.Texts.{most_places};
 ghost use Rattle.irs_emit_xml.specs.Flows.{amount_node, count_node, currency_node, day_node, fraction_node, known};
-ghost use Rattle.irs_emit_xml.specs.Flows.{lines, notional_node, number_node, rate_node};
+ghost use Rattle.irs_emit_xml.specs.Flows.{notional_node, number_node, rate_node};
+ghost use Rattle.irs_emit_xml.specs.Private.Flows.{lines};
 ghost use Rattle.irs_emit_xml.specs.Trees.{node_text};
 ghost use Rattle.irs_schedule.specs.RowTexts.{IsFew};
 

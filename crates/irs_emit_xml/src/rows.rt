@@ -2,7 +2,8 @@
 //! isn't there.
 ghost use Rattle.std.specs.Prelude.{◌≡◌, ◌++◌, ◌≤◌, ◌<ℤ◌, IfSome, OnOk, option_map, pos};
 ghost use Rattle.irs_base.specs.Texts.{most_places};
-ghost use Rattle.irs_emit_xml.specs.Flows.{definition_node, exchange_node, forecast_node, lines, observation_node};
+ghost use Rattle.irs_emit_xml.specs.Flows.{definition_node, exchange_node, forecast_node, observation_node};
+ghost use Rattle.irs_emit_xml.specs.Private.Flows.{lines};
 ghost use Rattle.irs_emit_xml.specs.Flows.{period_front, period_node, rate_of};
 ghost use Rattle.irs_emit_xml.specs.Trees.{node_text};
 ghost use Rattle.irs_schedule.specs.RowTexts.{IsFew};

@@ -6,3 +6,4 @@ pub mod Names
 pub mod Trim
 pub mod Leaves
 pub mod Seen
+pub mod Private

@@ -7,7 +7,8 @@ use Rattle.std.proofs.lemmas.Option.{same_Some}
 use Rattle.std.proofs.lemmas.Slice.Eq.{bytes_eq-Decides}
 use Rattle.irs_base.specs.declared.places.Place.{Place}
 use Rattle.irs_locate.specs.Lines.{IsLast, IsTagOf, Lacks, Open, Within, after, count_of, around, is_end, way_to}
-use Rattle.irs_locate.specs.Lines.{with_child, IsRootTag, root_piece}
+use Rattle.irs_locate.specs.Lines.{with_child}
+use Rattle.irs_locate.specs.Private.Lines.{IsRootTag, root_piece}
 use Rattle.irs_locate.specs.Lines.{further, opens, ends_at_once, ended_at_once, too_few, cut_off}
 use Rattle.irs_locate.specs.Markup as markup
 use Rattle.irs_locate.specs.Markup.{piece_of}

@@ -2,10 +2,9 @@
 use Rattle.irs_base.specs.declared.places.Place.{Place}
 use Rattle.irs_locate.specs.Markup.{Mark, Piece, plain, passed, opening, empty, closing, piece_of}
 use Rattle.irs_locate.specs.Ways.{Step, way}
-use Rattle.irs_locate.specs.declared.lines.Tag.{Tag}
-use Rattle.std.specs.Prelude.{◌≡◌, ℕ, ◌+◌, ◌-◌, ◌^◌, ◌<◌, ◌≤◌, ◌==◌, min, Bool, true, false, List, [], ◌∷◌, ◌++◌}
+use Rattle.std.specs.Prelude.{◌≡◌, ℕ, ◌+◌, ◌-◌, ◌^◌, ◌<◌, ◌==◌, min, Bool, true, false, List, [], ◌∷◌, ◌++◌}
 use Rattle.std.specs.Prelude.{take, drop}
-use Rattle.std.specs.Prelude.{Option, Some, None, slice_get, length, if◌then◌else◌}
+use Rattle.std.specs.Prelude.{Option, Some, None, slice_get, if◌then◌else◌}
 use Rattle.std.specs.Str.{bytes_eq}
 
 -- ---- lines
@@ -115,24 +114,6 @@ pub record IsLast (text : List ℕ) (place : Place) (at : ℕ) : Type 0 where
   -- and the way ends there, or its next element isn't there
   pub last : (next : Step) → slice_get (way root place) count ≡ Some next
       → Lacks text (with_child name lists) next (piece_of (drop at text))
-
--- what the tag of the root is
-abbrev pub root_piece : Tag → Piece
-root_piece tag =
-    if tag.is_empty then record { mark = empty tag.name.now; size = tag.size } else
-    record { mark = opening tag.name.now; size = tag.size }
-
--- no element is open before the tag
-pub record IsRootTag (text : List ℕ) (tag : Tag) : Type 0 where
-  pub within : Within text tag.at ([] ∷ [])
-  pub is : piece_of (drop tag.at text) ≡ Some (root_piece tag)
-  pub ends : tag.at + tag.size ≤ length text
-
--- from the end of an opening tag on: the place where its element ends, or where the text can't be read to its end
-abbrev pub PassesOver : List ℕ → ℕ → Open → Option ℕ → Type 0
-PassesOver text start lists (Some end) = Within text start ([] ∷ lists) → Within text end lists
-PassesOver text start lists None = Within text start ([] ∷ lists)
-    → (n : ℕ) × ((inner : Open) × (Within text n (inner ++ lists) × (piece_of (drop n text) ≡ None)))
 
 -- up to here the text has no element, and nothing more can be read
 abbrev pub HasNone : List ℕ → Type 0

@@ -2,7 +2,7 @@
 use Rattle.irs_base.specs.Elements.{document, swap, swap_stream}
 use Rattle.irs_base.specs.Paths.{path_of}
 use Rattle.irs_base.specs.declared.places.Place.{Place}
-use Rattle.std.specs.Prelude.{◌≡◌, ℕ, ◌==◌, Bool, ◌||◌, List, [], ◌∷◌, ◌++◌, Option, Some, None, map, codes}
+use Rattle.std.specs.Prelude.{ℕ, ◌==◌, Bool, ◌||◌, List, [], ◌∷◌, ◌++◌, map, codes}
 use Rattle.std.specs.Prelude.{if◌then◌else◌}
 use Rattle.std.specs.Str.{bytes_eq}
 
@@ -60,8 +60,3 @@ to_swap root =
 -- the way from a root of that name to the element at a place
 unfoldable pub way : List ℕ → Place → List Step
 way root place = if place.elem == document then once root ∷ [] else to_swap root ++ below_swap place
-
--- what is left of a path after its first name, where it has more
-abbrev pub IsRestOf : List ℕ → Option (List ℕ) → Type 0
-IsRestOf p None = others_in p ≡ []
-IsRestOf p (Some q) = others_in p ≡ names_in q

@@ -7,7 +7,8 @@ use Rattle.irs_plain.proofs.PieceLemmas.{grew_nothing, through_all}
 use Rattle.irs_cli.proofs.PutLemmas.{Through, first_part, through_last, through_last_part, through_more, through_part}
 use Rattle.irs_cli.specs.Causes.{run_status}
 use Rattle.irs_cli.specs.declared.causes.RunCause.{RunCause}
-use Rattle.irs_main.specs.Answering.{Explained, IsPlain, explanation_of, lines_of, listing_of}
+use Rattle.irs_main.specs.Answering.{Explained, explanation_of, lines_of, listing_of}
+use Rattle.irs_main.specs.Private.Answering.{IsPlain}
 
 -- where there is nothing to say, the explanation is empty
 pub unsaid : (commands words : List (List ℕ)) (c : RunCause) → is_silent c ≡ true → explanation_of commands words c ≡ []

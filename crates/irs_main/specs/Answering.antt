@@ -1,11 +1,10 @@
 -- What the program does around a run: its texts about itself, and what it says of a status.
-use Rattle.std.specs.Prelude.{◌≡◌, ◌⊎◌, ℕ, ◌==◌, true, List, [], ◌∷◌, ◌++◌, Option, Some, None, codes}
+use Rattle.std.specs.Prelude.{◌≡◌, ◌⊎◌, ℕ, ◌==◌, List, [], ◌∷◌, ◌++◌, Option, Some, None, codes}
 use Rattle.std.specs.Prelude.{if◌then◌else◌}
 use Rattle.std.specs.Str.{bytes_eq}
 use Rattle.irs_outside.specs.Outside.{Grew, GrewByFront, Rose}
 use Rattle.irs_cli.specs.Causes.{run_status}
 use Rattle.irs_cli.specs.declared.causes.RunCause.{RunCause}
-use Rattle.irs_cli.specs.declared.causes.RunCause.TheVariants.{PutFailed, NoMemory}
 use Rattle.irs_plain.specs.Sentences.{is_silent, sentence_of}
 
 -- ---- the program itself
@@ -39,10 +38,6 @@ listing_of commands c = if run_status c == 4 then lines_of commands else []
 unfoldable pub explanation_of : (commands words : List (List ℕ)) → RunCause → List ℕ
 explanation_of commands words c =
     if is_silent c then [] else (sentence_of words c ++ codes "\n") ++ listing_of commands c
-
--- what is said depends on no word
-abbrev pub IsPlain : RunCause → Type 0
-IsPlain c = (is_silent c ≡ true) ⊎ ((c ≡ PutFailed) ⊎ (c ≡ NoMemory))
 
 -- the text was written and no write failed, or one failed and a front of the text was written
 abbrev pub Explained : (text : List ℕ) → (old now : Option (List ℕ)) → (before after : ℕ) → Type 0

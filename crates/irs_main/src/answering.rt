@@ -9,7 +9,8 @@ ghost use Rattle.irs_plain.specs.Shown.{shown};
 ghost use Rattle.irs_plain.specs.Words.{texts};
 ghost use Rattle.irs_cli.specs.Causes.{IsCauseOfWritten, run_status};
 ghost use Rattle.irs_cli.specs.Run.{Ran, source, written};
-ghost use Rattle.irs_main.specs.Answering.{Explained, IsPlain, Printed, explanation_of, itself_of};
+ghost use Rattle.irs_main.specs.Answering.{Explained, Printed, explanation_of, itself_of};
+ghost use Rattle.irs_main.specs.Private.Answering.{IsPlain};
 
 use crate::pieces::put_lines;
 use irs_cli::{Cause, Files, Note, PutFailed, RunCause, Sink, Status, cause_of_run};

@@ -5,7 +5,8 @@ use Rattle.std.proofs.lemmas.Bool.{cases_lt}
 use Rattle.jiff_core.proofs.SignedLemmas.{signed_arith}
 use Rattle.irs_base.specs.Days.{IsDay}
 use Rattle.irs_base.specs.Members.{day_at}
-use Rattle.irs_base.specs.Order.{First, IsDecided}
+use Rattle.irs_base.specs.Order.{First}
+use Rattle.irs_base.specs.Private.Order.{IsDecided}
 use Rattle.irs_base.specs.Outcomes.{Determined}
 use Rattle.irs_base.proofs.Decided.{order_of}
 use Rattle.irs_base.proofs.MemberLemmas.{numbered_there, one_numbered}

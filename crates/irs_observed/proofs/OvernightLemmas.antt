@@ -18,7 +18,7 @@ use Rattle.irs_resets.specs.declared.observed.PeriodKind.{PeriodKind}
 use Rattle.irs_resets.proofs.KindLaws.{one_kind}
 use Rattle.irs_observed.specs.DailyRates.{daily_rates}
 use Rattle.irs_observed.specs.ObservationRules.{Lacks, reported_before}
-use Rattle.irs_observed.specs.Outcomes.{rate_at_of, rate_over_of}
+use Rattle.irs_observed.specs.Private.Outcomes.{rate_at_of, rate_over_of}
 use Rattle.irs_observed.specs.OvernightRates.{HasBounds, IsKindIn}
 use Rattle.irs_observed.specs.OvernightRates.{LacksAt, OvernightSource, period_of, periods_of, printed_at, printed_of}
 use Rattle.irs_observed.specs.RateOrigins.{HasOwnRate, StatesRate}

@@ -5,7 +5,8 @@ use Rattle.std.specs.Prelude.{if◌then◌else◌, nat_lt, pos, ◌<ℤ◌, slic
 use Rattle.std.proofs.lemmas.Bool.{cases_lt}
 use Rattle.irs_base.specs.Days.{IsDay}
 use Rattle.irs_base.specs.Members.{Every}
-use Rattle.irs_base.specs.Order.{First, IsDecided, IsFirst, comes_before, earlier}
+use Rattle.irs_base.specs.Order.{First, IsFirst, comes_before, earlier}
+use Rattle.irs_base.specs.Private.Order.{IsDecided}
 use Rattle.irs_base.specs.Faults.{IfStopped}
 use Rattle.irs_base.specs.Outcomes.{Determined, Meets}
 use Rattle.irs_base.specs.declared.stopped.Stopped.{Stopped}
@@ -32,9 +33,10 @@ use Rattle.irs_resets.proofs.ResetsThere.{BrokenOrNone, InDays, resets_decided, 
 use Rattle.irs_observed.specs.Outcomes.{overnight_resets_of}
 use Rattle.irs_observed.specs.OvernightRates.{AreOvernightRates, BreaksObservations, IsOvernightRate, LacksAt}
 use Rattle.irs_observed.specs.OvernightRates.{OvernightSource, observation_fault, periods_of}
-use Rattle.irs_observed.specs.OvernightResets.{AreOvernightResets, ArePrinted, BreaksOvernight, DailySource}
-use Rattle.irs_observed.specs.OvernightResets.{HasOvernightResets, HasOvernightResetsBy, IsOvernightReset, IsPrintedRow}
-use Rattle.irs_observed.specs.OvernightResets.{with_dates}
+use Rattle.irs_observed.specs.OvernightResets.{AreOvernightResets, BreaksOvernight, DailySource}
+use Rattle.irs_observed.specs.Private.OvernightResets.{ArePrinted}
+use Rattle.irs_observed.specs.OvernightResets.{HasOvernightResets, HasOvernightResetsBy, IsOvernightReset}
+use Rattle.irs_observed.specs.Private.OvernightResets.{IsPrintedRow, with_dates}
 use Rattle.irs_resets.specs.Outcomes.{resets_of}
 use Rattle.irs_observed.specs.Private.OvernightWalk.{NoneLacks}
 use Rattle.irs_observed.specs.declared.daily_resets.OvernightResets.{OvernightResets}

@@ -6,7 +6,8 @@ use Rattle.std.proofs.lemmas.Bool.{cases_lt}
 use Rattle.jiff_core.proofs.SignedLemmas.{signed_arith}
 use Rattle.irs_base.specs.Listed.{IsRising, Member}
 use Rattle.irs_base.specs.Members.{EachNumbered}
-use Rattle.irs_base.specs.Order.{First, IsDecided}
+use Rattle.irs_base.specs.Order.{First}
+use Rattle.irs_base.specs.Private.Order.{IsDecided}
 use Rattle.irs_base.specs.Outcomes.{Determined, answered, refused}
 use Rattle.irs_base.proofs.RoundingLaws.{nearest_exists}
 use Rattle.irs_terms.specs.declared.parameters.ObservationOffset.{ObservationOffset}
@@ -25,7 +26,8 @@ use Rattle.irs_observed.specs.ObservedRates.{days_of_year, rate_precision}
 use Rattle.irs_observed.specs.Outcomes.{observations_of}
 use Rattle.irs_observed.specs.OvernightRates.{IsKindIn, IsOvernightRate, IsRateBy, IsRateOf, IsRateOver, LacksAt}
 use Rattle.irs_observed.specs.OvernightRates.{OvernightSource, period_of, periods_of}
-use Rattle.irs_observed.specs.RateOrigins.{HasOwnRate, StatesRate, own_rate_of}
+use Rattle.irs_observed.specs.RateOrigins.{HasOwnRate, StatesRate}
+use Rattle.irs_observed.specs.Private.RateOrigins.{own_rate_of}
 use Rattle.irs_observed.specs.declared.method.DailyRateMethod.{DailyRateMethod}
 use Rattle.irs_observed.specs.declared.method.DailyRateMethod.TheVariants.{Compounding, Averaging}
 use Rattle.irs_observed.specs.declared.method.YearDays.{YearDays}

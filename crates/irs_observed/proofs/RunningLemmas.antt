@@ -10,7 +10,8 @@ use Rattle.irs_observed.specs.DailyRates.{DailyRates}
 use Rattle.irs_observed.specs.ObservationPeriods.{ObservedPeriod, Shifts}
 use Rattle.irs_observed.specs.Observations.{AreObservations, HasWeights, IsObservation, total_weight}
 use Rattle.irs_observed.specs.OvernightRates.{IsRateBy}
-use Rattle.irs_observed.specs.RunningRates.{AddsUpUntil, BeginsBefore, IsRateBefore, IsRateUntil}
+use Rattle.irs_observed.specs.RunningRates.{AddsUpUntil, IsRateBefore, IsRateUntil}
+use Rattle.irs_observed.specs.Private.RunningRates.{BeginsBefore}
 use Rattle.irs_observed.specs.RunningRates.{ends_by, observed_until}
 use Rattle.irs_observed.specs.ObservedRates.{Fraction}
 use Rattle.irs_observed.specs.declared.method.DailyRateMethod.{DailyRateMethod}

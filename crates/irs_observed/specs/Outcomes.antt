@@ -1,5 +1,5 @@
 -- What the calls of this crate answer, and what they refuse.
-use Rattle.std.specs.Prelude.{ℕ, List, Option}
+use Rattle.std.specs.Prelude.{List, Option}
 use Rattle.irs_base.specs.Order.{comes_before}
 use Rattle.irs_base.specs.Outcomes.{Spec, unless_broken}
 use Rattle.irs_base.specs.declared.places.Fault.{Fault}
@@ -9,8 +9,8 @@ use Rattle.irs_observed.specs.ObservationPeriods.{ObservedPeriod}
 use Rattle.irs_observed.specs.ObservationRules.{Lacks, reported_before}
 use Rattle.irs_observed.specs.Observations.{AreObservations}
 use Rattle.irs_observed.specs.ObservedRates.{Fraction, IsRateOrAbsent, PassesLimit}
-use Rattle.irs_observed.specs.OvernightRates.{AreOvernightRates, BreaksObservations, IsOvernightRate, IsRateOver}
-use Rattle.irs_observed.specs.OvernightRates.{LacksAt, OvernightSource}
+use Rattle.irs_observed.specs.OvernightRates.{AreOvernightRates, BreaksObservations}
+use Rattle.irs_observed.specs.OvernightRates.{OvernightSource}
 use Rattle.irs_observed.specs.OvernightResets.{AreOvernightResets, BreaksOvernight, DailySource}
 use Rattle.irs_observed.specs.declared.method.DailyRateMethod.{DailyRateMethod}
 use Rattle.irs_observed.specs.declared.overnight_rate.OvernightRate.{OvernightRate}
@@ -29,14 +29,6 @@ observed_rate_of method daily os = record {
   Answers = λ x. (PassesLimit method daily os → ⊥) × IsRateOrAbsent method daily os x;
   Refuses = λ _. PassesLimit method daily os;
 }
-
--- the rate by a calculation period's daily rates, or the first reason why it has no observations
-abbrev pub rate_over_of : DailyRateMethod → DailyRates → ObservedPeriod → Spec OvernightRate NoObservations
-rate_over_of method daily p = unless_broken reported_before (Lacks p) (IsRateOver method daily p)
-
--- the observed rate of period i, or the first reason why it has no observations
-abbrev pub rate_at_of : OvernightSource → RateTable → ℕ → Spec OvernightRate NoObservations
-rate_at_of source rates i = unless_broken reported_before (LacksAt source i) (IsOvernightRate source rates i)
 
 -- the observed rates of a stream with calculation parameters, or the first K48, or else the first K33
 abbrev pub overnight_rates_of : OvernightSource → RateTable → Spec (List OvernightRate) Fault

@@ -1,11 +1,8 @@
 -- The resets of a stream with calculation parameters, and the rules that they break. Periods count from 1.
-use Rattle.std.specs.Prelude.{◌≡◌, ◌⊎◌, ℕ, ◌-◌, ◌*◌, ◌^◌, ◌≤◌, List, length, Option, Some, None, IfSome, slice_get}
-use Rattle.std.specs.Prelude.{if◌then◌else◌, Result, Ok, Err, unsigned_abs}
+use Rattle.std.specs.Prelude.{◌≡◌, ◌⊎◌, ℕ, ◌*◌, ◌^◌, ◌≤◌, List, length, Option, Some, None, IfSome}
+use Rattle.std.specs.Prelude.{unsigned_abs}
 use Rattle.irs_base.specs.Members.{EachNumbered}
-use Rattle.irs_base.specs.Order.{comes_before}
 use Rattle.irs_base.specs.declared.places.Fault.{Fault}
-use Rattle.irs_base.specs.declared.stopped.Stopped.{Stopped}
-use Rattle.irs_base.specs.declared.stopped.Stopped.TheVariants.{Broken as OfBroken, Memory as OfMemory}
 use Rattle.irs_terms.specs.declared.amounts.FloatTerms.{FloatTerms}
 use Rattle.irs_terms.specs.declared.dates.ResetTerms.{ResetTerms}
 use Rattle.irs_terms.specs.declared.parameters.CalculationParameters.{CalculationParameters}
@@ -68,24 +65,3 @@ pub record AreOvernightResets (source : DailySource) (fixings : RateTable) (x : 
 -- an observed rate as it is printed keeps the bound of observed rates
 abbrev pub HasPrintedRate : Reset → Type 0
 HasPrintedRate row = IfSome row.observed (λ r. unsigned_abs r ≤ most_observed * 10 ^ 9)
-
--- the row of period i is that of the rows with what is printed of its rate
-pub record IsPrintedRow (rows : List Reset) (rs : List OvernightRate) (i : ℕ) (row : Reset) : Type 0 where
-  pub dated : Reset
-  pub at : slice_get rows (i - 1) ≡ Some dated
-  pub reset : row.reset ≡ dated.reset
-  pub fixing : row.fixing ≡ dated.fixing
-  pub observed : row.observed ≡ printed_at rs i
-
--- the rows with what is printed of these rates
-pub record ArePrinted (rows : List Reset) (rs : List OvernightRate) (printed : List Reset) : Type 0 where
-  pub many : length printed ≡ length rows
-  pub each : EachNumbered (IsPrintedRow rows rs) 1 printed
-
--- ---- two calls
-
--- a broken rule of observations, or an earlier one of dates
-abbrev pub with_dates : Result (List Reset) (Stopped Fault) → Fault → Stopped Fault
-with_dates (Ok rows) g = OfBroken g
-with_dates (Err (OfBroken f)) g = OfBroken (if comes_before g f then g else f)
-with_dates (Err OfMemory) g = OfMemory

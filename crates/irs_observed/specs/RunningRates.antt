@@ -21,11 +21,6 @@ abbrev pub observed_until : ℤ → List Observation → List Observation
 observed_until b [] = []
 observed_until b (o ∷ os) = if int_lt o.day b then ends_by b o ∷ observed_until b os else observed_until b os
 
--- the first member comes before b
-abbrev pub BeginsBefore : ℤ → List Observation → Type 0
-BeginsBefore b [] = ⊥
-BeginsBefore b (o ∷ os) = o.day <ℤ b
-
 -- the observations of a calculation period, which lacks none
 abbrev pub HasObservations : ObservedPeriod → List Observation → Type 0
 HasObservations p os = ((why : NoObservations) → Lacks p why → ⊥) × AreObservations p os

@@ -12,7 +12,8 @@ ghost use Rattle.irs_resets.specs.Resets.{source_of};
 ghost use Rattle.irs_observed.specs.ObservedRates.{most_observed};
 ghost use Rattle.irs_observed.specs.Outcomes.{overnight_resets_of};
 ghost use Rattle.irs_observed.specs.OvernightRates.{HasBounds, printed_at};
-ghost use Rattle.irs_observed.specs.OvernightResets.{ArePrinted, HasPrintedRate, IsPrintedRow, daily_source, with_dates};
+ghost use Rattle.irs_observed.specs.OvernightResets.{HasPrintedRate, daily_source};
+ghost use Rattle.irs_observed.specs.Private.OvernightResets.{ArePrinted, IsPrintedRow, with_dates};
 
 use crate::order::earlier_fault;
 use crate::overnight_rate::{OvernightRate, OvernightRates};

@@ -8,7 +8,8 @@ ghost use Rattle.irs_observed.specs.DailyRates.{daily_rates};
 ghost use Rattle.irs_observed.specs.ObservationPeriods.{Shifts, observed_period};
 ghost use Rattle.irs_observed.specs.Observations.{total_weight};
 ghost use Rattle.irs_observed.specs.OvernightRates.{HasBounds, IsRateBy};
-ghost use Rattle.irs_observed.specs.RunningRates.{AddsUpUntil, BeginsBefore, IsRateBefore, ends_by, observed_until};
+ghost use Rattle.irs_observed.specs.RunningRates.{AddsUpUntil, IsRateBefore, ends_by, observed_until};
+ghost use Rattle.irs_observed.specs.Private.RunningRates.{BeginsBefore};
 ghost use Rattle.irs_observed.specs.declared.overnight_rate.OvernightRate.{OvernightRate as ARate};
 
 use crate::members::days_ahead;

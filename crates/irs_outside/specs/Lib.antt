@@ -5,3 +5,4 @@ pub mod SureFiles
 pub mod MemSinks
 pub mod MemSinkViews
 pub mod SureSinks
+pub mod Private

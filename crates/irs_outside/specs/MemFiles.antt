@@ -1,10 +1,7 @@
 -- Files in memory, with calls that are to fail.
-use Rattle.std.specs.Prelude.{ℕ, List, Option, option_map, string_bytes, IsTrue}
-use Rattle.std.specs.List.{list_any}
-use Rattle.std.specs.Bool.{nat_eq}
+use Rattle.std.specs.Prelude.{ℕ, List, Option, option_map, string_bytes}
 use Rattle.irs_outside.specs.declared.memory_files.MemFiles.{MemFiles}
 use Rattle.irs_outside.specs.FileMaps.{bytes_under}
-use Rattle.irs_outside.specs.Outside.{next_count}
 
 -- the bytes under a name
 abbrev pub file_under : MemFiles → List ℕ → Option (List ℕ)
@@ -25,7 +22,3 @@ faults_so_far m = m.faults
 -- the name that the last of these asked for
 abbrev pub last_failed : MemFiles → Option (List ℕ)
 last_failed m = option_map string_bytes m.failed
-
--- the next fetch is one that is to fail
-abbrev pub IsMarked : MemFiles → Type 0
-IsMarked m = IsTrue (list_any (λ call. nat_eq call (next_count m.calls)) m.marked.items)

@@ -2,9 +2,10 @@
 //! library.
 ghost use Rattle.std.specs.Prelude.{◌≡◌, ◌≢◌, ℕ, ◌≤◌, List, [], ◌∷◌, ◌++◌, length, take, Some, None, IfOk};
 ghost use Rattle.std.specs.Prelude.{IfSome, IsErrOf, OnOk, OnErr};
-ghost use Rattle.irs_outside.specs.Outside.{IsFrontUnder, Rose, next_count};
+ghost use Rattle.irs_outside.specs.Outside.{IsFrontUnder, Rose};
+ghost use Rattle.irs_outside.specs.Private.Outside.{next_count};
 ghost use Rattle.irs_outside.specs.MemFiles.{file_under, marked_calls, calls_so_far, faults_so_far, last_failed};
-ghost use Rattle.irs_outside.specs.MemFiles.{IsMarked};
+ghost use Rattle.irs_outside.specs.Private.MemFiles.{IsMarked};
 
 use crate::file_map::FileMap;
 use crate::{FetchErr, Files};

@@ -2,8 +2,9 @@
 //! tests and for callers that use the program as a library.
 ghost use Rattle.std.specs.Prelude.{◌≡◌, ◌+◌, ◌-◌, ◌<◌, ◌≤◌, [], ◌++◌, take, length, Some, None, IfOk};
 ghost use Rattle.std.specs.Prelude.{OnOk, OnErr};
-ghost use Rattle.irs_outside.specs.Outside.{Rose, GrewByFront, next_count};
-ghost use Rattle.irs_outside.specs.MemSinks.{is_marked_at, IsMarkedPut};
+ghost use Rattle.irs_outside.specs.Outside.{Rose, GrewByFront};
+ghost use Rattle.irs_outside.specs.Private.Outside.{next_count};
+ghost use Rattle.irs_outside.specs.Private.MemSinks.{is_marked_at, IsMarkedPut};
 
 use crate::{PutFailed, Sink};
 use irs_base::Memory;

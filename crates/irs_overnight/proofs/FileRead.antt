@@ -12,7 +12,8 @@ use Rattle.irs_base.proofs.DecimalLemmas.{one_decimal}
 use Rattle.irs_base.specs.Days.{IsDay}
 use Rattle.irs_base.specs.Lines.{lines_of, with_byte}
 use Rattle.irs_base.specs.Texts.{day_text, dec_text}
-use Rattle.irs_calendar.specs.EndLines.{EndsTruly, is_end_line, is_false_end, is_none, seen_from, seen_lines}
+use Rattle.irs_calendar.specs.EndLines.{is_end_line, is_false_end, is_none, seen_from, seen_lines}
+use Rattle.irs_calendar.specs.Private.EndLines.{EndsTruly}
 use Rattle.irs_calendar.proofs.EndLemmas.{truly_seen}
 use Rattle.irs_terms.specs.Lawful.{IsRate}
 use Rattle.irs_terms.specs.declared.frequency.Frequency.{Frequency}

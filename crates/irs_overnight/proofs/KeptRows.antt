@@ -15,7 +15,8 @@ use Rattle.irs_schedule.specs.Parts.{KeepsBounds}
 use Rattle.irs_overnight.specs.DailySources.{fixing_at}
 use Rattle.irs_overnight.specs.DerivedRows.{IsDerivedRow}
 use Rattle.irs_overnight.specs.DerivedRules.{NotAfter, not_after_at}
-use Rattle.irs_overnight.specs.FileLaw.{AreKept, IsInRange}
+use Rattle.irs_overnight.specs.FileLaw.{AreKept}
+use Rattle.irs_overnight.specs.Private.FileLaw.{IsInRange}
 use Rattle.irs_overnight.specs.Overnight.{Asked, IsAsked, IsOvernight, OvernightKept, ReadsBack}
 use Rattle.irs_overnight.specs.Sources.{PaysFloating}
 use Rattle.irs_overnight.specs.declared.derived.DerivedRow.{DerivedRow}

@@ -45,8 +45,3 @@ pub record AreFixings (rows : List DerivedRow) (tenor : Option Frequency) (index
   pub holds : (name : List ℕ) (slot : Slot) (rate : ℤ)
       → ((n : ℕ) × Fixes (seen_lines (file_text rows tenor index)) n name slot rate)
       ↔ HasRate rows tenor index name slot rate
-
--- the fixing date and the rate of a row are in range
-pub record IsInRange (row : DerivedRow) : Type 0 where
-  pub day : IsDay row.fixing
-  pub rate : IsSmallFound row.found

@@ -1,2 +1,3 @@
+pub mod FileLaw
 pub mod Bounds
 pub mod PeriodTurns

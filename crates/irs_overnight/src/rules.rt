@@ -5,7 +5,7 @@ ghost use Rattle.irs_base.specs.Faults.{IfBroken};
 ghost use Rattle.irs_base.specs.Order.{First, IsFirst};
 ghost use Rattle.irs_base.specs.declared.places.Fault.{Fault as BrokenRule};
 ghost use Rattle.irs_overnight.specs.DerivedRows.{AreDerived};
-ghost use Rattle.irs_overnight.specs.FileLaw.{IsInRange};
+ghost use Rattle.irs_overnight.specs.Private.FileLaw.{IsInRange};
 ghost use Rattle.irs_overnight.specs.DerivedRules.{BreaksDerived, NotAfter, derived_before, no_basis, not_after_at};
 ghost use Rattle.irs_overnight.specs.DailySources.{daily_source};
 ghost use Rattle.irs_overnight.specs.Sources.{basis_of};

@@ -21,7 +21,7 @@ use Rattle.irs_adjust.proofs.FoundDays.{decides_le}
 use Rattle.irs_terms.specs.FirstDay.{first_day_of}
 use Rattle.irs_terms.specs.Lengths.{same_length}
 use Rattle.irs_base.specs.Members.{day_at}
-use Rattle.irs_base.specs.Order.{IsDecided}
+use Rattle.irs_base.specs.Private.Order.{IsDecided}
 use Rattle.irs_roll.proofs.GridsDecided.{decides_on_grid}
 use Rattle.irs_base.proofs.Decided.{decides_same}
 use Rattle.irs_terms.proofs.FirstDays.{first_day_is_day}

@@ -24,7 +24,8 @@ use Rattle.irs_base.specs.Faults.{fault_at}
 use Rattle.irs_payments.specs.Exchanges.{initial_of, change, changes, intermediate_of, last_value, final_of}
 use Rattle.irs_payments.specs.Exchanges.{transfers_of, IsExchange, AreExchanges, LacksDay, BreaksExchanges}
 use Rattle.irs_adjust.proofs.FoundDays.{InRange, IsFound, decides_adjusts}
-use Rattle.irs_base.specs.Order.{First, IsDecided, comes_before}
+use Rattle.irs_base.specs.Order.{First, comes_before}
+use Rattle.irs_base.specs.Private.Order.{IsDecided}
 use Rattle.irs_base.proofs.FaultOrder.{one_fault}
 use Rattle.irs_base.proofs.MemberLemmas.{pairs_there}
 use Rattle.irs_payments.proofs.ExchangeLemmas.{ten_power}

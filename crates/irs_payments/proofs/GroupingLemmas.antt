@@ -5,7 +5,8 @@ use Rattle.irs_base.specs.DayLists.{AreDays}
 use Rattle.irs_base.specs.Elements.{first_payment_date, last_regular_payment_date}
 use Rattle.irs_base.specs.Faults.{fault_at}
 use Rattle.irs_base.specs.Listed.{Member}
-use Rattle.irs_base.specs.Order.{First, IsDecided, comes_before}
+use Rattle.irs_base.specs.Order.{First, comes_before}
+use Rattle.irs_base.specs.Private.Order.{IsDecided}
 use Rattle.irs_base.specs.declared.places.Rule.TheVariants.{K35}
 use Rattle.irs_base.specs.declared.places.Fault.{Fault}
 use Rattle.irs_base.proofs.Decided.{order_of, decides_same}

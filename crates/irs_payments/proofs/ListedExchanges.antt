@@ -21,7 +21,7 @@ use Rattle.irs_calendar.specs.GoodDays.{DaySet}
 use Rattle.irs_payments.specs.Exchanges.{AreExchanges, BreaksExchanges, IsExchange, LacksDay, change, changes, final_of}
 use Rattle.irs_payments.specs.Exchanges.{initial_of, intermediate_of, transfers_of}
 use Rattle.irs_payments.specs.Private.Listing.{ListsUpTo}
-use Rattle.irs_payments.specs.Transfers.{listed}
+use Rattle.irs_payments.specs.Private.Transfers.{listed}
 use Rattle.irs_payments.specs.declared.exchanges.Listing.{Listing}
 use Rattle.irs_payments.specs.declared.exchanges.Transfer.{Transfer}
 use Rattle.irs_payments.proofs.ExchangeLemmas.{IsSmall, few_transfers, small_transfers}

@@ -6,7 +6,8 @@ use Rattle.irs_base.specs.Elements.{payment_dates}
 use Rattle.irs_base.specs.Faults.{fault_at}
 use Rattle.irs_base.specs.Listed.{RunsFromTo}
 use Rattle.irs_base.specs.Members.{day_at}
-use Rattle.irs_base.specs.Order.{First, IsDecided, comes_before}
+use Rattle.irs_base.specs.Order.{First, comes_before}
+use Rattle.irs_base.specs.Private.Order.{IsDecided}
 use Rattle.irs_base.specs.declared.places.Rule.TheVariants.{K33, K38}
 use Rattle.irs_base.specs.declared.places.Fault.{Fault}
 use Rattle.irs_base.proofs.DayListLemmas.{day_at_day}

@@ -3,7 +3,8 @@ use Rattle.std.proofs.Common.{◌≡◌, ℕ, ◌<◌, List, [], ◌∷◌, ℤ,
 use Rattle.irs_base.specs.Elements.{notional_step_date, fixed_rate_step_date, multiplier_step_date, spread_step_date}
 use Rattle.irs_base.specs.Listed.{Member}
 use Rattle.irs_base.specs.Faults.{fault_at}
-use Rattle.irs_base.specs.Order.{First, IsDecided, comes_before}
+use Rattle.irs_base.specs.Order.{First, comes_before}
+use Rattle.irs_base.specs.Private.Order.{IsDecided}
 use Rattle.irs_base.specs.declared.places.Rule.TheVariants.{K36}
 use Rattle.irs_base.specs.declared.places.Fault.{Fault}
 use Rattle.irs_base.proofs.Decided.{decides_same}

@@ -1,3 +1,4 @@
+pub mod Transfers
 pub mod Cuts
 pub mod Places
 pub mod Dating

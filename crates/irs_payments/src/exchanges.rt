@@ -17,7 +17,7 @@ ghost use Rattle.irs_payments.specs.Exchanges.{initial_of, change, intermediate_
 ghost use Rattle.irs_payments.specs.Exchanges.{BreaksExchanges, IsExchange, LacksDay};
 ghost use Rattle.irs_payments.specs.Private.Listing.{ListsUpTo, listing_to};
 ghost use Rattle.irs_payments.specs.Outcomes.{principals_of};
-ghost use Rattle.irs_payments.specs.Transfers.{listed};
+ghost use Rattle.irs_payments.specs.Private.Transfers.{listed};
 ghost use Rattle.irs_payments.specs.declared.exchanges.Transfer.{Transfer};
 
 use crate::PayErr;

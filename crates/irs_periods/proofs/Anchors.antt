@@ -20,7 +20,7 @@ use Rattle.irs_periods.specs.Spans.{anchor_by, anchor_of, is_term, stub_anchor}
 use Rattle.irs_terms.specs.FirstDay.{first_day_of}
 use Rattle.irs_terms.specs.Suiting.{IsTerm}
 use Rattle.irs_terms.specs.TermDates.{termination_of}
-use Rattle.irs_base.specs.Order.{IsDecided}
+use Rattle.irs_base.specs.Private.Order.{IsDecided}
 use Rattle.irs_roll.proofs.GridsDecided.{decides_on_grid}
 use Rattle.irs_terms.proofs.FirstDays.{first_day_is_day}
 

@@ -20,7 +20,7 @@ use Rattle.irs_periods.proofs.SpanThere.{LiesInTerm, lies_in_term, term_day}
 use Rattle.irs_terms.specs.FirstDay.{first_day_of}
 use Rattle.irs_periods.proofs.TermOrder.{begins_before_end}
 use Rattle.irs_terms.specs.TermDates.{DatesInOrder, termination_of}
-use Rattle.irs_base.specs.Order.{IsDecided}
+use Rattle.irs_base.specs.Private.Order.{IsDecided}
 use Rattle.irs_roll.proofs.GridsDecided.{decides_on_grid}
 use Rattle.irs_base.proofs.Decided.{decides_same}
 

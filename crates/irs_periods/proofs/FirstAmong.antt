@@ -1,7 +1,8 @@
 -- Of faults that are decided up to a limit, one is the first, or there is none.
 use Rattle.std.proofs.Common.{◌≡◌, ◌⊎◌, inl, inr, ℕ, zero, suc, ◌<◌, Option, Some, None, refl, subst, arith}
 use Rattle.std.proofs.lemmas.Bool.{cases_lt}
-use Rattle.irs_base.specs.Order.{First, IsDecided, IsFirst, comes_before, earlier}
+use Rattle.irs_base.specs.Order.{First, IsFirst, comes_before, earlier}
+use Rattle.irs_base.specs.Private.Order.{IsDecided}
 use Rattle.irs_base.specs.declared.places.Fault.{Fault}
 use Rattle.irs_base.proofs.FaultOrder.{fault_order}
 use Rattle.irs_base.proofs.Firsts.{first_one, first_or, first_same}

@@ -7,7 +7,7 @@ use Rattle.irs_base.proofs.Rising.{member_old, member_new, member_cases, rising_
 use Rattle.irs_periods.specs.Nearest.{FirstFrom, FirstAfter, LastUpTo, LastBefore}
 use Rattle.irs_periods.proofs.GridDays.{cases_ltz}
 use Rattle.irs_periods.proofs.Assembled.{lists_same}
-use Rattle.irs_base.specs.Order.{IsDecided}
+use Rattle.irs_base.specs.Private.Order.{IsDecided}
 
 -- how many days a day lies after another
 pub days_apart : (lo hi : ℤ) → lo ≤ℤ hi → (n : ℕ) × (hi ≡ lo +ℤ pos n)

@@ -22,7 +22,7 @@ use Rattle.irs_terms.specs.FirstDay.{first_day_of}
 use Rattle.irs_periods.proofs.TermOrder.{begins_before_end}
 use Rattle.irs_terms.specs.Suiting.{IsTerm}
 use Rattle.irs_terms.specs.TermDates.{DatesInOrder, termination_of, given_or}
-use Rattle.irs_base.specs.Order.{IsDecided}
+use Rattle.irs_base.specs.Private.Order.{IsDecided}
 use Rattle.irs_roll.proofs.GridsDecided.{decides_on_grid}
 use Rattle.irs_base.proofs.Decided.{decides_same}
 use Rattle.irs_terms.proofs.FirstDays.{first_day_is_day}

@@ -1,10 +1,9 @@
 -- The adjusted boundaries of a stream, and the rules that they keep: each boundary has an adjusted day
 -- (K33), and the adjusted days rise (K34).
-use Rattle.std.specs.Prelude.{◌≡◌, ◌⊎◌, Bool, nat_lt, ℕ, ◌-◌, ◌<◌, ◌==◌, List, length, ℤ, ◌≤ℤ◌, if◌then◌else◌}
+use Rattle.std.specs.Prelude.{◌≡◌, ◌⊎◌, ℕ, ◌-◌, ◌<◌, ◌==◌, List, length, ℤ, ◌≤ℤ◌, if◌then◌else◌}
 use Rattle.irs_base.specs.Elements.{calculation_period_dates, termination_date, period_dates_adjustments}
 use Rattle.irs_base.specs.declared.places.Fault.{Fault}
 use Rattle.irs_base.specs.Faults.{fault_at}
-use Rattle.irs_base.specs.Order.{First, comes_before}
 use Rattle.irs_base.specs.declared.places.Rule.TheVariants.{K33, K34}
 use Rattle.irs_terms.specs.declared.codes.ConvCode.{ConvCode}
 use Rattle.irs_terms.specs.declared.stream.Stream.{Stream}
@@ -46,18 +45,6 @@ AdjustsAt s sets last i d r = Adjusts (code_at s last i) (days_at sets last i) d
 pub record AdjustedList (s : Stream) (sets : BoundaryDays) (b a : List ℤ) : Type 0 where
   pub same_length : length a ≡ length b
   pub each : (i : ℕ) → i < length b → AdjustsAt s sets (last_of b) i (day_at b i) (day_at a i)
-
--- the boundary with the number i has an adjusted day, and each boundary has one
-abbrev pub HasResult : Stream → BoundaryDays → List ℤ → ℕ → Type 0
-HasResult s sets b i = (r : ℤ) × AdjustsAt s sets (last_of b) i (day_at b i) r
-
--- each boundary has an adjusted day
-abbrev pub EachHasResult : Stream → BoundaryDays → List ℤ → Type 0
-EachHasResult s sets b = (i : ℕ) → i < length b → HasResult s sets b i
-
--- each boundary after boundary 0 has one
-abbrev pub EachLaterHasResult : Stream → BoundaryDays → List ℤ → Type 0
-EachLaterHasResult s sets b = (i : ℕ) → 0 < i → i < length b → HasResult s sets b i
 
 -- K33: the boundary with the number i has no adjusted day
 pub record NoResult (s : Stream) (sets : BoundaryDays) (b : List ℤ) (i : ℕ) : Type 0 where
@@ -104,23 +91,3 @@ pub record DoesNotRise (s : Stream) (sets : BoundaryDays) (b : List ℤ) (f : Fa
 -- the rules that the adjusted boundaries break
 abbrev pub BreaksAdjusted : Stream → BoundaryDays → List ℤ → Fault → Type 0
 BreaksAdjusted s sets b f = MissesResult s sets b f ⊎ DoesNotRise s sets b f
-
--- boundary j is named before boundary i
-abbrev pub named_before : Stream → ℕ → ℕ → ℕ → Bool
-named_before s last j i = comes_before (no_result_at s last j) (no_result_at s last i)
-
--- the first boundary, in the order of the names, that has no adjusted day
-abbrev pub FirstNoResult : Stream → BoundaryDays → List ℤ → ℕ → Type 0
-FirstNoResult s sets b = First (named_before s (last_of b)) (NoResult s sets b)
-
--- the same among the boundaries after boundary 0
-abbrev pub LaterNoResult : Stream → BoundaryDays → List ℤ → ℕ → Type 0
-LaterNoResult s sets b i = (0 < i) × NoResult s sets b i
-
--- the first boundary without an adjusted day, in the order in which elements are named
-abbrev pub FirstLaterNoResult : Stream → BoundaryDays → List ℤ → ℕ → Type 0
-FirstLaterNoResult s sets b = First (named_before s (last_of b)) (LaterNoResult s sets b)
-
--- the first day that isn't after the one before it
-abbrev pub FirstNotAfter : List ℤ → ℕ → Type 0
-FirstNotAfter a = First nat_lt (NotAfter a)

@@ -1,2 +1,4 @@
+pub mod Spans
+pub mod Adjusting
 pub mod Ways
 pub mod GridLists

@@ -62,11 +62,6 @@ GivenSpan None None stub on e t first last = StubSpan stub on e t first last
 GivenSpan None (Some l) stub on e t first last = (first ≡ e) × (last ≡ l)
 GivenSpan (Some f) l stub on e t first last = (first ≡ f) × (last ≡ given_or l t)
 
--- the first and the last regular day of such a stream, by its grid days
-abbrev pub GivenSpanOf : Stream → (ℤ → Type 0) → ℤ → ℤ → Type 0
-GivenSpanOf s on first last =
-    GivenSpan s.first_regular s.last_regular s.stub on (first_day_of s) (termination_of s) first last
-
 -- for the term the span is the whole term
 abbrev pub SpanBy : Bool → Option ℤ → Option ℤ → Option StubKind → (ℤ → Type 0) → ℤ → ℤ → ℤ → ℤ → Type 0
 SpanBy true f l stub on e t first last = (first ≡ e) × (last ≡ t)

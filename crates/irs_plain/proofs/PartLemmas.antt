@@ -3,7 +3,8 @@ use Rattle.std.proofs.Common.{◌≡◌, ℕ, zero, suc, List, [], ◌∷◌, �
 use Rattle.std.proofs.Common.{append_assoc}
 use Rattle.std.proofs.lemmas.List.{append-nil}
 use Rattle.irs_base.specs.Members.{Every}
-use Rattle.irs_plain.specs.Parts.{joined, part_text, said_by}
+use Rattle.irs_plain.specs.Parts.{joined}
+use Rattle.irs_plain.specs.Private.Parts.{part_text, said_by}
 use Rattle.irs_plain.specs.declared.parts.Part.{Part}
 
 -- a part is empty

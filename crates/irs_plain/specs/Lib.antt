@@ -13,3 +13,4 @@ pub mod Visible
 pub mod Usage
 pub mod Slips
 pub mod WrongWords
+pub mod Private

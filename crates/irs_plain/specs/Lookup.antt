@@ -4,12 +4,7 @@ use Rattle.irs_audit.specs.declared.error.ShapeKind.TheVariants as shape
 use Rattle.irs_base.specs.declared.places.Rule.{Rule}
 use Rattle.irs_base.specs.declared.places.Rule.TheVariants as rule
 use Rattle.irs_plain.specs.Rules.{texts_after, texts_before}
-use Rattle.std.specs.Borrow.{Bor}
-use Rattle.std.specs.Prelude.{ℕ, ◌-◌, ◌==◌, List, [], ◌∷◌, map, codes, if◌then◌else◌}
-
--- the texts of references
-abbrev pub texts : List (Bor (List ℕ)) → List (List ℕ)
-texts list = map (λ n. n.now) list
+use Rattle.std.specs.Prelude.{ℕ, ◌-◌, ◌==◌, List, [], ◌∷◌, codes, if◌then◌else◌}
 
 -- the row of a rule in the table
 abbrev pub row_of_rule : Rule → ℕ

@@ -1,5 +1,6 @@
 -- A word of the command line as a sentence shows it: characters that control a terminal are shown by their numbers.
-use Rattle.std.specs.Prelude.{◌≡◌, ℕ, ◌+◌, ◌≤◌, ◌==◌, ◌||◌, ◌&&◌, ◌/◌, ◌%◌, Bool, nat_lt, nat_le, List, [], ◌∷◌, ◌++◌, codes, if◌then◌else◌}
+use Rattle.std.specs.Prelude.{ℕ, ◌+◌, ◌==◌, ◌||◌, ◌&&◌, ◌/◌, ◌%◌, Bool, nat_lt, nat_le, List, [], ◌∷◌, ◌++◌, codes}
+use Rattle.std.specs.Prelude.{if◌then◌else◌}
 use Rattle.std.specs.Char.{encode_utf8}
 use Rattle.std.specs.List.{flat_map}
 use Rattle.std.specs.Str.{chars}
@@ -32,7 +33,3 @@ shown_char c =
 -- a text as it is shown
 abbrev pub shown : List ℕ → List ℕ
 shown text = flat_map shown_char (chars text)
-
--- a byte that no control has: a space or above, and not DEL
-abbrev pub IsPrinted : ℕ → Type 0
-IsPrinted b = (32 ≤ b) × (b ≡ 127 → ⊥)

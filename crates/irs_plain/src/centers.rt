@@ -2,7 +2,7 @@
 ghost use Rattle.irs_outside.specs.Outside.{Grew, GrewByFront, Rose};
 ghost use Rattle.irs_plain.specs.Centers.{centers_text, count_text, listed_text, more_text, name_after, names_text};
 ghost use Rattle.irs_plain.specs.Centers.{other_name, other_names};
-ghost use Rattle.irs_plain.specs.Parts.{said_by};
+ghost use Rattle.irs_plain.specs.Private.Parts.{said_by};
 ghost use Rattle.std.specs.Prelude.{◌≡◌, ◌∷◌, ◌++◌, OnOk, OnErr};
 
 use crate::parts::{Part, put_parts};

@@ -15,7 +15,8 @@ ghost use Rattle.irs_plain.specs.Notes.{tenor_letter as tenor_letter_of, text_wo
 ghost use Rattle.irs_plain.specs.Notes.{unfixed_on, unfixed_texts, unit_letter as unit_letter_of};
 ghost use Rattle.irs_plain.specs.Notes.{value_in as value_in_of, value_intro as value_intro_of};
 ghost use Rattle.irs_plain.specs.Notes.{weekday_name as weekday_name_of};
-ghost use Rattle.irs_plain.specs.Parts.{joined, part_text, said_by};
+ghost use Rattle.irs_plain.specs.Parts.{joined};
+ghost use Rattle.irs_plain.specs.Private.Parts.{part_text, said_by};
 ghost use Rattle.std.specs.Prelude.{◌≡◌, ◌∷◌, OnOk, OnErr};
 
 use crate::centers::put_centers;

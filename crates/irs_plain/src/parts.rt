@@ -1,7 +1,8 @@
 //! A sentence as parts that are written one after the other: texts, numbers in decimal digits, and names from a
 //! document as they are shown. No memory is taken.
 ghost use Rattle.irs_outside.specs.Outside.{Grew, GrewByFront, Rose};
-ghost use Rattle.irs_plain.specs.Parts.{joined, most_parts, part_text, said, said_by};
+ghost use Rattle.irs_plain.specs.Parts.{joined};
+ghost use Rattle.irs_plain.specs.Private.Parts.{most_parts, part_text, said, said_by};
 ghost use Rattle.std.specs.Prelude.{◌≡◌, ◌≤◌, [], ◌∷◌, length, decimal, OnOk, OnErr};
 
 use crate::visible::put_shown;

@@ -1,5 +1,5 @@
 //! How a command is called, and what its parameters have to be, for words that don't fit it.
-ghost use Rattle.irs_plain.specs.Lookup.{texts};
+ghost use Rattle.irs_plain.specs.Private.Lookup.{texts};
 ghost use Rattle.irs_plain.specs.Usage.{commands, line_of as line_of_name, parameters, usage_of};
 ghost use Rattle.irs_plain.specs.WrongWords.{needs_of};
 ghost use Rattle.std.specs.Prelude.{◌≡◌, map};

@@ -1,6 +1,7 @@
 //! What is said of words that are no listed command: what is lacking, what is too much, or what may be meant.
-ghost use Rattle.irs_plain.specs.Lookup.{texts as texts_in};
-ghost use Rattle.irs_plain.specs.Parts.{joined, said};
+ghost use Rattle.irs_plain.specs.Private.Lookup.{texts as texts_in};
+ghost use Rattle.irs_plain.specs.Parts.{joined};
+ghost use Rattle.irs_plain.specs.Private.Parts.{said};
 ghost use Rattle.irs_plain.specs.Usage.{commands};
 ghost use Rattle.irs_plain.specs.Words.{texts};
 ghost use Rattle.irs_plain.specs.WrongWords.{field_at as field_at_of, fields as fields_of, helped as helped_of};

@@ -44,7 +44,8 @@ use Rattle.irs_read.specs.Private.Meaning.{no_currency, scale_at, stream_in, str
 use Rattle.irs_read.specs.Private.Meaning.{tenor_in, truth_in}
 use Rattle.irs_read.specs.Private.Meaning.{word_in}
 use Rattle.irs_read.specs.Readings.{Says, holds, maybe, one, or_by, said, text}
-use Rattle.irs_read.specs.References.{href_of, reference_in, the_one}
+use Rattle.irs_read.specs.References.{href_of, the_one}
+use Rattle.irs_read.specs.Private.References.{reference_in}
 use Rattle.irs_read.specs.StreamElements.{StreamSays, adjustable, adjusting, adjustments, always, calculation}
 use Rattle.irs_read.specs.StreamElements.{stream_by}
 use Rattle.irs_read.specs.StreamElements.{center_list, date, exchanges, fixing_dates, floating, frequency, index_name}

@@ -2,8 +2,6 @@
 use Rattle.irs_elements.specs.Find.{member, once, values_in}
 use Rattle.irs_elements.specs.Lines.{Line, last_name}
 use Rattle.irs_json.specs.Carrier.{child_of}
-use Rattle.irs_terms.specs.declared.codes.RefState.{RefState}
-use Rattle.irs_terms.specs.declared.codes.RefState.TheVariants.{Absent, Good, Dangling}
 use Rattle.serde_json.specs.Data.{Data}
 use Rattle.serde_json.specs.Find.{as_str}
 use Rattle.std.specs.List.{flat_map}
@@ -27,11 +25,6 @@ has_id id o = is_text id (attribute (codes "@id") o)
 -- the text of a reference's `@href`
 abbrev pub href_of : Data → List ℕ
 href_of d = unwrap_or (attribute (codes "@href") (Some d)) []
-
--- a reference names its target by the target's `@id`
-abbrev pub reference_in : Option Data → Option Data → RefState
-reference_in target None = Absent
-reference_in target (Some reference) = if has_id (href_of reference) target then Good else Dangling
 
 -- the value that a search found, if any
 abbrev pub first_of : Option (Option Data) → Option Data

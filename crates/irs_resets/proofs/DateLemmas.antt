@@ -11,7 +11,8 @@ use Rattle.irs_adjust.proofs.MoveLaws.{date_in_range, date_not_lacking, one_date
 use Rattle.irs_resets.specs.declared.dates.DateFault.{DateFault}
 use Rattle.irs_resets.specs.declared.dates.DateFault.TheVariants.{NoReset, NoFixing, OutOfRange}
 use Rattle.irs_resets.specs.ResetDates.{ResetDays, IsPeriod, base_day, ResetsOn, FixesBy, FixesOn, IsDates, FixFails}
-use Rattle.irs_resets.specs.ResetDates.{FixingFails, HasFixingFault, Fails, HasDates, fault_of}
+use Rattle.irs_resets.specs.ResetDates.{FixingFails, HasFixingFault, Fails}
+use Rattle.irs_resets.specs.Private.ResetDates.{HasDates, fault_of}
 
 -- period i has its dates, or they fail in one of the ways
 abbrev pub DatesOrFailure : ResetTerms → ResetDays → ℕ → Type 0

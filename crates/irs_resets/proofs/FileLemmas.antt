@@ -23,7 +23,8 @@ use Rattle.irs_base.specs.Order.{First}
 use Rattle.irs_resets.specs.Rates.{RateTable, rate_at, is_slot}
 use Rattle.irs_resets.specs.FixingLines.{Spells, second_text}
 use Rattle.irs_resets.specs.FixingFiles.{IsBadLine, line_at, IsLine, Fixes, IsBad, Repeats, IsFaulty, IsFirstFault}
-use Rattle.irs_resets.specs.FixingFiles.{HasNewRate, HasOldRate, IsFixingFile, ReadsLine, StopsAt, TakesLine}
+use Rattle.irs_resets.specs.FixingFiles.{IsFixingFile, StopsAt}
+use Rattle.irs_resets.specs.Private.FixingFiles.{HasNewRate, HasOldRate, ReadsLine, TakesLine}
 
 -- the lines before number were read into the table, and these are left
 pub record ReadTo (lines : List (List ℕ)) (number : ℕ) (left : List (List ℕ)) (table : RateTable) : Type 0 where

@@ -10,8 +10,9 @@ use Rattle.irs_resets.specs.declared.observed.PeriodKind.TheVariants.{LaterRegul
 use Rattle.irs_resets.specs.declared.store.Slot.{Slot}
 use Rattle.irs_resets.specs.Rates.{RateTable, rate_at}
 use Rattle.irs_resets.specs.ObservedRates.{RateSource, Stated, Line, GivesStub, ComesFrom, own_rate, own_index}
-use Rattle.irs_resets.specs.ObservedRates.{initial_rate, stream_index, rate_from, IsObserved, own_source, index_source}
-use Rattle.irs_resets.specs.ObservedRates.{own_or_index, initial_or_index, source_by, observed_rate}
+use Rattle.irs_resets.specs.ObservedRates.{initial_rate, stream_index, rate_from, IsObserved}
+use Rattle.irs_resets.specs.Private.ObservedRates.{own_source, index_source, own_or_index, initial_or_index, source_by}
+use Rattle.irs_resets.specs.Private.ObservedRates.{observed_rate}
 
 not_first_initial : InitialStub ≡ FirstRegular → ⊥
 not_first_initial e = cc (e)

@@ -5,7 +5,8 @@ use Rattle.std.specs.Prelude.{nat_lt}
 use Rattle.std.proofs.lemmas.Bool.{cases_lt, cases_eq}
 use Rattle.irs_base.specs.Days.{IsDay}
 use Rattle.irs_base.specs.DayLists.{AreDays}
-use Rattle.irs_base.specs.Order.{First, IsDecided, comes_before}
+use Rattle.irs_base.specs.Order.{First, comes_before}
+use Rattle.irs_base.specs.Private.Order.{IsDecided}
 use Rattle.irs_base.specs.declared.places.Fault.{Fault}
 use Rattle.irs_base.proofs.DayListLemmas.{day_at_day}
 use Rattle.irs_base.proofs.Firsts.{lt_false}
@@ -28,7 +29,8 @@ use Rattle.irs_adjust.proofs.FoundDays.{InRange, IsFound, decides_adjusts, adjus
 use Rattle.irs_adjust.proofs.MoveLaws.{DateOrFailure, date_or_failure}
 use Rattle.irs_resets.specs.declared.dates.DateFault.{DateFault}
 use Rattle.irs_resets.specs.declared.dates.DateFault.TheVariants.{NoReset, NoFixing, OutOfRange}
-use Rattle.irs_resets.specs.ResetDates.{ResetDays, IsPeriod, base_day, ResetsOn, FixesOn, FixingFails, Fails, HasDates}
+use Rattle.irs_resets.specs.ResetDates.{ResetDays, IsPeriod, base_day, ResetsOn, FixesOn, FixingFails, Fails}
+use Rattle.irs_resets.specs.Private.ResetDates.{HasDates}
 use Rattle.irs_resets.specs.ResetRules.{GivesInitial, GivesFinal, InitialUnmet, FinalUnmet, BreaksStubs, date_fault}
 use Rattle.irs_resets.specs.ResetRules.{BreaksDates, BreaksDatesIn, BreaksResets}
 use Rattle.irs_resets.specs.Rates.{RateTable}

@@ -13,8 +13,10 @@ use Rattle.irs_terms.specs.declared.amounts.Leg.TheVariants.{Fixed, Floating}
 use Rattle.irs_terms.specs.declared.results.Reset.{Reset}
 use Rattle.irs_resets.specs.declared.dates.DateFault.{DateFault}
 use Rattle.irs_resets.specs.declared.dates.DateFault.TheVariants.{NoReset, NoFixing, OutOfRange}
-use Rattle.irs_resets.specs.ResetDates.{ResetDays, IsPeriod, HasDates, Fails}
-use Rattle.irs_resets.specs.ObservedRates.{IsObserved, observed_rate}
+use Rattle.irs_resets.specs.ResetDates.{ResetDays, IsPeriod, Fails}
+use Rattle.irs_resets.specs.Private.ResetDates.{HasDates}
+use Rattle.irs_resets.specs.ObservedRates.{IsObserved}
+use Rattle.irs_resets.specs.Private.ObservedRates.{observed_rate}
 use Rattle.irs_resets.specs.Rates.{RateTable, rate_at}
 use Rattle.irs_resets.specs.Resets.{ResetSource, count_of, IsReset, HasResets, IsResetsOf, IsResets}
 use Rattle.irs_resets.specs.declared.observed.PeriodKind.{PeriodKind}

@@ -1,10 +1,9 @@
 -- What a line of a fixing file spells: DATE RATE TENOR INDEX.
-use Rattle.std.specs.Prelude.{◌≡◌, ◌≢◌, ℕ, ◌≤◌, List, length, All, Option, Some, ℤ}
+use Rattle.std.specs.Prelude.{◌≡◌, ◌≢◌, ℕ, ◌≤◌, List, length, All, Some, ℤ}
 use Rattle.irs_base.specs.Dates.{date_at}
 use Rattle.irs_base.specs.Decimals.{DecText}
 use Rattle.irs_base.specs.Limits.{most_index}
 use Rattle.irs_terms.specs.Lawful.{IsRate}
-use Rattle.irs_terms.specs.declared.frequency.Frequency.{Frequency}
 use Rattle.irs_resets.specs.declared.store.Slot.{Slot}
 use Rattle.irs_resets.specs.Words.{word, behind_gap, trimmed}
 use Rattle.irs_resets.specs.Tenors.{tenor_at}
@@ -42,10 +41,4 @@ pub record Spells (line index : List ℕ) (slot : Slot) (rate : ℤ) : Type 0 wh
   pub rate_text : IsRateText (second_text line) rate
   pub tenor : tenor_at (third_text line) ≡ Some slot.tenor
   pub rest : index ≡ rest_text line
-  pub lawful : IsIndexText index
-
--- the bytes from the third word on are a tenor, and an index after it
-pub record IsTail (text : List ℕ) (tenor : Option Frequency) (index : List ℕ) : Type 0 where
-  pub tenor_text : tenor_at (word text) ≡ Some tenor
-  pub rest : index ≡ trimmed (behind_gap text)
   pub lawful : IsIndexText index

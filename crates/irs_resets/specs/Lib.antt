@@ -9,3 +9,4 @@ pub mod ObservedRates
 pub mod Resets
 pub mod ResetRules
 pub mod Outcomes
+pub mod Private

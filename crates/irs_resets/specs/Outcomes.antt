@@ -4,7 +4,7 @@ use Rattle.irs_base.specs.Order.{Only, comes_before}
 use Rattle.irs_base.specs.Outcomes.{Spec, unless_broken}
 use Rattle.irs_base.specs.declared.places.Fault.{Fault}
 use Rattle.irs_terms.specs.declared.results.Reset.{Reset}
-use Rattle.irs_resets.specs.FixingFiles.{IsFixingFault, IsFixingFile, IsLineFault, ReadsLine}
+use Rattle.irs_resets.specs.FixingFiles.{IsFixingFault, IsFixingFile}
 use Rattle.irs_resets.specs.Rates.{RateTable}
 use Rattle.irs_resets.specs.ResetRules.{BreaksResets}
 use Rattle.irs_resets.specs.Resets.{IsResets, ResetSource}
@@ -20,13 +20,6 @@ abbrev pub fixings_of : List ℕ → Spec RateTable FixErr
 fixings_of bytes = record {
   Answers = IsFixingFile bytes;
   Refuses = IsFixingFault bytes;
-}
-
--- the rates with those of one line more, or the fault of that line
-abbrev pub line_of : RateTable → List ℕ → ℕ → Spec RateTable FixErr
-line_of table line number = record {
-  Answers = ReadsLine table line;
-  Refuses = IsLineFault table line number;
 }
 
 -- a reading gives a right answer, or a right refusal, or memory ran out

@@ -1,6 +1,5 @@
 -- Rates by index, date and tenor.
-use Rattle.std.specs.Prelude.{◌≡◌, ℕ, Bool, true, false, ◌&&◌, ◌==◌, Option, Some, None, ℤ, List, [], ◌∷◌, IfSome, IsSome}
-use Rattle.std.specs.Prelude.{if◌then◌else◌}
+use Rattle.std.specs.Prelude.{◌≡◌, ℕ, Bool, true, false, ◌&&◌, ◌==◌, Option, Some, None, ℤ, List, [], ◌∷◌, IfSome}
 use Rattle.std.specs.Ordering.{int_eq}
 use Rattle.std.specs.Map.{lookup}
 use Rattle.std.specs.Str.{bytes_eq}
@@ -51,27 +50,6 @@ rate_at table index slot = rate_of (lookup (bytes_eq index) table) slot
 -- two tables have the same rates
 abbrev pub SameRates : RateTable → RateTable → Type 0
 SameRates a b = (index : List ℕ) (slot : Slot) → rate_at a index slot ≡ rate_at b index slot
-
--- new has the rate there, and at every other place what old has
-abbrev pub AddsTo : SlotRates → Slot → ℤ → SlotRates → Type 0
-AddsTo old slot rate new =
-    (q : Slot) → lookup (is_slot q) new ≡ (if is_slot slot q then Some rate else lookup (is_slot q) old)
-
--- the table has this rate too, and else what it had
-abbrev pub Adds : RateTable → List ℕ → Slot → ℤ → RateTable → Type 0
-Adds old index slot rate new =
-    (i : List ℕ) (q : Slot)
-    → rate_at new i q ≡ (if bytes_eq index i && is_slot slot q then Some rate else rate_at old i q)
-
--- whether the slot had no rate; if it had none, it has this one now
-abbrev pub AddsNew : SlotRates → Slot → ℤ → SlotRates → Bool → Type 0
-AddsNew old slot rate new true = (lookup (is_slot slot) old ≡ None) × AddsTo old slot rate new
-AddsNew old slot rate new false = IsSome (lookup (is_slot slot) old)
-
--- the same of an index, a date and a tenor
-abbrev pub AddsNewAt : RateTable → List ℕ → Slot → ℤ → RateTable → Bool → Type 0
-AddsNewAt old index slot rate new true = (rate_at old index slot ≡ None) × Adds old index slot rate new
-AddsNewAt old index slot rate new false = IsSome (rate_at old index slot)
 
 -- each key as its bytes
 abbrev pub by_bytes : {Y X : Type 0} → List (Vec ℕ Y × X) → List (List ℕ × X)

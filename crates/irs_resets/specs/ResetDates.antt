@@ -8,8 +8,6 @@ use Rattle.irs_terms.specs.declared.dates.ResetTerms.{ResetTerms}
 use Rattle.irs_calendar.specs.GoodDays.{DaySet}
 use Rattle.irs_adjust.specs.Codes.{Adjusts}
 use Rattle.irs_adjust.specs.MovedDays.{MovesAndAdjusts, LacksResult, LeavesRange}
-use Rattle.irs_adjust.specs.declared.moved.NoDate.{NoDate}
-use Rattle.irs_adjust.specs.declared.moved.NoDate.TheVariants as moves
 use Rattle.irs_resets.specs.declared.dates.DateFault.{DateFault}
 use Rattle.irs_resets.specs.declared.dates.DateFault.TheVariants.{NoReset, NoFixing, OutOfRange}
 
@@ -80,12 +78,3 @@ abbrev pub Fails : DateFault → ResetTerms → ResetDays → ℕ → Type 0
 Fails NoReset t days i = HasNoReset t days i
 Fails NoFixing t days i = HasFixingFault NoFixing t days i
 Fails OutOfRange t days i = HasFixingFault OutOfRange t days i
-
--- period i has its dates
-abbrev pub HasDates : ResetTerms → ResetDays → ℕ → Type 0
-HasDates t days i = (reset : ℤ) × (fixing : ℤ) × IsDates t days i reset fixing
-
--- what the failure of a day that is moved and adjusted is for a fixing date
-abbrev pub fault_of : NoDate → DateFault
-fault_of moves.NoResult = NoFixing
-fault_of moves.OutOfRange = OutOfRange

@@ -1,10 +1,7 @@
 -- The order of dates and tenors.
-use Rattle.std.specs.Prelude.{◌≡◌, ℕ, Some, ℤ, slice_get}
 use Rattle.std.specs.List.Sorted.{IsStrictlySortedBy}
 use Rattle.std.specs.Map.{keys_of}
 use Rattle.std.specs.declared.cmp.Ordering.{Ordering}
-use Rattle.std.specs.declared.cmp.Ordering.TheVariants.{Less}
-use Rattle.irs_base.specs.Members.{Every}
 use Rattle.irs_resets.specs.Rates.{SlotRates}
 use Rattle.irs_resets.specs.contracts.store.SlotOrd.TheImpl as slot_ord
 use Rattle.irs_resets.specs.declared.store.Slot.{Slot}
@@ -16,11 +13,3 @@ slot_cmp = (slot_ord.ghosts).cmp
 -- each slot comes before those after it
 abbrev pub AreInOrder : SlotRates → Type 0
 AreInOrder rates = IsStrictlySortedBy slot_cmp (keys_of rates)
-
--- the slot comes after those of these rates
-abbrev pub ComesAfter : SlotRates → Slot → Type 0
-ComesAfter rates slot = Every (λ (e : Slot × ℤ). slot_cmp e.0 slot ≡ Less) rates
-
--- the rate at this place is that of the slot
-abbrev pub IsPlace : SlotRates → Slot → ℕ → Type 0
-IsPlace rates slot place = (rate : ℤ) × (slice_get rates place ≡ Some (slot, rate))

@@ -5,8 +5,9 @@
 //! itself. The order of these steps is our rule.
 ghost use Rattle.std.specs.Prelude.{◌≡◌, ◌↔◌, ◌<◌, ◌^◌, length, IsTrue, IfOk, IfErr, nat_lt};
 ghost use Rattle.irs_base.specs.Order.{IsFirst};
-ghost use Rattle.irs_resets.specs.ResetDates.{days_by, base_day, IsPeriod, FixesOn, FixesBy, IsDates};
-ghost use Rattle.irs_resets.specs.ResetDates.{FixingFails, FixFails, Fails, fault_of};
+ghost use Rattle.irs_resets.specs.ResetDates.{days_by, base_day, IsPeriod, FixesOn, FixesBy, IsDates, FixingFails};
+ghost use Rattle.irs_resets.specs.ResetDates.{FixFails, Fails};
+ghost use Rattle.irs_resets.specs.Private.ResetDates.{fault_of};
 ghost use Rattle.irs_terms.specs.DayTypes.{IsSaidFixing, IsSaid};
 
 use irs_adjust::{NoDate, adjust_by, move_and_adjust};

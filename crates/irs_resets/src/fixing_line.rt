@@ -7,7 +7,8 @@ ghost use Rattle.std.specs.Prelude.{◌≡◌, ◌≢◌, ◌↔◌, ◌≤◌, 
 ghost use Rattle.irs_base.specs.Dates.{date_at};
 ghost use Rattle.irs_terms.specs.declared.frequency.Frequency.{Frequency as AtTenor};
 ghost use Rattle.irs_resets.specs.Words.{behind_gap, word};
-ghost use Rattle.irs_resets.specs.FixingLines.{IsRateText, IsIndexText, IsTail, Spells};
+ghost use Rattle.irs_resets.specs.FixingLines.{IsRateText, IsIndexText, Spells};
+ghost use Rattle.irs_resets.specs.Private.FixingLines.{IsTail};
 ghost use Rattle.irs_resets.specs.declared.store.Slot.{Slot as AtSlot};
 
 use crate::store::Slot;

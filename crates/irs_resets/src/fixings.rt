@@ -11,9 +11,11 @@ ghost use Rattle.irs_terms.specs.Lawful.{IsRate};
 ghost use Rattle.std.specs.Map.{lookup};
 ghost use Rattle.std.specs.Str.{bytes_eq};
 ghost use Rattle.irs_resets.specs.Rates.{SameRates, rate_at, rate_of};
-ghost use Rattle.irs_resets.specs.FixingLines.{IsTail};
-ghost use Rattle.irs_resets.specs.FixingFiles.{HasNewRate, IsSpelt, StopsAt};
-ghost use Rattle.irs_resets.specs.Outcomes.{DeterminedUpTo, MeetsFile, fixings_of, line_of};
+ghost use Rattle.irs_resets.specs.Private.FixingLines.{IsTail};
+ghost use Rattle.irs_resets.specs.FixingFiles.{StopsAt};
+ghost use Rattle.irs_resets.specs.Private.FixingFiles.{HasNewRate, IsSpelt};
+ghost use Rattle.irs_resets.specs.Outcomes.{DeterminedUpTo, MeetsFile, fixings_of};
+ghost use Rattle.irs_resets.specs.Private.Outcomes.{line_of};
 ghost use Rattle.irs_resets.specs.declared.fixings.FixErr.TheVariants.{Memory as OfMemory};
 
 use crate::fixing_line::{Tail, fixing_line};

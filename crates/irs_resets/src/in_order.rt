@@ -2,7 +2,8 @@
 ghost use Rattle.std.specs.Prelude.{◌≡◌, ◌<◌, ◌++◌, ◌∷◌, ℤ, [], length, slice_get, IfSome, IfNone, IsTrue, OnOk};
 ghost use Rattle.std.specs.Map.{lookup};
 ghost use Rattle.irs_resets.specs.Rates.{is_slot};
-ghost use Rattle.irs_resets.specs.SlotOrder.{AreInOrder, ComesAfter, IsPlace};
+ghost use Rattle.irs_resets.specs.SlotOrder.{AreInOrder};
+ghost use Rattle.irs_resets.specs.Private.SlotOrder.{ComesAfter, IsPlace};
 
 use crate::store::Slot;
 use irs_base::Memory;

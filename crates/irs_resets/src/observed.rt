@@ -7,8 +7,8 @@
 ghost use Rattle.std.specs.Prelude.{◌≡◌, ◌↔◌, IsTrue, IfSome};
 ghost use Rattle.irs_terms.specs.Lawful.{IsRate, IsLawfulFloat, IsLawfulStubs, IsLawfulStubRate};
 ghost use Rattle.irs_resets.specs.ObservedRates.{IsInitial, IsFinal, FollowsStub, IsFirstRegular, IsKind, rate_from};
-ghost use Rattle.irs_resets.specs.ObservedRates.{index_source, own_source, own_or_index, initial_stub_source};
-ghost use Rattle.irs_resets.specs.ObservedRates.{final_stub_source, initial_or_index, observed_rate};
+ghost use Rattle.irs_resets.specs.Private.ObservedRates.{index_source, own_source, own_or_index, initial_stub_source};
+ghost use Rattle.irs_resets.specs.Private.ObservedRates.{final_stub_source, initial_or_index, observed_rate};
 
 use crate::Fixings;
 use irs_base::Day;

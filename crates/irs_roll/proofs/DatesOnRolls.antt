@@ -8,7 +8,7 @@ use Rattle.irs_base.proofs.MonthLemmas.{same_month}
 use Rattle.irs_roll.specs.Grids.{IsMultiple, MonthsTo, OnMonths, OnRollDay}
 use Rattle.irs_roll.specs.RollDays.{IsLastDay, IsNumbered, IsThirdWednesday}
 use Rattle.irs_roll.specs.RollDayLaws.{last_day-is, last_day_only, numbered-is, numbered_only}
-use Rattle.irs_roll.specs.MonthLaws.{rolls_in}
+use Rattle.irs_roll.specs.Private.MonthLaws.{rolls_in}
 
 place_day : (n place : ℕ) (d m : ℤ) → d +ℤ pos 1 ≡ month_start m +ℤ pos place → place ≡ min n (dim m)
     → d ≡ day_in_month n m

@@ -4,7 +4,7 @@ use Rattle.std.specs.Int.{int_div_euclid}
 use Rattle.irs_base.specs.Days.{IsDay}
 use Rattle.irs_base.specs.Months.{InMonth, day_in_month}
 use Rattle.irs_base.proofs.MonthLemmas.{has_month, same_month}
-use Rattle.irs_base.specs.Order.{IsDecided}
+use Rattle.irs_base.specs.Private.Order.{IsDecided}
 use Rattle.irs_base.proofs.Decided.{decides_same}
 use Rattle.irs_terms.specs.declared.codes.RollCode.{RollCode}
 use Rattle.irs_terms.specs.declared.codes.RollCode.TheVariants.{Eom, Dom, Imm, OnWeekday, NoRoll}
@@ -16,7 +16,7 @@ use Rattle.irs_roll.specs.RollDays.{last_day_of, third_wednesday}
 use Rattle.irs_roll.specs.RollDayLaws.{last_day-is, last_day_only, numbered-is, numbered_only, third_wednesday-is}
 use Rattle.irs_roll.specs.RollDayLaws.{third_wednesday_only}
 use Rattle.irs_roll.specs.Grids.{IsMultiple, OnMonths}
-use Rattle.irs_roll.specs.StepLaws.{no_whole_steps}
+use Rattle.irs_roll.specs.Private.StepLaws.{no_whole_steps}
 use Rattle.irs_roll.specs.Rolls.{IsRollDay, OnGridBy, OnGrid}
 
 -- a number is a whole multiple of the step, or its quotient leaves a rest

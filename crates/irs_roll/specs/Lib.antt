@@ -5,3 +5,4 @@ pub mod RollDayLaws
 pub mod StepLaws
 pub mod MonthLaws
 pub mod KindLaws
+pub mod Private

@@ -5,9 +5,9 @@ use Rattle.std.proofs.lemmas.Bool.{cases_lt}
 use Rattle.jiff_core.proofs.SignedLemmas.{signed_arith}
 use Rattle.jiff_core.proofs.CalendarLemmas.{weekday_number-add, weekday_number_bound}
 use borrow.Author.Differences.{up, down}
-use Rattle.irs_base.specs.Days.{IsDay, weekday_at}
+use Rattle.irs_base.specs.Days.{weekday_at}
 use Rattle.irs_base.specs.Months.{InMonth, dim, month_start, day_in_month}
-use Rattle.irs_base.proofs.MonthLemmas.{dim_bounds, month_range, day_in_month-is_day, day_in_month-in_month}
+use Rattle.irs_base.proofs.MonthLemmas.{dim_bounds, day_in_month-in_month}
 use Rattle.irs_roll.specs.RollDays.{IsLastDay, IsNumbered, IsThirdWednesday, last_day_of, third_wednesday}
 
 -- of two numbers one is less, or they are equal
@@ -134,9 +134,3 @@ third_wednesday_only m d h =
     let add = weekday_number-add first d j place in
     let same : j ≡ (9 - weekday_at first) % 7 = omega (arith, add, weekday_number_bound first, within, h.wednesday) in
     place ∙ ap (λ (i : ℕ). first +ℤ pos i) same
-
--- a third Wednesday in range follows a 15th in range
-pub third_wednesday_range : (m : ℤ) → IsDay (third_wednesday m) → IsDay (day_in_month 15 m)
-third_wednesday_range m r =
-    let range = month_range m (third_wednesday m) r (third_wednesday-in_month m) in
-    day_in_month-is_day 15 m (omega arith) range.0 range.1

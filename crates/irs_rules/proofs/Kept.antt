@@ -7,7 +7,7 @@ use Rattle.irs_base.specs.declared.places.Rule.TheVariants.{K12, K13, K14, K17, 
 use Rattle.irs_base.specs.declared.places.Fault.{Fault}
 use Rattle.irs_base.specs.Elements as elements
 use Rattle.irs_base.specs.Faults.{fault_at, in_stream}
-use Rattle.irs_base.specs.Order.{IsDecided}
+use Rattle.irs_base.specs.Private.Order.{IsDecided}
 use Rattle.irs_calendar.specs.declared.sections.Section.{Section}
 use Rattle.irs_calendar.specs.Selected.{first_missing}
 use Rattle.irs_terms.specs.declared.adjustments.AdjustableDate.{AdjustableDate}
@@ -32,7 +32,8 @@ use Rattle.irs_rules.specs.Dates.{BreaksK13, BreaksK14}
 use Rattle.irs_rules.specs.Amounts.{BreaksK17, BreaksK18, BreaksK18InLeg, BreaksK19, BreaksK47}
 use Rattle.irs_rules.specs.Parameters.{DayCountFits, FinalStubFits, FitsParameters, InitialRateFits, InitialStubFits}
 use Rattle.irs_rules.specs.Parameters.{TenorFits, applicable_names}
-use Rattle.irs_rules.specs.TermsKept.{AllKept, TermsKept}
+use Rattle.irs_rules.specs.TermsKept.{TermsKept}
+use Rattle.irs_rules.specs.Private.TermsKept.{AllKept}
 use Rattle.irs_rules.specs.TermsRules.{BreaksNone, BreaksStream}
 use Rattle.irs_rules.proofs.Decisions.{holds, decides_both, decides_given, decides_less, decides_upto, decides_said}
 use Rattle.irs_rules.proofs.Decisions.{decides_said_fixing, decides_resets, decides_stubs, decides_found}

@@ -1,6 +1,6 @@
 -- What K47 asks is decided, so what isn't broken is kept.
 use Rattle.std.proofs.Common.{◌≡◌, inl, inr, Option, Some, None, IsSome, refl}
-use Rattle.irs_base.specs.Order.{IsDecided}
+use Rattle.irs_base.specs.Private.Order.{IsDecided}
 use Rattle.irs_terms.specs.declared.amounts.Leg.{Leg}
 use Rattle.irs_terms.specs.declared.amounts.Leg.TheVariants.{Fixed, Floating}
 use Rattle.irs_terms.specs.declared.amounts.StubRate.{StubRate}

@@ -1,6 +1,6 @@
 -- K13 to K16. The dates of the term are in order, and frequencies suit each other and the roll. Regular
 -- payment dates are where they may be.
-use Rattle.std.specs.Prelude.{◌≡◌, ◌⊎◌, None}
+use Rattle.std.specs.Prelude.{◌⊎◌}
 use Rattle.irs_base.specs.Elements as elements
 use Rattle.irs_base.specs.declared.places.Fault.{Fault}
 use Rattle.irs_base.specs.declared.places.Rule.TheVariants.{K13, K14, K15, K16}
@@ -18,10 +18,6 @@ BreaksK13 s f =
     ⊎ (Breaks K13 elements.first_period_start_date (StartsBefore s) f
     ⊎ (Breaks K13 elements.first_regular_period_start_date (FirstRegularInside s) f
     ⊎ Breaks K13 elements.last_regular_period_end_date (LastRegularInside s) f))
-
--- the frequency counts once, and no regular date is given: what the term needs as the calculation frequency
-abbrev pub IsTermAlone : Stream → Type 0
-IsTermAlone s = (s.freq.count ≡ 1) × (s.first_regular ≡ None) × (s.last_regular ≡ None)
 
 -- K14: the calculation frequency and the roll don't suit each other; place: the frequency
 abbrev pub BreaksK14 : Stream → Fault → Type 0

@@ -1,8 +1,7 @@
 -- What a stream keeps that breaks no rule of the terms (K10 to K21, K47).
-use Rattle.std.specs.Prelude.{◌≡◌, ℕ, List, Some, slice_get}
+use Rattle.std.specs.Prelude.{List}
 use Rattle.irs_calendar.specs.declared.sections.Section.{Section}
 use Rattle.irs_terms.specs.declared.stream.Stream.{Stream}
-use Rattle.irs_terms.specs.declared.stream_list.Swap.{Swap}
 use Rattle.irs_terms.specs.FirstDay.{first_date_of}
 use Rattle.irs_terms.specs.StepDates.{StepsRise, LegStepsRise}
 use Rattle.irs_terms.specs.DayTypes.{IsSaid, IsSaidReset}
@@ -31,7 +30,3 @@ pub record TermsKept (cal : List Section) (s : Stream) : Type 0 where
   pub reset_found : AreFound cal (reset_names s.reset)
   pub fixing_found : AreFound cal (fixing_names s.reset)
   pub applicable_found : AreFound cal (applicable_names s.leg)
-
--- each stream of the swap keeps what its terms keep
-abbrev pub AllKept : Swap → List Section → Type 0
-AllKept swap cal = (i : ℕ) (s : Stream) → slice_get swap.streams i ≡ Some s → TermsKept cal s

@@ -4,10 +4,11 @@
 ghost use Rattle.std.specs.Prelude.{◌↔◌, IsTrue, IfSome};
 ghost use Rattle.irs_terms.specs.Frequencies.{HasWholePeriods, PaymentSuits, ResetSuits};
 ghost use Rattle.irs_terms.specs.Lawful.{IsLawfulStream};
-ghost use Rattle.irs_terms.specs.Lengths.{IsPositive};
+ghost use Rattle.irs_terms.specs.Private.Lengths.{IsPositive};
 ghost use Rattle.irs_terms.specs.Suiting.{FrequencySuits, IsTerm};
 ghost use Rattle.irs_rules.specs.Private.Order.{IsFirstHere};
-ghost use Rattle.irs_rules.specs.Dates.{BreaksK14, BreaksK15, IsTermAlone};
+ghost use Rattle.irs_rules.specs.Dates.{BreaksK14, BreaksK15};
+ghost use Rattle.irs_rules.specs.Private.Dates.{IsTermAlone};
 ghost use Rattle.irs_rules.specs.Amounts.{BreaksK20};
 ghost use Rattle.irs_rules.specs.Parameters.{IsOneDay, ResetFits};
 

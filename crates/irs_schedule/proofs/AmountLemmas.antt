@@ -7,13 +7,13 @@ use Rattle.irs_terms.specs.Lawful.{IsLawfulStream, IsNotional}
 use Rattle.irs_terms.specs.declared.currency.Currency.{Currency}
 use Rattle.irs_terms.specs.declared.results.Payment.{Payment}
 use Rattle.irs_daycount.specs.Fractions.{denominator_of}
-use Rattle.irs_daycount.specs.FractionLaws.{one_denominator}
+use Rattle.irs_daycount.specs.Private.FractionLaws.{one_denominator}
 use Rattle.irs_compound.specs.Amounts.{IsTerm, IsPayment, most_units}
 use Rattle.irs_compound.specs.Private.InForceLaws.{in_force_within}
 use Rattle.irs_compound.specs.declared.periods.PeriodTerm.{PeriodTerm}
 use Rattle.irs_schedule.specs.Parts.{IsAmount}
 use Rattle.irs_schedule.specs.Schedules.{IsPeriodTerm, AreTerms, dec_of, StreamDates}
-use Rattle.irs_schedule.specs.PeriodTerms.{IsTable}
+use Rattle.irs_schedule.specs.Private.PeriodTerms.{IsTable}
 use Rattle.irs_schedule.proofs.TermsThere.{term_fits}
 use Rattle.irs_base.proofs.EveryLemmas.{all_numbered}
 use Rattle.irs_compound.proofs.PeriodSizes.{one_denominator_of}

@@ -11,8 +11,8 @@ use Rattle.irs_calendar.specs.declared.sections.Section.{Section}
 use Rattle.irs_calendar.specs.GoodDays.{InCover}
 use Rattle.irs_calendar.specs.Selected.{sections_named, set_of_sections}
 use Rattle.irs_schedule.specs.DaySets.{days_of_names}
-use Rattle.irs_schedule.specs.CenterDays.{NamedCenters, centers_named, FoundCenters, CanFind, HasStream, Grows, HasMore}
-use Rattle.irs_schedule.specs.CenterDays.{HasMoreOf}
+use Rattle.irs_schedule.specs.CenterDays.{NamedCenters, FoundCenters}
+use Rattle.irs_schedule.specs.Private.CenterDays.{centers_named, CanFind, HasStream, Grows, HasMore, HasMoreOf}
 use Rattle.irs_rules.specs.Parameters.{applicable_names}
 use Rattle.irs_rules.specs.TermsKept.{TermsKept}
 use Rattle.irs_rules.proofs.Names.{applicable_lawful}

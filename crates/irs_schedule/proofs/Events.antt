@@ -14,7 +14,7 @@ use Rattle.irs_resets.specs.Rates.{RateTable}
 use Rattle.irs_observed.specs.declared.daily_resets.OvernightResets.{OvernightResets}
 use Rattle.irs_rules.specs.TermsKept.{TermsKept}
 use Rattle.irs_schedule.specs.DaySets.{StreamSets}
-use Rattle.irs_schedule.specs.Layouts.{IsKeptLayout}
+use Rattle.irs_schedule.specs.Private.Layouts.{IsKeptLayout}
 use Rattle.irs_schedule.specs.Outcomes.{events_of, payment_dates_of, resets_over}
 use Rattle.irs_schedule.specs.Schedules.{AreResetsIn}
 use Rattle.irs_schedule.specs.StreamResets.{resets_in}

@@ -15,7 +15,8 @@ use Rattle.irs_base.proofs.Outcomes.{answered_free, one_refusal}
 use Rattle.irs_observed.specs.declared.overnight_rate.OvernightRate.{OvernightRate}
 use Rattle.irs_observed.specs.declared.overnight_rate.OvernightRate.TheVariants.{Stated, Known, Absent, OutOfRange}
 use Rattle.irs_schedule.specs.Outcomes.{passed_at}
-use Rattle.irs_schedule.specs.StreamResets.{FactorPassesAt, IsFirstPassing, RefusesAmounts, first_refusal, with_factors}
+use Rattle.irs_schedule.specs.StreamResets.{FactorPassesAt, RefusesAmounts, with_factors}
+use Rattle.irs_schedule.specs.Private.StreamResets.{IsFirstPassing, first_refusal}
 
 -- no factor passes its limit
 abbrev NonePasses : List OvernightRate → Type 0

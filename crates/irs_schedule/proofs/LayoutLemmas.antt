@@ -18,7 +18,7 @@ use Rattle.irs_periods.proofs.TermOrder.{begins_before_end}
 use Rattle.irs_payments.specs.Payments.{ArePayments, Covers}
 use Rattle.irs_payments.proofs.PaymentsCover.{every_payments_cover}
 use Rattle.irs_schedule.specs.DaySets.{StreamSets, stream_sets}
-use Rattle.irs_schedule.specs.Layouts.{IsKeptLayout}
+use Rattle.irs_schedule.specs.Private.Layouts.{IsKeptLayout}
 use Rattle.irs_schedule.specs.declared.layouts.Layout.{Layout}
 use Rattle.irs_schedule.proofs.CenterLemmas.{days_in_range}
 

@@ -15,7 +15,7 @@ use Rattle.irs_periods.proofs.OneSpan.{one_span}
 use Rattle.irs_periods.proofs.Outcomes.{adjusted_determined, boundaries_determined, span_determined}
 use Rattle.irs_periods.proofs.PeriodsDecided.{few_boundaries, one_boundaries}
 use Rattle.irs_schedule.specs.DaySets.{StreamSets}
-use Rattle.irs_schedule.specs.Layouts.{IsKeptLayout}
+use Rattle.irs_schedule.specs.Private.Layouts.{IsKeptLayout}
 use Rattle.irs_schedule.specs.Schedules.{IsLayout}
 use Rattle.irs_schedule.specs.Outcomes.{layout_of}
 use Rattle.irs_schedule.specs.declared.layouts.Layout.{Layout}

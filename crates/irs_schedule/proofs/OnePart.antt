@@ -13,7 +13,7 @@ use Rattle.irs_base.proofs.MemberLemmas.{one_numbered}
 use Rattle.irs_base.proofs.Outcomes.{answer_determined, answer_there, each_determined, one_refusal, refused_as_determined}
 use Rattle.irs_base.proofs.Outcomes.{then_determined}
 use Rattle.irs_terms.specs.Lawful.{IsLawful, IsLawfulStream}
-use Rattle.irs_terms.specs.StepDates.{AllStepsRise}
+use Rattle.irs_terms.specs.Private.StepDates.{AllStepsRise}
 use Rattle.irs_terms.specs.declared.results.Payment.{Payment}
 use Rattle.irs_observed.specs.declared.daily_resets.OvernightResets.{OvernightResets}
 use Rattle.irs_terms.specs.declared.stream.Stream.{Stream}
@@ -28,7 +28,7 @@ use Rattle.irs_rules.specs.TermsRules.{BreaksTerms}
 use Rattle.irs_rules.proofs.Kept.{lawful_stream, terms_kept}
 use Rattle.irs_schedule.specs.DatedRules.{DatedBroken, DatedKept}
 use Rattle.irs_schedule.specs.DaySets.{StreamSets, stream_sets}
-use Rattle.irs_schedule.specs.Layouts.{IsKeptLayout}
+use Rattle.irs_schedule.specs.Private.Layouts.{IsKeptLayout}
 use Rattle.irs_schedule.specs.Schedules.{IsLayout, IsPeriodEntry, AreResetsIn, IsPart, IsPaymentEntry, IsSchedule}
 use Rattle.irs_schedule.specs.Schedules.{payment_of}
 use Rattle.irs_schedule.specs.Outcomes.{entries_of, events_of, layout_of, part_over, passed_at, resets_over, schedule_of}

@@ -14,7 +14,7 @@ use Rattle.irs_base.proofs.Outcomes.{each_begins, each_ends, each_goes_on}
 use Rattle.irs_base.proofs.Outcomes.{answer_determined, each_determined, given_by_determined, refused_as_determined}
 use Rattle.irs_base.proofs.Outcomes.{then_determined}
 use Rattle.irs_terms.specs.Currencies.{decimals_of}
-use Rattle.irs_terms.specs.StepDates.{AllStepsRise}
+use Rattle.irs_terms.specs.Private.StepDates.{AllStepsRise}
 use Rattle.irs_terms.specs.declared.results.Payment.{Payment}
 use Rattle.irs_compound.specs.Outcomes.{payment_amount_of}
 use Rattle.irs_compound.proofs.Outcomes.{payment_determined}

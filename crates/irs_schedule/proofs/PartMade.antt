@@ -6,16 +6,16 @@ use Rattle.irs_base.specs.Members.{Every}
 use Rattle.irs_base.proofs.CoverLemmas.{covers_made}
 use Rattle.irs_base.proofs.EveryLemmas.{every_made}
 use Rattle.irs_terms.specs.Lawful.{IsLawfulStream}
-use Rattle.irs_terms.specs.StepDates.{AllStepsRise}
+use Rattle.irs_terms.specs.Private.StepDates.{AllStepsRise}
 use Rattle.irs_terms.specs.declared.results.Payment.{Payment}
 use Rattle.irs_terms.specs.declared.stream.Stream.{Stream}
 use Rattle.irs_payments.specs.Payments.{ArePayments, Covers}
 use Rattle.irs_payments.proofs.DatedPayments.{exchanges_bounded, exchanges_dated, exchanges_few, payments_dated}
 use Rattle.irs_resets.specs.Rates.{RateTable}
 use Rattle.irs_schedule.specs.DaySets.{StreamSets}
-use Rattle.irs_schedule.specs.Keeping.{MakePart}
+use Rattle.irs_schedule.specs.Private.Keeping.{MakePart}
 use Rattle.irs_schedule.specs.KeptTerms.{is_floating, kept_of}
-use Rattle.irs_schedule.specs.Layouts.{IsKeptLayout}
+use Rattle.irs_schedule.specs.Private.Layouts.{IsKeptLayout}
 use Rattle.irs_schedule.specs.Outcomes.{part_over, resets_over}
 use Rattle.irs_schedule.specs.Parts.{HasAmount, IsAmount}
 use Rattle.irs_schedule.specs.Schedules.{IsPart, IsPaymentEntry, payment_of}

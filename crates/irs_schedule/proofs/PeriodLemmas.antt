@@ -8,7 +8,7 @@ use Rattle.irs_base.specs.Listed.{AllAfter, IsRising}
 use Rattle.irs_terms.specs.declared.results.Reset.{Reset}
 use Rattle.irs_terms.specs.Lawful.{IsLawfulValues, IsLawfulLeg, IsNotional}
 use Rattle.irs_daycount.specs.Fractions.{fraction_of}
-use Rattle.irs_daycount.specs.FractionLaws.{fraction_is, one_denominator}
+use Rattle.irs_daycount.specs.Private.FractionLaws.{fraction_is, one_denominator}
 use Rattle.irs_observed.specs.declared.overnight_rate.OvernightRate.{OvernightRate}
 use Rattle.irs_schedule.specs.declared.entries.PeriodEntry.{PeriodEntry}
 use Rattle.irs_schedule.specs.declared.kept_terms.KeptTerms.{KeptTerms}

@@ -13,7 +13,7 @@ use Rattle.irs_terms.specs.Currencies.{decimals_of}
 use Rattle.irs_terms.specs.declared.results.Payment.{Payment}
 use Rattle.irs_terms.specs.declared.stream.Stream.{Stream}
 use Rattle.irs_daycount.specs.Fractions.{fraction_of}
-use Rattle.irs_daycount.specs.FractionLaws.{fraction_is, days_is}
+use Rattle.irs_daycount.specs.Private.FractionLaws.{fraction_is, days_is}
 use Rattle.irs_compound.specs.Amounts.{IsFraction, AmountOf}
 use Rattle.irs_compound.specs.InForce.{value_in_force}
 use Rattle.irs_compound.specs.Private.InForceLaws.{in_force_is}

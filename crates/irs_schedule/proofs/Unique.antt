@@ -9,11 +9,12 @@ use Rattle.irs_base.proofs.CoverLemmas.{LieAmong}
 use Rattle.irs_base.proofs.EveryLemmas.{one_made}
 use Rattle.irs_base.proofs.MemberLemmas.{one_numbered}
 use Rattle.irs_terms.specs.Currencies.{decimals_of}
-use Rattle.irs_terms.specs.StepDates.{AllStepsRise}
+use Rattle.irs_terms.specs.Private.StepDates.{AllStepsRise}
 use Rattle.irs_terms.specs.declared.results.Payment.{Payment}
 use Rattle.irs_terms.specs.declared.stream.Stream.{Stream}
-use Rattle.irs_daycount.specs.FractionLaws.{one_fraction, one_days}
-use Rattle.irs_compound.specs.AmountLaws.{one_amount as one_units}
+use Rattle.irs_daycount.specs.FractionLaws.{one_fraction}
+use Rattle.irs_daycount.specs.Private.FractionLaws.{one_days}
+use Rattle.irs_compound.specs.Private.AmountLaws.{one_amount as one_units}
 use Rattle.irs_compound.specs.Private.InForceLaws.{one_in_force}
 use Rattle.irs_compound.specs.PartsLaws.{AllFractions}
 use Rattle.irs_compound.specs.Private.OvernightLaws.{one_rates_in}

@@ -10,10 +10,8 @@ pub mod WalkLists
 pub mod Walks
 pub mod AllWalks
 pub mod DaySets
-pub mod Layouts
 pub mod StreamResets
 pub mod StreamDates
-pub mod PeriodTerms
 pub mod Schedules
 pub mod CenterDays
 pub mod Outcomes

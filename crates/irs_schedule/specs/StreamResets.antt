@@ -1,13 +1,11 @@
 -- The resets of a stream with its observed rates, as a stage, and what holds of them.
 use Rattle.std.specs.Prelude.{◌≡◌, ◌⊎◌, ℕ, ◌+◌, ◌*◌, ◌^◌, ◌≤◌, Bool, if◌then◌else◌, List, [], length, Option, Some}
-use Rattle.std.specs.Prelude.{None, IfSome, slice_get, unsigned_abs, ◌<◌, Result, Ok, Err}
+use Rattle.std.specs.Prelude.{None, IfSome, slice_get, unsigned_abs}
 use Rattle.irs_base.specs.Limits.{most_rate}
 use Rattle.irs_base.specs.Members.{Every}
 use Rattle.irs_base.specs.Order.{First, comes_before}
 use Rattle.irs_base.specs.Outcomes.{Spec}
 use Rattle.irs_base.specs.declared.places.Fault.{Fault}
-use Rattle.irs_base.specs.declared.stopped.Stopped.{Stopped}
-use Rattle.irs_base.specs.declared.stopped.Stopped.TheVariants.{Broken, Memory}
 use Rattle.irs_terms.specs.declared.amounts.FloatTerms.{FloatTerms}
 use Rattle.irs_terms.specs.declared.amounts.Leg.{Leg}
 use Rattle.irs_terms.specs.declared.amounts.Leg.TheVariants.{Fixed, Floating}
@@ -77,14 +75,3 @@ with_factors passed rates amounts = record {
   Answers = λ a. ((k : ℕ) → FactorPassesAt rates k → ⊥) × amounts.Answers a;
   Refuses = First comes_before (RefusesAmounts passed rates amounts);
 }
-
--- k is the first place at which a compounded factor passes its limit
-pub record IsFirstPassing (rates : List OvernightRate) (k : ℕ) : Type 0 where
-  pub passes : FactorPassesAt rates k
-  pub first : (j : ℕ) → j < k → FactorPassesAt rates j → ⊥
-
--- K39 of a factor, or a refusal of the amounts that is reported before
-abbrev pub first_refusal : {A : Type 0} → Result A (Stopped Fault) → Fault → Stopped Fault
-first_refusal (Ok entries) factor = Broken factor
-first_refusal (Err (Broken other)) factor = Broken (if comes_before factor other then factor else other)
-first_refusal (Err Memory) factor = Memory

@@ -4,15 +4,16 @@ ghost use Rattle.std.specs.Prelude.{◌≡◌, ◌↔◌, ◌-◌, ◌<◌, ◌�
 ghost use Rattle.irs_base.specs.Members.{Every};
 ghost use Rattle.irs_base.specs.Outcomes.{Meets, MeetsExactly};
 ghost use Rattle.irs_terms.specs.Lawful.{IsLawfulStream};
-ghost use Rattle.irs_terms.specs.StepDates.{AllStepsRise};
+ghost use Rattle.irs_terms.specs.Private.StepDates.{AllStepsRise};
 ghost use Rattle.irs_observed.specs.declared.overnight_rate.OvernightRate.TheVariants.{OutOfRange as PassesLimit};
 ghost use Rattle.irs_payments.specs.Payments.{Covers};
 ghost use Rattle.irs_schedule.specs.Outcomes.{entries_of, entry_of, passed_at, paying};
 ghost use Rattle.irs_schedule.specs.Parts.{HasAmount};
 ghost use Rattle.irs_schedule.specs.Schedules.{AreTerms, IsPeriodTerm, dec_of};
-ghost use Rattle.irs_schedule.specs.PeriodTerms.{HasPeriods, IsTable};
-ghost use Rattle.irs_schedule.specs.StreamDates.{table_dates};
-ghost use Rattle.irs_schedule.specs.StreamResets.{FactorPassesAt, IsFirstPassing, first_refusal, with_factors};
+ghost use Rattle.irs_schedule.specs.Private.PeriodTerms.{HasPeriods, IsTable};
+ghost use Rattle.irs_schedule.specs.Private.StreamDates.{table_dates};
+ghost use Rattle.irs_schedule.specs.StreamResets.{FactorPassesAt, with_factors};
+ghost use Rattle.irs_schedule.specs.Private.StreamResets.{IsFirstPassing, first_refusal};
 
 use crate::PaymentEntry;
 use crate::entries::PaymentEntries;

@@ -9,7 +9,8 @@ ghost use Rattle.irs_calendar.specs.Selected.{day_set_of, first_missing};
 ghost use Rattle.irs_schedule.specs.DaySets.{applicable_days, days_of_names, reset_days};
 ghost use Rattle.irs_rules.specs.TermsKept.{TermsKept};
 ghost use Rattle.irs_terms.specs.Lawful.{IsLawfulStream};
-ghost use Rattle.irs_schedule.specs.CenterDays.{CanFind, centers_named, days_of_centers};
+ghost use Rattle.irs_schedule.specs.CenterDays.{days_of_centers};
+ghost use Rattle.irs_schedule.specs.Private.CenterDays.{CanFind, centers_named};
 
 use irs_base::{Day, Memory, Names, Text};
 use irs_calendar::{Calendars, GoodDays, RunSet, SelErr};

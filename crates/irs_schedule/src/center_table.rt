@@ -5,7 +5,7 @@ ghost use Rattle.std.specs.Prelude.{slice_get};
 ghost use Rattle.irs_terms.specs.Lawful.{IsLawful, IsLawfulStream};
 ghost use Rattle.irs_terms.specs.declared.stream.Stream.{Stream as StreamTerms};
 ghost use Rattle.irs_schedule.specs.DaySets.{applicable_days, boundary_days, payment_days, reset_days, fixing_days};
-ghost use Rattle.irs_schedule.specs.CenterDays.{CanFind, HasMore, HasMoreOf, HasStream, HasSwap, centers_named};
+ghost use Rattle.irs_schedule.specs.Private.CenterDays.{CanFind, HasMore, HasMoreOf, HasStream, HasSwap, centers_named};
 ghost use Rattle.irs_schedule.specs.CenterDays.{days_of_centers};
 ghost use Rattle.irs_rules.specs.TermsKept.{TermsKept};
 

@@ -11,7 +11,7 @@ ghost use Rattle.irs_terms.specs.declared.stream.Stream.{Stream as StreamTerms};
 ghost use Rattle.irs_calendar.specs.declared.sections.Section.{Section};
 ghost use Rattle.irs_rules.specs.TermsKept.{TermsKept};
 ghost use Rattle.irs_rules.specs.TermsRules.{BreaksTerms};
-ghost use Rattle.irs_schedule.specs.CenterDays.{HasSwap};
+ghost use Rattle.irs_schedule.specs.Private.CenterDays.{HasSwap};
 ghost use Rattle.irs_schedule.specs.Outcomes.{schedule_of, stream_of};
 ghost use Rattle.irs_schedule.specs.Parts.{KeepsBounds, Part};
 ghost use Rattle.irs_schedule.specs.Schedules.{IsSchedule};

@@ -42,7 +42,7 @@ impl Model for StreamPart {
 }
 
 ghost use Rattle.std.specs.Prelude.{IsTrue, slice_index_or};
-ghost use Rattle.irs_schedule.specs.Keeping.{MakePart};
+ghost use Rattle.irs_schedule.specs.Private.Keeping.{MakePart};
 ghost use Rattle.irs_schedule.specs.KeptTerms.{is_daily, is_floating};
 ghost use Rattle.irs_schedule.specs.Parts.{KeepsBounds};
 ghost use Rattle.irs_schedule.specs.Periods.{periods_by};

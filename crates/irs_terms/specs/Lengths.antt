@@ -1,5 +1,5 @@
 -- The length of a frequency: days, months, or the whole term.
-use Rattle.std.specs.Prelude.{◌≡◌, ℕ, ◌*◌, ◌<◌, ◌==◌, Bool, false}
+use Rattle.std.specs.Prelude.{◌≡◌, ℕ, ◌*◌, ◌==◌, Bool, false}
 use Rattle.irs_terms.specs.declared.frequency.Unit.{Unit as FrequencyUnit}
 use Rattle.irs_terms.specs.declared.frequency.Unit.TheVariants.{D, W, M, Y, T}
 use Rattle.irs_terms.specs.declared.frequency.Frequency.{Frequency}
@@ -37,9 +37,3 @@ same_length a b = is_same_length (length_of a) (length_of b)
 -- a whole multiple, with how many times it is
 abbrev pub IsTimes : ℕ → ℕ → ℕ → Type 0
 IsTimes whole part times = whole ≡ times * part
-
--- at least 1 day or 1 month, and at least the multiplier 1
-abbrev pub IsPositive : Length → Type 0
-IsPositive (Days count) = 0 < count
-IsPositive (Months count) = 0 < count
-IsPositive (Term count) = 0 < count

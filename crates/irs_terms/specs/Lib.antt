@@ -12,3 +12,4 @@ pub mod PaymentDates
 pub mod DayTypes
 pub mod StepDates
 pub mod Legs
+pub mod Private

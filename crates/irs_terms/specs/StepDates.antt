@@ -3,7 +3,6 @@ use Rattle.std.specs.Prelude.{ℕ, zero, suc, List, [], ◌∷◌, Option, None,
 use Rattle.irs_terms.specs.declared.amounts.Leg.{Leg}
 use Rattle.irs_terms.specs.declared.amounts.Leg.TheVariants.{Fixed, Floating}
 use Rattle.irs_terms.specs.declared.step_list.Step.{Step}
-use Rattle.irs_terms.specs.declared.stream.Stream.{Stream}
 
 -- each step is after the one before it
 abbrev pub StepsRise : List Step → Type 0
@@ -15,10 +14,6 @@ StepsRise (s ∷ t ∷ ss) = (s.day <ℤ t.day) × StepsRise (t ∷ ss)
 abbrev pub LegStepsRise : Leg → Type 0
 LegStepsRise (Fixed values) = StepsRise values.steps
 LegStepsRise (Floating float) = StepsRise float.multiplier.steps × StepsRise float.spread.steps
-
--- all steps of a stream rise
-abbrev pub AllStepsRise : Stream → Type 0
-AllStepsRise s = StepsRise s.notional.steps × LegStepsRise s.leg
 
 -- the step before the one at this position, counted from 0
 abbrev pub step_before : List Step → ℕ → Option Step

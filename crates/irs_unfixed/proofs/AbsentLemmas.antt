@@ -7,7 +7,8 @@ use Rattle.irs_observed.specs.ObservationPeriods.{ObservedPeriod}
 use Rattle.irs_observed.specs.Observations.{AreObservations}
 use Rattle.irs_observed.specs.declared.observation.Observation.{Observation}
 use Rattle.irs_observed.proofs.OutcomeLemmas.{one_observations}
-use Rattle.irs_unfixed.specs.AbsentDays.{FirstAbsent, HasAbsentDay}
+use Rattle.irs_unfixed.specs.AbsentDays.{FirstAbsent}
+use Rattle.irs_unfixed.specs.Private.AbsentDays.{HasAbsentDay}
 
 -- the observation day at a place, where each before it has its rate and it has none
 pub absent_at : (daily : DailyRates) (os : List Observation) (i : ℕ) (o : Observation) → slice_get os i ≡ Some o

@@ -19,7 +19,8 @@ use Rattle.irs_calendar.specs.GoodDays.{DaySet}
 use Rattle.irs_calendar.specs.declared.sections.Section.{Section}
 use Rattle.irs_periods.specs.Spans.{Regular}
 use Rattle.irs_periods.proofs.OneSpan.{one_span}
-use Rattle.irs_resets.specs.ObservedRates.{ComesFrom, IsKind, IsObserved, Line, RateSource, Stated, rate_from, source_by}
+use Rattle.irs_resets.specs.ObservedRates.{ComesFrom, IsKind, IsObserved, Line, RateSource, Stated, rate_from}
+use Rattle.irs_resets.specs.Private.ObservedRates.{source_by}
 use Rattle.irs_resets.specs.Rates.{RateTable, rate_at}
 use Rattle.irs_resets.specs.Resets.{HasResets, IsReset, IsResets, IsResetsOf, ResetSource}
 use Rattle.irs_resets.specs.declared.observed.PeriodKind.{PeriodKind}
@@ -39,7 +40,8 @@ use Rattle.irs_schedule.specs.Parts.{Part}
 use Rattle.irs_schedule.specs.Schedules.{observed_of}
 use Rattle.irs_schedule.specs.StreamResets.{resets_by, resets_in}
 use Rattle.irs_schedule.proofs.RateLemmas.{with_rates}
-use Rattle.irs_unfixed.specs.AbsentDays.{HasAbsentDay, IsAbsentDay}
+use Rattle.irs_unfixed.specs.AbsentDays.{IsAbsentDay}
+use Rattle.irs_unfixed.specs.Private.AbsentDays.{HasAbsentDay}
 use Rattle.irs_unfixed.specs.Fixings.{Fixing, FloatsOn, LacksFixing, RestsBy, RestsIn, daily_period}
 use Rattle.irs_unfixed.specs.Private.Made.{IsGap, reset_source}
 use Rattle.irs_unfixed.proofs.MadeLemmas.{Stages, gap_high, gap_unknown, stages_of}

@@ -1,6 +1,6 @@
 -- The observation days of a calculation period that have no daily rate.
 use Rattle.std.specs.Prelude.{◌≡◌, ◌⊎◌, List, [], ◌∷◌, None, IsSome, ℤ}
-use Rattle.irs_observed.specs.DailyRates.{AreKnown, DailyRates}
+use Rattle.irs_observed.specs.DailyRates.{DailyRates}
 use Rattle.irs_observed.specs.ObservationPeriods.{ObservedPeriod}
 use Rattle.irs_observed.specs.Observations.{AreObservations}
 use Rattle.irs_observed.specs.declared.observation.Observation.{Observation}
@@ -16,9 +16,3 @@ pub record IsAbsentDay (daily : DailyRates) (p : ObservedPeriod) (d : ℤ) : Typ
   pub observations : List Observation
   pub are_observations : AreObservations p observations
   pub first : FirstAbsent daily observations d
-
--- an observation of a calculation period has no daily rate
-pub record HasAbsentDay (daily : DailyRates) (p : ObservedPeriod) : Type 0 where
-  pub observations : List Observation
-  pub are_observations : AreObservations p observations
-  pub unknown : AreKnown daily observations → ⊥

@@ -14,7 +14,6 @@ use Rattle.irs_schedule.specs.declared.entries.PaymentEntry.{PaymentEntry}
 use Rattle.irs_unfixed.specs.Fixings.{Fixing, LacksFixing}
 use Rattle.irs_unfixed.specs.Unfixed.{UnfixedAt, IsUnrated, place_before}
 use Rattle.irs_unfixed.specs.declared.missing.Missing.{Missing}
-use Rattle.irs_unfixed.specs.declared.needed.Needed.{Needed}
 use Rattle.irs_unfixed.specs.declared.places.PaymentPlace.{PaymentPlace}
 
 -- a swap, with the calendars and the fixings by which its schedule is made
@@ -52,10 +51,6 @@ pub record IsFirstLacking (x : MadeFrom) (parts : List Part) (u : PaymentPlace) 
   pub lacks : PaymentLacks x parts u f
 
 -- ---- what the code hands on
-
--- the fixing that a period needs
-abbrev pub fixing_in : Needed → Fixing
-fixing_in n = record { index = n.index.now; tenor = n.tenor; day = n.day }
 
 -- the fixing that is missing
 abbrev pub fixing_of : Missing → Fixing

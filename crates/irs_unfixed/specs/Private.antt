@@ -1,1 +1,3 @@
+pub mod AbsentDays
+pub mod Missing
 pub mod Made

@@ -4,7 +4,8 @@ ghost use Rattle.irs_observed.specs.DailyRates.{AreKnown, daily_rates, rates_by}
 ghost use Rattle.irs_observed.specs.ObservationPeriods.{observed_period};
 ghost use Rattle.irs_observed.specs.ObservationRules.{Lacks};
 ghost use Rattle.irs_observed.specs.declared.observation.NoObservations.{NoObservations as Reason};
-ghost use Rattle.irs_unfixed.specs.AbsentDays.{FirstAbsent, HasAbsentDay, IsAbsentDay};
+ghost use Rattle.irs_unfixed.specs.AbsentDays.{FirstAbsent, IsAbsentDay};
+ghost use Rattle.irs_unfixed.specs.Private.AbsentDays.{HasAbsentDay};
 
 use irs_base::{Day, Memory, Stopped, Text};
 use irs_calendar::GoodDays;

@@ -7,11 +7,12 @@ ghost use Rattle.irs_terms.specs.declared.amounts.Leg.TheVariants.{Floating as O
 ghost use Rattle.irs_terms.specs.declared.results.Reset.{Reset as ResetRow};
 ghost use Rattle.irs_base.specs.Members.{HoldsOf, day_at};
 ghost use Rattle.irs_periods.specs.Spans.{Regular};
-ghost use Rattle.irs_resets.specs.ObservedRates.{Line as LineOf, Stated, source_by};
+ghost use Rattle.irs_resets.specs.ObservedRates.{Line as LineOf, Stated};
+ghost use Rattle.irs_resets.specs.Private.ObservedRates.{source_by};
 ghost use Rattle.irs_unfixed.specs.AbsentDays.{IsAbsentDay};
 ghost use Rattle.irs_unfixed.specs.Fixings.{LacksFixing, daily_period};
 ghost use Rattle.irs_unfixed.specs.Private.Made.{HasSpan, IsGap};
-ghost use Rattle.irs_unfixed.specs.Missing.{fixing_in};
+ghost use Rattle.irs_unfixed.specs.Private.Missing.{fixing_in};
 ghost use Rattle.irs_observed.specs.DailyRates.{daily_rates};
 
 use crate::days::absent_day;

@@ -9,7 +9,8 @@ use Rattle.serde_json.specs.Data.{Data}
 use Rattle.irs_xml.specs.Characters.{is_char, ends_after, line_ends, without_mark, IsText}
 use Rattle.irs_xml.specs.Comments.{after}
 use Rattle.irs_xml.specs.Document.{XmlReads}
-use Rattle.irs_xml.specs.Places.{IsNotXml, ReadsNone}
+use Rattle.irs_xml.specs.Places.{ReadsNone}
+use Rattle.irs_xml.specs.Private.Places.{IsNotXml}
 use Rattle.irs_xml.specs.Private.Reading.{Fails, Takes, document_at}
 use Rattle.irs_xml.specs.Seen.{seen}
 use Rattle.irs_xml.specs.declared.failure.Failure.{Failure}

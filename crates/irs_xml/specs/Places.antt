@@ -20,11 +20,6 @@ abbrev pub PlaceIn : List ℕ → XmlErr → Type 0
 PlaceIn bytes (NotXml line column) = LiesIn bytes line column
 PlaceIn bytes Memory = Unit {0}
 
--- the error is about the text
-abbrev pub IsNotXml : XmlErr → Type 0
-IsNotXml (NotXml line column) = Unit {0}
-IsNotXml Memory = ⊥
-
 -- where an error is about the text, it has no reading
 abbrev pub ReadsNone : List ℕ → XmlErr → Type 0
 ReadsNone bytes (NotXml line column) = (d : Data) → ¬ (XmlReads bytes d)

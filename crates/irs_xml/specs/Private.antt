@@ -1,3 +1,5 @@
+pub mod Places
+pub mod Seen
 pub mod Resolved
 pub mod Reading
 pub mod Plain

@@ -2,7 +2,8 @@
 ghost use Rattle.irs_xml.specs.Comments.{after};
 ghost use Rattle.irs_xml.specs.Private.Reading.{EndsName, NameOf, SplitsName, Takes, after_any_case, gap_at, name_at, skip_space as behind_space, Reads};
 ghost use Rattle.irs_xml.specs.Private.Plain.{PlainTaken, SplitsPlain};
-ghost use Rattle.irs_xml.specs.Seen.{seen, FirstOf, Uncons};
+ghost use Rattle.irs_xml.specs.Seen.{seen};
+ghost use Rattle.irs_xml.specs.Private.Seen.{FirstOf, Uncons};
 ghost use Rattle.std.specs.Prelude.{◌≡◌, [], ◌∷◌, IfSome, Some};
 
 use crate::chars::{is_ascii_name, is_name_char, is_name_start, is_plain, is_space};

@@ -2,7 +2,8 @@
 -- How far two lists of rows have been merged into one.
 use Rattle.std.specs.Prelude.{◌≡◌, ◌⊎◌, ℕ, ◌<◌, ◌≤◌, ◌<ℤ◌, ◌≤ℤ◌, List, length, Option}
 use Rattle.std.specs.List.{Contains}
-use Rattle.irs_breaks.specs.Blocks.{At, IsPartner}
+use Rattle.irs_breaks.specs.Blocks.{At}
+use Rattle.irs_breaks.specs.Private.Blocks.{IsPartner}
 use Rattle.irs_breaks.specs.PairedRows.{AreInOrder, ComesBefore, row_of_ours, row_of_theirs}
 use Rattle.irs_breaks.specs.Pairing.{ArePaired}
 use Rattle.irs_breaks.specs.declared.dated.DatedRow.{DatedRow}

@@ -3,7 +3,7 @@
 use Rattle.std.specs.Prelude.{Result, Ok, Err}
 use Rattle.irs_calendar.specs.declared.calendars.CalErr.{CalErr}
 use Rattle.irs_schedule.specs.CenterDays.{FoundCenters}
-use Rattle.irs_bulk.specs.BulkRuns.{IsCalendar}
+use Rattle.irs_bulk.specs.Private.BulkRuns.{IsCalendar}
 
 -- a table over the sections of the calendar, or the calendar's first fault
 abbrev pub IsTable : Result FoundCenters CalErr → Type 0

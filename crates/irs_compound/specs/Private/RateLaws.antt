@@ -16,7 +16,7 @@ use Rattle.irs_terms.specs.declared.step_list.StepValues.{StepValues}
 use Rattle.irs_compound.specs.declared.periods.Rates.{Rates}
 use Rattle.irs_compound.specs.InForce.{value_in_force}
 use Rattle.irs_compound.specs.Private.InForceLaws.{in_force_is, one_in_force}
-use Rattle.irs_compound.specs.Tens.{ten_positive}
+use Rattle.irs_compound.specs.Private.Tens.{ten_positive}
 use Rattle.irs_compound.specs.PeriodRates.{RateAt, Treats, RatesOf, FixedRatesOf, AreRates, rate_at, treated}
 use Rattle.irs_compound.specs.PeriodRates.{exact_base, rates_of, fixed_rates_of, rates_by}
 use Rattle.irs_terms.specs.StepDates.{StepsRise, LegStepsRise}

@@ -11,7 +11,8 @@ use Rattle.irs_elements.specs.Numbers.{multiplier_at, notional_at, observation_d
 use Rattle.irs_elements.specs.Numbers.{rate_at}
 use Rattle.irs_elements.specs.Words.{currency_at}
 use Rattle.irs_read.specs.Readings.{said}
-use Rattle.irs_read.specs.References.{href_of, lists_of, reference_in, streams_in, the_one}
+use Rattle.irs_read.specs.References.{href_of, lists_of, streams_in, the_one}
+use Rattle.irs_read.specs.Private.References.{reference_in}
 use Rattle.irs_read.specs.StreamElements.{places_by}
 use Rattle.irs_read.specs.declared.leaf_values.Scale.{Scale}
 use Rattle.irs_read.specs.declared.leaf_values.Scale.TheVariants.{Notionals, Rates}

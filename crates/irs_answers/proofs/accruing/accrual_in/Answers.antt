@@ -16,7 +16,8 @@ use Rattle.irs_terms.specs.declared.stream.Stream.{Stream}
 use Rattle.irs_accrue.specs.DailyAccruals.{HasSpan, IsAccrualOf}
 use Rattle.irs_accrue.specs.declared.accruals.Accrual.{Accrual}
 use Rattle.irs_accrue.proofs.OneDaily.{one_accrual_of}
-use Rattle.irs_answers.specs.Accrued.{AccruesAt, Accruing, IsAccruing, accruing}
+use Rattle.irs_answers.specs.Accrued.{AccruesAt, Accruing, accruing}
+use Rattle.irs_answers.specs.Private.Accrued.{IsAccruing}
 use Rattle.irs_answers.proofs.AccrueLemmas.{only_accrual, stream_span}
 use Rattle.irs_answers.proofs.accruing.accrual_in.Goals as goal
 

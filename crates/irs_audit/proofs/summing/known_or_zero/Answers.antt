@@ -1,7 +1,7 @@
 use Rattle.std.proofs.Common.{rules, FitsSigned}
 use Rattle.std.specs.Int.{w128}
 use Rattle.std.proofs.lemmas.Int.{to_z-of_z}
-use Rattle.irs_audit.specs.Comparisons.{IsStatableDec}
+use Rattle.irs_audit.specs.Private.Comparisons.{IsStatableDec}
 use Rattle.irs_audit.proofs.SumLemmas.{amount_size}
 use Rattle.irs_audit.proofs.summing.known_or_zero.Goals as goal
 

@@ -4,7 +4,7 @@ use Rattle.std.proofs.lemmas.List.Elements.{All-push}
 use Rattle.irs_base.specs.Order.{First}
 use Rattle.irs_base.proofs.MemberLemmas.{numbered_push}
 use Rattle.irs_overnight.specs.DerivedRules.{derived_before}
-use Rattle.irs_overnight.specs.FileLaw.{IsInRange}
+use Rattle.irs_overnight.specs.Private.FileLaw.{IsInRange}
 use Rattle.irs_average.specs.MeanRows.{IsMeanRow}
 use Rattle.irs_average.specs.MeanRules.{BreaksSamples, LacksDay}
 use Rattle.irs_average.specs.MeanSources.{MeanSource, averaging_by, mean_period_at, mean_source, own_lines}

@@ -1,6 +1,6 @@
 use Rattle.std.proofs.Common.{◌≡◌, ◌+◌, ◌<◌, ◌≤◌, length, All}
 use Rattle.irs_base.specs.Members.{EachNumbered}
-use Rattle.irs_overnight.specs.FileLaw.{IsInRange}
+use Rattle.irs_overnight.specs.Private.FileLaw.{IsInRange}
 use Rattle.irs_average.specs.MeanRows.{IsMeanRow}
 use Rattle.irs_average.specs.MeanSources.{averaging_by, mean_source, own_lines}
 use Rattle.irs_average.proofs.MeanOrder.{KeptBelow}

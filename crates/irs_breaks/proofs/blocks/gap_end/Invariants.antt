@@ -1,5 +1,5 @@
 use Rattle.std.proofs.Common.{◌+◌, ◌-◌, length}
-use Rattle.irs_breaks.specs.Blocks.{IsGapTo}
+use Rattle.irs_breaks.specs.Private.Blocks.{IsGapTo}
 use Rattle.irs_breaks.proofs.blocks.gap_end.Given as goal
 
 -- the rows up to these places are in the gap

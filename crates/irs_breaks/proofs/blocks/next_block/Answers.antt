@@ -1,5 +1,5 @@
 use Rattle.std.proofs.Common.{ℤ, arith, inl, inr, refl, subst, sym}
-use Rattle.irs_breaks.specs.Blocks.{IsDateEnd}
+use Rattle.irs_breaks.specs.Private.Blocks.{IsDateEnd}
 use Rattle.irs_breaks.proofs.NextBlock.{date_block, gap_block, meets_common}
 use Rattle.irs_breaks.proofs.blocks.next_block.Goals as goal
 

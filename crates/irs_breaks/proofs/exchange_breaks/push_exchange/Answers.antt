@@ -4,7 +4,8 @@ use Rattle.irs_schedule.proofs.PlaceLemmas.{decimals_few}
 use Rattle.irs_terms.specs.Currencies.{decimals_of}
 use Rattle.irs_terms.specs.declared.currency.Currency.{Currency}
 use Rattle.irs_audit.specs.declared.departures.RowKind.TheVariants as row
-use Rattle.irs_breaks.specs.Findings.{Adds, joined}
+use Rattle.irs_breaks.specs.Findings.{joined}
+use Rattle.irs_breaks.specs.Private.Findings.{Adds}
 use Rattle.irs_breaks.specs.RowFindings.{AreExchanges, IsExchangeRow, member_at, ours_alone, place_of, theirs_alone}
 use Rattle.irs_breaks.specs.declared.findings.BreakPlace.{BreakPlace}
 use Rattle.irs_breaks.proofs.RowsTold.{adds_both, adds_neither, adds_ours, adds_theirs, exchange_few}

@@ -1,7 +1,8 @@
 use Rattle.std.proofs.Common.{◌≡◌, ap, subst, ◌∙◌, List}
 use Rattle.irs_breaks.specs.Counting.{counts_in}
 use Rattle.irs_breaks.specs.Fields.{exchange_fields}
-use Rattle.irs_breaks.specs.Findings.{Adds, counted, joined}
+use Rattle.irs_breaks.specs.Findings.{counted, joined}
+use Rattle.irs_breaks.specs.Private.Findings.{Adds}
 use Rattle.irs_breaks.specs.RowFindings.{AreFieldBreaks}
 use Rattle.irs_breaks.specs.declared.counting.Counts.{Counts}
 use Rattle.irs_breaks.specs.declared.values.FieldValues.{FieldValues}

@@ -1,5 +1,5 @@
 use Rattle.std.proofs.Common.{arith}
-use Rattle.irs_breaks.specs.Blocks.{IsPartner}
+use Rattle.irs_breaks.specs.Private.Blocks.{IsPartner}
 use Rattle.irs_breaks.proofs.Merging.{merged_end, pairs_length, push_ours}
 use Rattle.irs_breaks.proofs.pairing.merged.Goals as goal
 

@@ -4,7 +4,8 @@ use Rattle.std.proofs.lemmas.Result.{on_ok_weaker}
 use Rattle.irs_terms.specs.Currencies.{decimals_of}
 use Rattle.irs_terms.specs.declared.currency.Currency.{Currency}
 use Rattle.irs_audit.specs.declared.departures.RowKind.TheVariants as row
-use Rattle.irs_breaks.specs.Findings.{Adds, joined}
+use Rattle.irs_breaks.specs.Findings.{joined}
+use Rattle.irs_breaks.specs.Private.Findings.{Adds}
 use Rattle.irs_breaks.specs.RowFindings.{ArePayments, IsPaymentRow, member_at, ours_alone, periods_before, place_of, theirs_alone}
 use Rattle.irs_breaks.specs.declared.findings.BreakPlace.{BreakPlace}
 use Rattle.irs_breaks.proofs.PaymentsTold.{payment_few, payment_periods, start_there}

@@ -1,7 +1,8 @@
 use Rattle.std.proofs.Common.{◌≡◌, None, refl, sym}
 use Rattle.std.specs.Prelude.{option_copied}
 use Rattle.std.proofs.lemmas.Result.{on_ok_weaker}
-use Rattle.irs_breaks.specs.Findings.{Adds, joined, told}
+use Rattle.irs_breaks.specs.Findings.{joined, told}
+use Rattle.irs_breaks.specs.Private.Findings.{Adds}
 use Rattle.irs_breaks.specs.RowFindings.{IsReset, extra_reset}
 use Rattle.irs_breaks.proofs.PaymentsTold.{reset_extra, reset_none}
 use Rattle.irs_breaks.proofs.period_breaks.push_reset.Goals as goal

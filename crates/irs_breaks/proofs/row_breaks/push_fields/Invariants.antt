@@ -1,5 +1,5 @@
 use Rattle.std.proofs.Common.{take}
-use Rattle.irs_breaks.specs.Findings.{Adds}
+use Rattle.irs_breaks.specs.Private.Findings.{Adds}
 use Rattle.irs_breaks.specs.RowFindings.{AreFieldBreaks}
 use Rattle.irs_breaks.proofs.row_breaks.push_fields.Given as goal
 

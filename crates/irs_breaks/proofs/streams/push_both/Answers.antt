@@ -2,7 +2,8 @@ use Rattle.std.proofs.Common.{◌≡◌, Some, None, refl}
 use Rattle.std.specs.Prelude.{option_copied}
 use Rattle.std.proofs.lemmas.Result.{on_ok_weaker}
 use Rattle.irs_breaks.specs.BreakLists.{ArePaymentsOf, IsStream, whole_stream}
-use Rattle.irs_breaks.specs.Findings.{Adds, joined}
+use Rattle.irs_breaks.specs.Findings.{joined}
+use Rattle.irs_breaks.specs.Private.Findings.{Adds}
 use Rattle.irs_breaks.specs.declared.findings.What.TheVariants as what
 use Rattle.irs_breaks.proofs.StreamsTold.{both_told, neither_told, ours_told, theirs_told}
 use Rattle.irs_breaks.proofs.streams.push_both.Goals as goal

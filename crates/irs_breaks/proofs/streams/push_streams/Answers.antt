@@ -3,7 +3,7 @@ use Rattle.std.specs.Prelude.{option_copied, slice_get}
 use Rattle.irs_schedule.specs.Parts.{Part}
 use Rattle.irs_audit.specs.FlowParts.{FlowPart}
 use Rattle.irs_breaks.specs.BreakLists.{IsStream, StreamAt}
-use Rattle.irs_breaks.specs.Findings.{Adds}
+use Rattle.irs_breaks.specs.Private.Findings.{Adds}
 use Rattle.irs_breaks.proofs.Joining.{adds_more}
 use Rattle.irs_breaks.proofs.StreamsTold.{there}
 use Rattle.irs_breaks.proofs.streams.push_streams.Goals as goal

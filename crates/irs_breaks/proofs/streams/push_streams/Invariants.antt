@@ -1,5 +1,6 @@
 use Rattle.irs_breaks.specs.BreakLists.{StreamAt}
-use Rattle.irs_breaks.specs.Findings.{Adds, UpTo}
+use Rattle.irs_breaks.specs.Findings.{UpTo}
+use Rattle.irs_breaks.specs.Private.Findings.{Adds}
 use Rattle.irs_breaks.proofs.streams.push_streams.Given as goal
 
 -- the findings of the streams before this place have been added

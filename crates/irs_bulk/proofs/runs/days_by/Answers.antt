@@ -1,6 +1,6 @@
 use Rattle.std.proofs.Common.{List, Ok, sym, subst}
 use Rattle.irs_calendar.specs.declared.sections.Section.{Section}
-use Rattle.irs_bulk.specs.BulkRuns.{IsCalendar}
+use Rattle.irs_bulk.specs.Private.BulkRuns.{IsCalendar}
 use Rattle.irs_bulk.proofs.runs.days_by.Goals as goal
 
 pub returns-in-Ok : goal.returns-in-Ok

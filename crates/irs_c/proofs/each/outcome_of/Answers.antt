@@ -1,5 +1,6 @@
 use Rattle.std.proofs.Common.{◌≡◌, ℕ, List, ◌++◌, vec_len, refl}
-use Rattle.irs_c.specs.Each.{Outcome, outcome_by, slot_of}
+use Rattle.irs_c.specs.Each.{Outcome, slot_of}
+use Rattle.irs_c.specs.Private.Each.{outcome_by}
 use Rattle.irs_c.proofs.EachLemmas.{memory_stops, run_by}
 use Rattle.irs_c.specs.declared.each.Answer.{Answer}
 use Rattle.irs_c.specs.declared.telling.Told.{Told}

@@ -1,7 +1,7 @@
 use Rattle.std.proofs.Common.{◌∙◌, [], get_or}
 use Rattle.irs_cli.specs.declared.commands.Named.{Named}
 use Rattle.irs_cli.specs.declared.commands.Role.TheVariants.{Document}
-use Rattle.irs_cli.specs.Commands.{wanted_by}
+use Rattle.irs_cli.specs.Private.Commands.{wanted_by}
 use Rattle.std.proofs.Common.{map}
 use Rattle.irs_answers.specs.Given.{given_by}
 use Rattle.irs_cli.proofs.FetchLemmas.{holds_before, stops_before, stops_at, held_more, gathered_more, stored_as, all_by}

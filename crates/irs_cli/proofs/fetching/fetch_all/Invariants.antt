@@ -1,5 +1,5 @@
 use Rattle.std.proofs.Common.{◌≡◌, ℕ, List, map, take}
-use Rattle.irs_cli.specs.Commands.{wanted_by}
+use Rattle.irs_cli.specs.Private.Commands.{wanted_by}
 use Rattle.irs_answers.specs.Given.{given_by, no_files}
 use Rattle.irs_cli.specs.Given.{Gathers}
 use Rattle.irs_cli.specs.Fetching.{Holds, IsGiven}

@@ -1,7 +1,7 @@
 use Rattle.std.proofs.Common.{◌≡◌, ℕ, List, ◌∷◌, ◌++◌, ◌∙◌, subst}
 use Rattle.irs_schedule.specs.declared.row.Row.{Row}
 use Rattle.irs_schedule.specs.RowTexts.{HasPlaces, row_text_of, text_of, text_from}
-use Rattle.irs_cli.specs.Pages.{Through}
+use Rattle.irs_cli.specs.Private.Pages.{Through}
 use Rattle.irs_cli.proofs.PutLemmas.{through_page, through_last, through_part, through_last_part}
 use Rattle.irs_cli.proofs.PutLemmas.{through_row, through_end, on_err, on_ok_then, on_err_then}
 use Rattle.irs_base.specs.Members.{Every}

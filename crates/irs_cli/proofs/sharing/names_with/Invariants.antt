@@ -1,5 +1,5 @@
 use Rattle.std.proofs.Common.{◌≡◌, ◌++◌, map, drop}
-use Rattle.irs_cli.specs.Commands.{wanted_by}
+use Rattle.irs_cli.specs.Private.Commands.{wanted_by}
 use Rattle.irs_cli.specs.Sharing.{files_with}
 use Rattle.irs_cli.proofs.sharing.names_with.Given as goal
 

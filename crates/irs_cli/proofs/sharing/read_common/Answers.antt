@@ -1,6 +1,7 @@
 use Rattle.std.proofs.Common.{List, false, subst}
 use Rattle.irs_answers.specs.Given.{given_by, no_files}
-use Rattle.irs_cli.specs.Commands.{Asks, Wanted, asked_by, texts}
+use Rattle.irs_cli.specs.Commands.{Asks, Wanted, texts}
+use Rattle.irs_cli.specs.Private.Commands.{asked_by}
 use Rattle.irs_cli.specs.Fetching.{Holds}
 use Rattle.irs_cli.specs.Given.{Gathers}
 use Rattle.irs_cli.specs.Sharing.{files_with}

@@ -1,4 +1,4 @@
-use Rattle.irs_compound.specs.AmountLaws.{one_list}
+use Rattle.irs_compound.specs.Private.AmountLaws.{one_list}
 use Rattle.irs_compound.specs.Amounts.{denominator}
 use Rattle.irs_compound.specs.PartsLaws.{all_fractions}
 use Rattle.irs_compound.proofs.Outcomes.{payment_determined}

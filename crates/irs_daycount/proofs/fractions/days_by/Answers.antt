@@ -1,7 +1,7 @@
 use Rattle.std.proofs.Common.{rules, FitsSigned}
 use Rattle.std.specs.Int.{w64}
 use Rattle.std.proofs.lemmas.Int.{to_z-of_z}
-use Rattle.irs_daycount.specs.FractionLaws.{one_days, days_value}
+use Rattle.irs_daycount.specs.Private.FractionLaws.{one_days, days_value}
 use Rattle.irs_daycount.proofs.fractions.days_by.Goals as goal
 
 pub returns-clause-value : goal.returns-clause-value

@@ -3,7 +3,8 @@ use Rattle.std.specs.List.{list_any}
 use Rattle.serde_json.specs.View.{view}
 use Rattle.irs_json.specs.Leaves.{is_attribute}
 use Rattle.irs_json.specs.Names.{names_of}
-use Rattle.irs_elements.specs.Elements.{ShapeFault, has_odd, is_known, is_unknown, names_among, texts}
+use Rattle.irs_elements.specs.Elements.{ShapeFault, has_odd, is_known, is_unknown, texts}
+use Rattle.irs_elements.specs.Private.Elements.{names_among}
 use Rattle.irs_elements.proofs.Attributes.{plain_names}
 use Rattle.irs_elements.proofs.First.{first_is}
 use Rattle.irs_elements.proofs.Steps.{shape_answer, shape_first}

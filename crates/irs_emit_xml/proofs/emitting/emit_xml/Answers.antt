@@ -1,5 +1,6 @@
 use Rattle.irs_emit_xml.proofs.emitting.emit_xml.Goals as goal
-use Rattle.irs_emit_xml.specs.Flows.{lines, stream_node}
+use Rattle.irs_emit_xml.specs.Flows.{stream_node}
+use Rattle.irs_emit_xml.specs.Private.Flows.{lines}
 use Rattle.irs_emit_xml.specs.Trees.{declared_text, root_open_text}
 use Rattle.irs_emit_xml.proofs.Document.{text_is, text_reads}
 use Rattle.irs_emit_xml.proofs.Stated.{states}

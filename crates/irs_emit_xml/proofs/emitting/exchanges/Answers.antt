@@ -1,5 +1,6 @@
 use Rattle.irs_emit_xml.proofs.emitting.exchanges.Goals as goal
-use Rattle.irs_emit_xml.specs.Flows.{exchange_node, lines}
+use Rattle.irs_emit_xml.specs.Flows.{exchange_node}
+use Rattle.irs_emit_xml.specs.Private.Flows.{lines}
 use Rattle.irs_emit_xml.proofs.Walks.{mapped_all, mapped_more}
 use Rattle.std.proofs.Common.{◌∙◌, ◌++◌, ap, map}
 

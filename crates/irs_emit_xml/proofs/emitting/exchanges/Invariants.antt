@@ -1,5 +1,6 @@
 use Rattle.irs_emit_xml.proofs.emitting.exchanges.Given as goal
-use Rattle.irs_emit_xml.specs.Flows.{exchange_node, lines}
+use Rattle.irs_emit_xml.specs.Flows.{exchange_node}
+use Rattle.irs_emit_xml.specs.Private.Flows.{lines}
 use Rattle.std.proofs.Common.{◌≡◌, ◌++◌, map, take}
 
 -- the lines of the exchanges so far

@@ -1,5 +1,6 @@
 use Rattle.irs_emit_xml.proofs.emitting.payments.Given as goal
-use Rattle.irs_emit_xml.specs.Flows.{lines, payment_node}
+use Rattle.irs_emit_xml.specs.Flows.{payment_node}
+use Rattle.irs_emit_xml.specs.Private.Flows.{lines}
 use Rattle.std.proofs.Common.{◌≡◌, ◌++◌, map, take}
 
 -- the lines of the payments so far

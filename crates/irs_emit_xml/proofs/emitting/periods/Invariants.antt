@@ -1,5 +1,6 @@
 use Rattle.irs_emit_xml.proofs.emitting.periods.Given as goal
-use Rattle.irs_emit_xml.specs.Flows.{lines, period_nodes}
+use Rattle.irs_emit_xml.specs.Flows.{period_nodes}
+use Rattle.irs_emit_xml.specs.Private.Flows.{lines}
 use Rattle.std.proofs.Common.{◌≡◌, ◌-◌, ◌++◌}
 
 -- the lines of the periods so far

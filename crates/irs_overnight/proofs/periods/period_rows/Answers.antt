@@ -1,7 +1,7 @@
 use Rattle.std.proofs.Common.{◌≡◌, inl, inr, ℕ, ◌+◌, ◌<◌, [], ◌∷◌, length, length-append, sym, subst, arith}
 use Rattle.std.proofs.lemmas.Bool.{cases_lt}
 use Rattle.std.proofs.lemmas.List.Elements.{All-push}
-use Rattle.irs_overnight.specs.FileLaw.{IsInRange}
+use Rattle.irs_overnight.specs.Private.FileLaw.{IsInRange}
 use Rattle.std.proofs.lemmas.Result.{err_from_is_err_and}
 use Rattle.irs_base.specs.Order.{First}
 use Rattle.irs_base.specs.declared.places.Fault.{Fault}

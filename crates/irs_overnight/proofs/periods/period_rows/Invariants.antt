@@ -1,6 +1,6 @@
 use Rattle.std.proofs.Common.{◌≡◌, ◌+◌, ◌<◌, ◌≤◌, length, All}
 use Rattle.irs_base.specs.Members.{EachNumbered}
-use Rattle.irs_overnight.specs.FileLaw.{IsInRange}
+use Rattle.irs_overnight.specs.Private.FileLaw.{IsInRange}
 use Rattle.irs_overnight.specs.DerivedRows.{IsDerivedRow}
 use Rattle.irs_overnight.specs.DailySources.{daily_source}
 use Rattle.irs_overnight.proofs.DerivedOrder.{KeptBelow}

@@ -2,7 +2,8 @@ use Rattle.std.proofs.Common.{◌≡◌, ◌-◌, ◌∙◌, List, length, ℕ, 
 use Rattle.irs_base.specs.Listed.{IsRising}
 use Rattle.irs_base.specs.Order.{First, comes_before}
 use Rattle.irs_base.specs.declared.places.Fault.{Fault}
-use Rattle.irs_periods.specs.Adjusting.{AdjustedList, BreaksAdjusted, FirstNoResult, FirstNotAfter, MissesResult}
+use Rattle.irs_periods.specs.Adjusting.{AdjustedList, BreaksAdjusted, MissesResult}
+use Rattle.irs_periods.specs.Private.Adjusting.{FirstNoResult, FirstNotAfter}
 use Rattle.irs_periods.specs.Adjusting.{days_by, last_of, no_result_at}
 use Rattle.irs_periods.proofs.AdjustedDecided.{adjusted_unbroken, first_no_result, first_not_after, none_flat, results_unbroken}
 use Rattle.irs_periods.proofs.AdjustedLemmas.{adjusted_exists, two_boundaries, few_days, rising_of}

@@ -1,6 +1,6 @@
 use Rattle.std.proofs.Common.{refl, ◌∙◌}
 use Rattle.irs_cli.proofs.PutLemmas.{on_err}
-use Rattle.irs_plain.specs.Parts.{part_text, said_by}
+use Rattle.irs_plain.specs.Private.Parts.{part_text, said_by}
 use Rattle.irs_plain.proofs.PieceLemmas.{piece_failed, piece_put}
 use Rattle.irs_plain.proofs.parts.put_parts.Goals as goal
 

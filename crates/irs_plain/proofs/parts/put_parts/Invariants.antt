@@ -1,6 +1,6 @@
 use Rattle.std.proofs.Common.{◌≡◌, drop}
 use Rattle.irs_cli.proofs.PutLemmas.{Through}
-use Rattle.irs_plain.specs.Parts.{said_by}
+use Rattle.irs_plain.specs.Private.Parts.{said_by}
 use Rattle.irs_plain.proofs.parts.put_parts.Given as goal
 
 -- the parts that are left are still to be written

@@ -4,7 +4,8 @@ use Rattle.std.proofs.lemmas.Int.{ints}
 use Rattle.jiff_core.proofs.SignedLemmas.{signed_arith}
 use Rattle.irs_resets.specs.Words.{word, behind_gap}
 use Rattle.irs_resets.specs.declared.store.Slot.{Slot}
-use Rattle.irs_resets.specs.FixingLines.{IsTail, Spells}
+use Rattle.irs_resets.specs.FixingLines.{Spells}
+use Rattle.irs_resets.specs.Private.FixingLines.{IsTail}
 use Rattle.irs_resets.proofs.fixing_line.fixing_line.Goals as goal
 
 pub returns-clause-some : goal.returns-clause-some

@@ -1,6 +1,6 @@
 use Rattle.std.proofs.Common.{◌≡◌, ◌+◌, length}
 use Rattle.irs_schedule.specs.Schedules.{IsPeriodTerm}
-use Rattle.irs_schedule.specs.StreamDates.{table_dates}
+use Rattle.irs_schedule.specs.Private.StreamDates.{table_dates}
 use Rattle.irs_base.specs.Members.{EachNumbered}
 use Rattle.irs_schedule.proofs.amounts.terms_of.Given as goal
 

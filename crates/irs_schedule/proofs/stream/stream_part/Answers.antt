@@ -2,7 +2,7 @@ use Rattle.std.proofs.Common.{◌≡◌, ◌∙◌, inl, inr, subst, sym, ap}
 use Rattle.irs_base.proofs.HandedAnswers.{handed_on}
 use Rattle.irs_base.proofs.Outcomes.{stopped_meets}
 use Rattle.irs_terms.specs.declared.stream.Stream.{Stream}
-use Rattle.irs_schedule.specs.Keeping.{MakePart}
+use Rattle.irs_schedule.specs.Private.Keeping.{MakePart}
 use Rattle.irs_schedule.specs.KeptTerms.{is_daily, is_floating, kept_of}
 use Rattle.irs_schedule.specs.Outcomes.{part_over, stream_of}
 use Rattle.irs_schedule.specs.Periods.{periods_by}

@@ -3,7 +3,8 @@ use Rattle.std.proofs.lemmas.Result.{err_from_is_err_and}
 use Rattle.irs_calendar.specs.declared.sections.Section.{Section}
 use Rattle.irs_calendar.specs.declared.calendars.CalErr.{CalErr}
 use Rattle.irs_calendar.specs.FirstFaults.{Spot}
-use Rattle.irs_calendar.specs.Calendars.{calendars_in, spot_of, SpotFails}
+use Rattle.irs_calendar.specs.Calendars.{spot_of}
+use Rattle.irs_calendar.specs.Private.Calendars.{calendars_in, SpotFails}
 use Rattle.irs_calendar.specs.Grammar.{CalFiles}
 use Rattle.irs_calendar.proofs.DistinctLemmas.{calendars_apart}
 use Rattle.irs_calendar.proofs.CalendarLemmas.{texts}

@@ -1,6 +1,6 @@
 use Rattle.std.proofs.Common.{sym, subst}
 use Rattle.irs_resets.specs.Rates.{SlotRates}
-use Rattle.irs_resets.specs.SlotOrder.{ComesAfter}
+use Rattle.irs_resets.specs.Private.SlotOrder.{ComesAfter}
 use Rattle.irs_resets.proofs.OrderLemmas.{more_in_order}
 use Rattle.irs_resets.proofs.in_order.InOrder.push.Goals as goal
 

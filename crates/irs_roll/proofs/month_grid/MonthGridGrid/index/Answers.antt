@@ -1,6 +1,6 @@
 use Rattle.std.proofs.Common.{rules, ℤ, subst, FitsSigned, w32, to_z-of_z, sym}
 use Rattle.irs_roll.specs.Grids.{OnMonthsFrom}
-use Rattle.irs_roll.specs.StepLaws.{none_then}
+use Rattle.irs_roll.specs.Private.StepLaws.{none_then}
 use Rattle.irs_roll.specs.MonthLaws.{from_start}
 use Rattle.irs_roll.proofs.month_grid.MonthGridGrid.index.Goals as goal
 

@@ -1,3 +1,4 @@
+-- Private: no public contract rests on this file.
 -- The layouts of streams that break no rule of the span or of the boundaries.
 use Rattle.std.specs.Prelude.{◌+◌, ◌≤◌, length}
 use Rattle.irs_base.specs.Limits.{most_periods}

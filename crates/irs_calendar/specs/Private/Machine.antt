@@ -1,3 +1,4 @@
+-- Private: no public contract rests on this file.
 -- What the lines of calendar files hold.
 use Rattle.std.specs.Prelude.{ℕ, Bool, ◌&&◌, List, [], ◌∷◌, ◌++◌, length, ℤ, Result, Ok, Err, nat_le, if◌then◌else◌}
 use Rattle.std.specs.Ordering.{int_cmp, is_le}
@@ -11,7 +12,7 @@ use Rattle.irs_base.specs.Limits.{most_holidays}
 use Rattle.irs_calendar.specs.declared.machine.Fault.{Fault}
 use Rattle.irs_calendar.specs.declared.machine.Fault.TheVariants.{Syntax, Repeat, TooMany}
 use Rattle.irs_calendar.specs.Words.{Said, Nothing, Center, Cover, Weekend, Holiday, Wrong}
-use Rattle.irs_calendar.specs.Rising.{all_before}
+use Rattle.irs_calendar.specs.Private.Rising.{all_before}
 use Rattle.irs_calendar.specs.Sections.{is_named}
 
 -- what a reader was given, as words of the grammar

@@ -1,3 +1,4 @@
+-- Private: no public contract rests on this file.
 -- What holds of the table by which the calculation periods of a stream are worked out, and of a payment's periods in it.
 use Rattle.std.specs.Prelude.{◌≡◌, ◌+◌, ◌-◌, ◌<◌, ◌≤◌, length}
 use Rattle.irs_base.specs.DayLists.{AreDays}

@@ -1,3 +1,4 @@
+-- Private: no public contract rests on this file.
 -- What the lines of a file hold, or the first line that is at fault.
 use Rattle.std.specs.Prelude.{◌≡◌, ℕ, ◌+◌, List, [], ◌∷◌, Result, Ok, Err}
 use Rattle.irs_calendar.specs.declared.sections.Section.{Section}
@@ -6,7 +7,7 @@ use Rattle.irs_calendar.specs.declared.part.State.{State}
 use Rattle.irs_calendar.specs.declared.machine.Fault.{Fault}
 use Rattle.irs_calendar.specs.declared.files.FileErr.{FileErr}
 use Rattle.irs_calendar.specs.declared.files.FileErr.TheVariants as errors
-use Rattle.irs_calendar.specs.Machine.{after_line, at_end}
+use Rattle.irs_calendar.specs.Private.Machine.{after_line, at_end}
 use Rattle.irs_calendar.specs.Words.{kind_of}
 use Rattle.irs_calendar.specs.EndLines.{seen_lines}
 

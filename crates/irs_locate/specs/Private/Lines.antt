@@ -1,0 +1,28 @@
+-- Private: no public contract rests on this file.
+-- The line of an element in a text in XML, from 1.
+use Rattle.irs_locate.specs.Markup.{Piece, opening, empty, piece_of}
+use Rattle.irs_locate.specs.declared.lines.Tag.{Tag}
+use Rattle.std.specs.Prelude.{◌≡◌, ℕ, ◌+◌, ◌≤◌, List, [], ◌∷◌, ◌++◌}
+use Rattle.std.specs.Prelude.{drop}
+use Rattle.std.specs.Prelude.{Option, Some, None, length, if◌then◌else◌}
+use Rattle.irs_locate.specs.Lines.{Open, Within}
+
+-- ---- the line of an element
+
+-- what the tag of the root is
+abbrev pub root_piece : Tag → Piece
+root_piece tag =
+    if tag.is_empty then record { mark = empty tag.name.now; size = tag.size } else
+    record { mark = opening tag.name.now; size = tag.size }
+
+-- no element is open before the tag
+pub record IsRootTag (text : List ℕ) (tag : Tag) : Type 0 where
+  pub within : Within text tag.at ([] ∷ [])
+  pub is : piece_of (drop tag.at text) ≡ Some (root_piece tag)
+  pub ends : tag.at + tag.size ≤ length text
+
+-- from the end of an opening tag on: the place where its element ends, or where the text can't be read to its end
+abbrev pub PassesOver : List ℕ → ℕ → Open → Option ℕ → Type 0
+PassesOver text start lists (Some end) = Within text start ([] ∷ lists) → Within text end lists
+PassesOver text start lists None = Within text start ([] ∷ lists)
+    → (n : ℕ) × ((inner : Open) × (Within text n (inner ++ lists) × (piece_of (drop n text) ≡ None)))

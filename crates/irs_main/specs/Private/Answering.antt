@@ -1,0 +1,12 @@
+-- Private: no public contract rests on this file.
+-- What the program does around a run: its texts about itself, and what it says of a status.
+use Rattle.std.specs.Prelude.{◌≡◌, ◌⊎◌, true}
+use Rattle.irs_cli.specs.declared.causes.RunCause.{RunCause}
+use Rattle.irs_cli.specs.declared.causes.RunCause.TheVariants.{PutFailed, NoMemory}
+use Rattle.irs_plain.specs.Sentences.{is_silent}
+
+-- ---- what is said
+
+-- what is said depends on no word
+abbrev pub IsPlain : RunCause → Type 0
+IsPlain c = (is_silent c ≡ true) ⊎ ((c ≡ PutFailed) ⊎ (c ≡ NoMemory))

@@ -1,0 +1,9 @@
+-- Private: no public contract rests on this file.
+-- What the payer pays on a date.
+use Rattle.std.specs.Prelude.{List, [], ◌∷◌, Option, Some, None}
+use Rattle.irs_payments.specs.declared.exchanges.Transfer.{Transfer}
+
+-- the transfer alone, where there is one
+abbrev pub listed : Option Transfer → List Transfer
+listed None = []
+listed (Some t) = t ∷ []

@@ -1,0 +1,3 @@
+pub mod Lookup
+pub mod Parts
+pub mod Shown

@@ -1,0 +1,3 @@
+pub mod RollDayLaws
+pub mod StepLaws
+pub mod MonthLaws
