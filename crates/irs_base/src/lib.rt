@@ -32,7 +32,8 @@ pub use fields::{first_field, is_gap, skip_gap};
 pub use file_dates::date;
 pub use limits::{
     ALL_DAYS, MOST_BYTES, MOST_CENTERS, MOST_EXCHANGES, MOST_FILES, MOST_HOLIDAYS, MOST_INDEX,
-    MOST_NAME, MOST_PERIODS, MOST_RATE, MOST_ROWS, MOST_STEPS, MOST_STREAMS, limits_stated,
+    MOST_NAME, MOST_PERIODS, MOST_RATE, MOST_ROWS, MOST_STEPS, MOST_STREAMS, file_limits_stated,
+    limits_stated,
 };
 pub use line::{Dec, LONGEST_LINE, Line, day_digits};
 pub use lines::split_line;

@@ -45,7 +45,7 @@ pub const MOST_BYTES: usize = 4_194_304;
 /// The most rows of each kind in the cash flows of a stream.
 pub const MOST_ROWS: u32 = 10_000;
 
-/// Each limit is the number that the specification states.
+/// Each limit of a trade is the number that the specification states.
 pub fn limits_stated()
     ensures days { ALL_DAYS ≡ all_days }
     ensures streams { MOST_STREAMS ≡ most_streams }
@@ -54,6 +54,10 @@ pub fn limits_stated()
     ensures exchanges { MOST_EXCHANGES ≡ most_exchanges }
     ensures centers { MOST_CENTERS ≡ most_centers }
     ensures rate { MOST_RATE ≡ most_rate }
+{}
+
+/// Each limit of a file, and of what stands in one, is the number that the specification states.
+pub fn file_limits_stated()
     ensures index { MOST_INDEX ≡ most_index }
     ensures name { MOST_NAME ≡ most_name }
     ensures holidays { MOST_HOLIDAYS ≡ most_holidays }

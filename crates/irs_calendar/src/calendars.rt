@@ -5,7 +5,7 @@
 //! SUN, and then the holidays. The holidays rise strictly inside the cover. The last line may be an
 //! end line. The format is ours.
 ghost use Rattle.std.specs.Prelude.{◌≡◌, ◌≤◌, List, [], length, map, Some, Ok, All, IsOk, IfOk, IfErr};
-ghost use Rattle.std.specs.Prelude.{IfSome, IsSome, None, option_copied, slice_get};
+ghost use Rattle.std.specs.Prelude.{IfSome, None, option_copied, slice_get};
 ghost use Rattle.irs_base.specs.Limits.{most_bytes, most_centers, most_files};
 ghost use Rattle.irs_calendar.specs.Runs.{set_of_runs};
 ghost use Rattle.irs_calendar.specs.Private.Files.{sections_of};
@@ -165,9 +165,6 @@ impl Calendars {
         requires short { All (λ f. length f.items ≤ most_bytes) files.now }
         // The files spell the sections, by the grammar.
         ensures spelt { IfOk result (λ c. CalFiles (map (λ f. f.items) files.now) c) }
-        // Files with a faulty line spell no sections.
-        ensures refused { IfErr result (λ e. IsSome (spot_of e) → (ss : List Section)
-            → CalFiles (map (λ f. f.items) files.now) ss → ⊥) }
         // An error is at the first fault: the lines before it can go on, and with the faulty line
         // nothing can.
         ensures first { IfErr result (λ e. IfSome (spot_of e) (IsFirstFault (map (λ f. f.items) files.now))) }

@@ -1,6 +1,6 @@
 //! Files in memory, with calls that are to fail: for tests, and for whoever uses the program as a
 //! library.
-ghost use Rattle.std.specs.Prelude.{◌≡◌, ◌≢◌, ℕ, ◌≤◌, List, [], ◌∷◌, ◌++◌, length, take, Some, None, IfOk};
+ghost use Rattle.std.specs.Prelude.{◌≡◌, ◌≢◌, ℕ, List, [], ◌∷◌, ◌++◌, take, Some, None, IfOk};
 ghost use Rattle.std.specs.Prelude.{IfSome, IsErrOf, OnOk, OnErr};
 ghost use Rattle.irs_outside.specs.Outside.{IsFrontUnder, Rose};
 ghost use Rattle.irs_outside.specs.Private.Outside.{next_count};
@@ -81,7 +81,6 @@ impl Files for MemFiles {
     /// `Failed` comes exactly at a call that is marked and at a name that isn't there.
     fn fetch(&mut self, alloc: Global, name: &str, most: usize) -> Result<Vec<u8>, FetchErr>
         ensures bytes { IfOk result (λ b. IfSome (file_under self.old name.now) (λ xs. b.items ≡ take most xs)) }
-        ensures fits { IfOk result (λ b. length b.items ≤ most) }
         ensures told { (n : List ℕ) → file_under self.new n ≡ file_under self.old n }
         ensures gave { IfOk result (λ b. IsFrontUnder (file_under self.old name.now) most b.items) }
         ensures same { (n : List ℕ) (k : ℕ) (b : List ℕ) → IsFrontUnder (file_under self.new n) k b

@@ -1,35 +1,13 @@
-use Rattle.std.proofs.Common.{◌≡◌, ℕ, List, [], IfSome, IsSome, Option, Some, None, Result, Ok, Err, sym, ◌∙◌}
+use Rattle.std.proofs.Common.{ℕ, List, [], IfSome, Option, Some, None}
 use Rattle.std.proofs.lemmas.Result.{err_from_is_err_and}
-use Rattle.irs_calendar.specs.declared.sections.Section.{Section}
-use Rattle.irs_calendar.specs.declared.calendars.CalErr.{CalErr}
-use Rattle.irs_calendar.specs.FirstFaults.{Spot}
 use Rattle.irs_calendar.specs.Calendars.{spot_of}
 use Rattle.irs_calendar.specs.Private.Calendars.{calendars_in, SpotFails}
-use Rattle.irs_calendar.specs.Grammar.{CalFiles}
 use Rattle.irs_calendar.proofs.DistinctLemmas.{calendars_apart}
 use Rattle.irs_calendar.proofs.CalendarLemmas.{texts}
-use Rattle.irs_calendar.proofs.GrammarLemmas.{read_is_spelt, spelt_is_read}
-use Rattle.irs_calendar.specs.FirstFaults.{IsFirstFault}
+use Rattle.irs_calendar.proofs.GrammarLemmas.{read_is_spelt}
+use Rattle.irs_calendar.specs.FirstFaults.{IsFirstFault, Spot}
 use Rattle.irs_calendar.proofs.FaultLemmas.{fault_is_first, one_first_fault, faulty_spell_none, spelt_or_faulty}
 use Rattle.irs_calendar.proofs.calendars.Calendars.read.Goals as goal
-
-both_ends : (o : Option Spot) (read : Result (List Section) Spot) (ss : List Section) → SpotFails o read → IsSome o
-    → read ≡ Ok ss → ⊥
-both_ends None read ss fails some read_ok = absurd (cc some)
-both_ends (Some s) read ss fails some read_ok = differ (sym fails ∙ read_ok)
-  where
-    differ : ◌≡◌ {A = Result (List Section) Spot} (Err s) (Ok ss) → ⊥
-    differ e = cc e
-
-refused : (e : CalErr) (files : List (List ℕ)) → SpotFails (spot_of e) (calendars_in 1 [] files) → IsSome (spot_of e)
-    → (ss : List Section) → CalFiles files ss → ⊥
-refused e files fails some ss spelt =
-    both_ends (spot_of e) (calendars_in 1 [] files) ss fails some (spelt_is_read files ss spelt)
-
-pub returns-in_err-sections-clause-refused : goal.returns-in_err-sections-clause-refused
-returns-in_err-sections-clause-refused c =
-    let p = err_from_is_err_and c.from_residual.result c.from_residual.ensures.1 in
-    rw (p.1, p.2) (refused c.in_err-sections.field-0.0 (texts c.args.files.now) c.in_err-sections.ensures)
 
 pub invariant_of-result : goal.invariant_of-result
 invariant_of-result c =
