@@ -23,7 +23,7 @@ end_or d (Ok at) = at
 end_or d (Err f) = d
 
 -- a document means one swap at most
-one_meaning : (d : Data) (s t : Swap) → Means d s → Means d t → s ≡ t
+pub one_meaning : (d : Data) (s t : Swap) → Means d s → Means d t → s ≡ t
 one_meaning d s t p q =
     means_read d s p ∙ ap swap_in (ap (end_or d) (sym p.found ∙ q.found)) ∙ sym (means_read d t q)
 
