@@ -7,7 +7,7 @@ use borrow.Author.Differences.{up, down}
 use Rattle.irs_roll.specs.Grids.{OnDays, kth}
 
 -- more steps reach at least as far
-mul_at_most : (s m n : ℕ) → m ≤ n → m * s ≤ n * s
+pub mul_at_most : (s m n : ℕ) → m ≤ n → m * s ≤ n * s
 mul_at_most s m n h = let same : s ≤ s = omega arith in mul-le-mul h same
 
 -- multiplying by a positive step keeps a difference
