@@ -62,6 +62,8 @@ pub(crate) fn average_answer(
     let (swap, schedule) = (&found.swap, &found.schedule);
     let (stream, float) = floating(swap, number)?;
     let days = reset_days(alloc, found.calendars, stream)?;
+    // hands the prover the bounds of the schedule
+    schedule.bounds();
     let rows = average(
         alloc,
         schedule,

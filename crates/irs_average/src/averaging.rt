@@ -55,21 +55,50 @@ pub fn average<G: GoodDays>(
         IfOk result (λ _. AverageKept a) }
     ensures broken { let a = averaged (asked swap.now stream s.now (G.days days.now) fix.now) kind step in
         IfBroken result (IsFirstOfAverage a) }
-    // At every exit: where no rule is broken there is a list of averages. There is at most one
-    // list, and one rule that is broken first.
+{
+    // hands the prover the bounds of the schedule
+    s.bounds();
+    numbered_means(alloc, s, swap, stream, kind, step, days, fix)
+}
+
+/// A law: where no rule is broken there is a list of averages. There is at most one list, and one rule
+/// that is broken first.
+pub fn averages_are_determined<G: GoodDays>(
+    s: &Schedule,
+    swap: &Swap,
+    stream: u8,
+    kind: Mean,
+    step: u32,
+    days: &G,
+    fix: &Fixings,
+)
+    requires { IsAverageAsked (averaged (asked swap.now stream s.now (G.days days.now) fix.now) kind step) }
     ensures exists { let a = averaged (asked swap.now stream s.now (G.days days.now) fix.now) kind step in
         AverageKept a → (rows : List Row) × IsAverage a rows }
     ensures one { let a = averaged (asked swap.now stream s.now (G.days days.now) fix.now) kind step in
         (rows others : List Row) → IsAverage a rows → IsAverage a others → rows ≡ others }
     ensures one_broken { let a = averaged (asked swap.now stream s.now (G.days days.now) fix.now) kind step in
         (x y : BrokenRule) → IsFirstOfAverage a x → IsFirstOfAverage a y → x ≡ y }
-    // A law: each average lies between the least and the greatest rate that it uses.
-    ensures between { let a = averaged (asked swap.now stream s.now (G.days days.now) fix.now) kind step in
+{
+    // hands the prover the bounds of the schedule
+    s.bounds();
+}
+
+/// A law: each average lies between the least and the greatest rate that it uses.
+pub fn averages_lie_among_rates<G: GoodDays>(
+    s: &Schedule,
+    swap: &Swap,
+    stream: u8,
+    kind: Mean,
+    step: u32,
+    days: &G,
+    fix: &Fixings,
+)
+    ensures { let a = averaged (asked swap.now stream s.now (G.days days.now) fix.now) kind step in
         (rows : List Row) → IsAverage a rows → LieAmong a rows }
 {
     // hands the prover the bounds of the schedule
     s.bounds();
-    numbered_means(alloc, s, swap, stream, kind, step, days, fix)
 }
 
 // The same; a broken rule is named by the number of the stream.

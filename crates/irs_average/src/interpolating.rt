@@ -128,22 +128,47 @@ pub fn interpolate(
     ensures fixings { let a = stub_asked swap.now stream side low high s.now fix.now in IfOk result (StubReadsBack a) }
     ensures kept { let a = stub_asked swap.now stream side low high s.now fix.now in IfOk result (λ _. StubKept a) }
     ensures broken { let a = stub_asked swap.now stream side low high s.now fix.now in IfErr result (IsStubBroken a) }
-    // At every exit: where no rule is broken there is a row; there is at most one, and one broken
-    // rule.
+{
+    // hands the prover the bounds of the schedule
+    s.bounds();
+    numbered_row(s, swap, stream, side, low, high, fix)
+}
+
+/// A law: where no rule is broken there is a row. There is at most one, and one broken rule.
+pub fn interpolation_is_determined(
+    s: &Schedule,
+    swap: &Swap,
+    stream: u8,
+    side: Side,
+    low: Frequency,
+    high: Frequency,
+    fix: &Fixings,
+)
+    requires { IsStubAsked (stub_asked swap.now stream side low high s.now fix.now) }
     ensures exists { let a = stub_asked swap.now stream side low high s.now fix.now in
         StubKept a → (row : Row) × IsInterpolated a row }
     ensures one { let a = stub_asked swap.now stream side low high s.now fix.now in
         (row other : Row) → IsInterpolated a row → IsInterpolated a other → row ≡ other }
     ensures one_broken { let a = stub_asked swap.now stream side low high s.now fix.now in
         (x y : BrokenRule) → IsStubBroken a x → IsStubBroken a y → x ≡ y }
-    // A law: the rate lies between those of the two tenors.
-    ensures between { let a = stub_asked swap.now stream side low high s.now fix.now in
-        (row : Row) → IsInterpolated a row → LiesAmongTwo a row }
 {
-    // hands the prover the bounds of the schedule
-    s.bounds();
-    numbered_row(s, swap, stream, side, low, high, fix)
+    // hands the prover the row or the broken rule
+    let _row = numbered_row(s, swap, stream, side, low, high, fix);
 }
+
+/// A law: the rate of a stub lies between those of the two tenors.
+pub fn interpolation_lies_between_rates(
+    s: &Schedule,
+    swap: &Swap,
+    stream: u8,
+    side: Side,
+    low: Frequency,
+    high: Frequency,
+    fix: &Fixings,
+)
+    ensures { let a = stub_asked swap.now stream side low high s.now fix.now in
+        (row : Row) → IsInterpolated a row → LiesAmongTwo a row }
+{}
 
 // The same; a broken rule is named by the number of the stream.
 fn numbered_row(

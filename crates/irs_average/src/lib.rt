@@ -12,7 +12,9 @@ mod stub_rates;
 mod stubs;
 mod tenor_ends;
 
-pub use averaging::average;
-pub use interpolating::interpolate;
+pub use averaging::{average, averages_are_determined, averages_lie_among_rates};
+pub use interpolating::{
+    interpolate, interpolation_is_determined, interpolation_lies_between_rates,
+};
 pub use means::Mean;
 pub use stubs::{Side, stub_index};

@@ -4,6 +4,7 @@ use Rattle.irs_schedule.specs.DaySets.{reset_days}
 use Rattle.irs_overnight.specs.FileLaw.{file_text}
 use Rattle.irs_overnight.specs.Overnight.{asked}
 use Rattle.irs_average.specs.Averages.{IsFirstOfAverage, averaged}
+use Rattle.irs_average.proofs.AverageLemmas.{one_average, one_average_broken}
 use Rattle.irs_answers.specs.Derived.{DueAverage, DueAveraged, FloatingStream}
 use Rattle.irs_overnight.specs.declared.derived.DerivedRow.{DerivedRow}
 use Rattle.irs_answers.specs.Messages.{refused}
@@ -55,7 +56,7 @@ returns-in_err-rows-clause-due c =
     made.ensures.1
     (refuse_stopped f.swap n next x c.in_ok-stream.ensures.floats (IsFirstOfAverage _) e c.in_err-rows.ensures.broken
     (λ b first. subst (λ (d : DaySet). DueAveraged (due d) x.float 2 (refused b)) c.in_ok-days.ensures
-    (averaged_first _ x.float b first c.in_err-rows.ensures.one_broken)))
+    (averaged_first _ x.float b first (one_average_broken _))))
 
 pub fixings_page-requires : goal.fixings_page-requires
 fixings_page-requires c =
@@ -75,7 +76,7 @@ returns-clause-due c =
     let rows = c.in_ok-rows.rows in
     let text = file_text rows x.float.tenor x.float.index in
     let done = averaged_rows _ x.float rows c.in_ok-rows.ensures.kept c.in_ok-rows.ensures.ok
-    c.in_ok-rows.ensures.one in
+    (one_average _ c.bounds.ensures.each) in
     let printed =
     ends_done f.swap n next x c.in_ok-stream.ensures.floats text
     (subst (λ (d : DaySet). DueAveraged (due d) x.float 0 text) c.in_ok-days.ensures done) in

@@ -1,5 +1,6 @@
 use Rattle.std.proofs.Common.{ℕ, List, [], ◌∷◌, subst, sym}
 use Rattle.irs_average.specs.Stubs.{stub_asked}
+use Rattle.irs_average.proofs.StubLemmas.{one_interpolated, one_stub_broken}
 use Rattle.irs_overnight.specs.FileLaw.{file_text}
 use Rattle.irs_answers.specs.Derived.{DueInterpolate, DueStub, FloatingStream}
 use Rattle.irs_answers.specs.Outcomes.{Ends}
@@ -28,7 +29,7 @@ returns-in_err-row-clause-due c =
     (Ends (DueInterpolate n c.args.side c.args.low c.args.high f.swap f.fixings.now f.schedule)) made.ensures.0
     made.ensures.1
     (refuse_broken f.swap n next _ c.in_ok-floating.ensures.floats e
-    (stub_broken a e c.in_err-row.ensures.broken c.in_err-row.ensures.one_broken))
+    (stub_broken a e c.in_err-row.ensures.broken (one_stub_broken a)))
 
 pub unreachable-requires : goal.unreachable-requires
 unreachable-requires c = let has = c.in_ok-row.ensures.ok.has in c.in_default.ensures.none _ _ has.gives
@@ -48,7 +49,7 @@ returns-clause-due c =
     let index = c.in-Some.index.now in
     let tenor = c.in-Some.tenor in
     let text = file_text (row ∷ []) tenor index in
-    let done = stub_printed a row index tenor c.in_ok-row.ensures.kept c.in_ok-row.ensures.ok c.in_ok-row.ensures.one
+    let done = stub_printed a row index tenor c.in_ok-row.ensures.kept c.in_ok-row.ensures.ok (one_interpolated a)
     c.in-Some.ensures.some in
     subst (λ (t : List ℕ). Ends (DueInterpolate n c.args.side c.args.low c.args.high f.swap f.fixings.now f.schedule) 0 t)
     (sym c.in_ok-fixings_page.ensures) (ends_done f.swap n next _ c.in_ok-floating.ensures.floats text done)

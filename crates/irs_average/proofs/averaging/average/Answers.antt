@@ -1,8 +1,7 @@
 use Rattle.irs_overnight.specs.Overnight.{asked}
 use Rattle.irs_overnight.proofs.KeptRows.{ok_three}
 use Rattle.irs_average.specs.Averages.{AverageAsked, averaged}
-use Rattle.irs_average.proofs.AverageLemmas.{average_reads_back, average_there, lie_among, one_average}
-use Rattle.irs_average.proofs.AverageLemmas.{one_average_broken}
+use Rattle.irs_average.proofs.AverageLemmas.{average_reads_back}
 use Rattle.irs_average.proofs.averaging.average.Goals as goal
 
 pub returns-clause-fixings : goal.returns-clause-fixings
@@ -13,31 +12,3 @@ returns-clause-fixings g c =
     ok_three c.numbered_means.result _ _ _ _
     (λ rows average kept range. average_reads_back a c.requires c.bounds.ensures.each rows average kept range)
     c.numbered_means.ensures.ok c.numbered_means.ensures.kept c.numbered_means.ensures.range
-
-pub returns-clause-exists : goal.returns-clause-exists
-returns-clause-exists g c =
-    let a : AverageAsked =
-    averaged (asked c.args.swap.now c.args.stream c.args.s.now (g.G.GoodDays.days c.args.days.now) c.args.fix.now)
-    c.args.kind c.args.step in
-    average_there a c.requires c.bounds.ensures.each
-
-pub returns-clause-one : goal.returns-clause-one
-returns-clause-one g c =
-    let a : AverageAsked =
-    averaged (asked c.args.swap.now c.args.stream c.args.s.now (g.G.GoodDays.days c.args.days.now) c.args.fix.now)
-    c.args.kind c.args.step in
-    one_average a c.bounds.ensures.each
-
-pub returns-clause-one_broken : goal.returns-clause-one_broken
-returns-clause-one_broken g c =
-    let a : AverageAsked =
-    averaged (asked c.args.swap.now c.args.stream c.args.s.now (g.G.GoodDays.days c.args.days.now) c.args.fix.now)
-    c.args.kind c.args.step in
-    one_average_broken a
-
-pub returns-clause-between : goal.returns-clause-between
-returns-clause-between g c =
-    let a : AverageAsked =
-    averaged (asked c.args.swap.now c.args.stream c.args.s.now (g.G.GoodDays.days c.args.days.now) c.args.fix.now)
-    c.args.kind c.args.step in
-    lie_among a c.bounds.ensures.each
