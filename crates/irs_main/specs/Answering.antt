@@ -3,7 +3,9 @@ use Rattle.std.specs.Prelude.{◌≡◌, ◌⊎◌, ℕ, ◌==◌, List, [], ◌
 use Rattle.std.specs.Prelude.{if◌then◌else◌}
 use Rattle.std.specs.Str.{bytes_eq}
 use Rattle.irs_outside.specs.Outside.{Grew, GrewByFront, Rose}
-use Rattle.irs_cli.specs.Causes.{run_status}
+use Rattle.irs_cli.specs.Causes.{IsCauseOfWritten, run_status}
+use Rattle.irs_cli.specs.Commands.{Words}
+use Rattle.irs_cli.specs.Run.{Ran, Source, Written}
 use Rattle.irs_cli.specs.declared.causes.RunCause.{RunCause}
 use Rattle.irs_plain.specs.Sentences.{is_silent, sentence_of}
 
@@ -22,6 +24,12 @@ abbrev pub Printed : (text : List ℕ) → (old now : Option (List ℕ)) → (be
 Printed text old now before after status =
     ((status ≡ 0) × Grew old now text × (after ≡ before))
     ⊎ ((status ≡ 6) × GrewByFront old now text × Rose before after)
+
+-- The text that the words ask for was printed. Words that ask for none were run, and what they came to is the cause of
+-- exactly the text that was printed, with the note for the files as the fetches gave them.
+abbrev pub CameTo : (itself : Option (List ℕ)) → Words → Source → Written → RunCause → Type 0
+CameTo (Some text) ws files out c = Printed text out.old out.new out.before out.after (run_status c)
+CameTo None ws files out c = Ran ws files out (run_status c) × IsCauseOfWritten ws files.gives c out.old out.new
 
 -- ---- what is said
 

@@ -2,14 +2,14 @@
 //! isn't done.
 //!
 //! Words, texts and statuses are our rule.
-ghost use Rattle.std.specs.Prelude.{◌≡◌, ℕ, ◌<◌, List, Some, None, true, false, map, option_map, OnOk, OnErr};
+ghost use Rattle.std.specs.Prelude.{◌≡◌, ℕ, ◌<◌, List, true, false, map, option_map, IsSome, OnOk, OnErr};
 ghost use Rattle.irs_outside.specs.Outside.{Grew, GrewByFront, Rose};
 ghost use Rattle.irs_plain.specs.Sentences.{is_silent as is_silent_of};
 ghost use Rattle.irs_plain.specs.Shown.{shown};
 ghost use Rattle.irs_plain.specs.Words.{texts};
-ghost use Rattle.irs_cli.specs.Causes.{IsCauseOfWritten, run_status};
-ghost use Rattle.irs_cli.specs.Run.{Ran, source, written};
-ghost use Rattle.irs_main.specs.Answering.{Explained, Printed, explanation_of, itself_of};
+ghost use Rattle.irs_cli.specs.Causes.{run_status};
+ghost use Rattle.irs_cli.specs.Run.{source, written};
+ghost use Rattle.irs_main.specs.Answering.{CameTo, Explained, Printed, explanation_of, itself_of};
 ghost use Rattle.irs_main.specs.Private.Answering.{IsPlain};
 
 use crate::pieces::put_lines;
@@ -35,30 +35,16 @@ pub fn answer<F: Files, S: Sink, E: Sink>(
     // The statuses are 0 to 8, and what is known of the files is the same afterwards.
     ensures listed { run_status result < 9 }
     ensures told { (n : List ℕ) → F.told files.new n ≡ F.told files.old n }
-
-    // The words ask about the program itself: that text is printed, and no file is fetched.
-    ensures itself { (text : List ℕ) → itself_of HELP.now VERSION.now (texts words.now) ≡ Some text
-        → Printed text (S.written out.old) (S.written out.new) (S.faults out.old) (S.faults out.new) (run_status result)
-        × (files.new ≡ files.old) }
-
-    // Any other words are run.
-    ensures ran { itself_of HELP.now VERSION.now (texts words.now) ≡ None →
-        let source = source (F.told files.old) (F.gives files.old) (F.failed files.new) (F.faults files.old)
+    // The text that the words ask for about the program itself was printed, or else they were run.
+    ensures came { let files = source (F.told files.old) (F.gives files.old) (F.failed files.new) (F.faults files.old)
         (F.faults files.new) in
-        let written = written (S.written out.old) (S.written out.new) (S.faults out.old) (S.faults out.new) in
-        Ran (texts words.now) source written (run_status result) }
-
-    // What is explained is the cause of exactly the text that was printed, with the note for the files as the
-    // fetches gave them.
-    ensures cause { itself_of HELP.now VERSION.now (texts words.now) ≡ None
-        → IsCauseOfWritten (texts words.now) (F.gives files.old) result (S.written out.old) (S.written out.new) }
-
-    // What the words came to is said, with the words as they are shown.
-    ensures explained { Explained
-        (explanation_of (map (λ c. c.now) COMMANDS) (map shown (texts words.now)) result)
-        (E.written errors.old) (E.written errors.new) (E.faults errors.old) (E.faults errors.new) }
-
-    // Where all is done and no payment lacks its amount, nothing is written there.
+        let out = written (S.written out.old) (S.written out.new) (S.faults out.old) (S.faults out.new) in
+        CameTo (itself_of HELP.now VERSION.now (texts words.now)) (texts words.now) files out result }
+    // No file is fetched for such a text.
+    ensures unread { IsSome (itself_of HELP.now VERSION.now (texts words.now)) → files.new ≡ files.old }
+    // What the words came to is said with the words as they are shown, or nothing is, where all is done.
+    ensures said { let text = explanation_of (map (λ c. c.now) COMMANDS) (map shown (texts words.now)) result in
+        Explained text (E.written errors.old) (E.written errors.new) (E.faults errors.old) (E.faults errors.new) }
     ensures silent { is_silent_of result ≡ true → errors.new ≡ errors.old }
 {
     match about_itself(words) {
