@@ -19,5 +19,5 @@ flows_of_document d = record {
 
 -- where memory ran out the document has no fault
 abbrev pub HidesNone : Data → FlowErr → Type 0
-HidesNone d (Shape kind place) = Unit {0}
+HidesNone d (Shape _ _) = Unit {0}
 HidesNone d Memory = (f : Broken) → FlowFault d f → ⊥
