@@ -2,7 +2,7 @@
 # then it proves and builds the program, with a line a library, leaves it as ./irs and shows the same schedule.
 #
 #   make irs          the second half alone: the proved program
-#   make test         the gate (rt ci): every proof, test, must-fail edit and stored run
+#   make test         the gate (rt ci): every proof, test, must-fail edit and stored run; what it proved, the others take
 #   make try          the program as it is, unproved, on files of yours: DOC=FILE FIX=FILE CALS='FILE FILE',
 #                     COMMAND=NAME, or ARGS='any words' (tools/try says more)
 #   make unproved     the program and the library for C without their proofs, in build/unproved
@@ -33,12 +33,6 @@ all:
 irs:
 	@tools/version
 	@tools/prove
-	@mkdir -p crates/irs/out
-	@echo 'Proving and building the program itself.'
-	@cd crates/irs && rt run -- schedule ../../examples/fixed_leg/terms.json - > out/printed 2> out/told \
-		|| { tail -n 40 out/told; exit 1; }
-	@cp crates/irs/out/irs irs
-	@echo 'The program is proved and built: ./irs'
 
 try:
 	@tools/try
@@ -69,11 +63,11 @@ bench: irs
 
 library:
 	@tools/version
-	cd crates/irs_c && rt lib
-	bindings/build
+	@tools/prove library
 
 # With no proved library here, bindings/try takes the unproved one, and says so.
 bindings:
+	@tools/prove --take
 	bindings/try
 
 desk:
@@ -83,6 +77,7 @@ dist: irs library
 	tools/dist
 
 try-dist:
+	@tools/prove --take
 	tools/try_dist
 
 try-tools:

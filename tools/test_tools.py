@@ -5,6 +5,7 @@ They work in copies, in folders whose names have a space, with CDPATH set.
 """
 from __future__ import annotations
 
+import json
 import os
 import re
 import shutil
@@ -224,32 +225,228 @@ class Version(InRoom):
         self.assertEqual(self.version()[0], 1)
 
 
+GATE = ["gate's program", "gate's libraries"]
+EVERY = ["program", "library", *GATE]
+
+
 class Prove(InRoom):
+    """tools/gate and tools/prove in a small repository, with a kit that proves all but the crate $BAD."""
+
     def setUp(self) -> None:
         super().setUp()
-        self.top = self.copy("tools/prove")
-        (self.top / "crates.txt").write_text("# crates\nlow:\nother:\nmid: low\nirs: mid\nrows: irs\n")
-        for name in ("low", "mid", "other", "irs"):
+        self.top = self.copy("tools/prove", "tools/proved.py", "tools/tree.py", "tools/gate", "tools/look")
+        (self.top / "crates.txt").write_text(
+            "# crates\nlow:\nother:\nmid: low\nirs: mid\nrows: irs\nirs_c staticlib: mid\n"
+        )
+        (self.top / "HANDLES").write_text("Handles allowed: none.\n")
+        for name in ("low", "mid", "other", "irs", "rows", "irs_c"):
             (self.top / "crates" / name / "src").mkdir(parents=True)
             (self.top / "crates" / name / "src" / "lib.rt").write_text("x" * 100_000)
+        for name, text in (
+            ("tools/version", ""),
+            # What the gate leaves: the program, and the libraries with no stamp. $TOUCH is written meanwhile.
+            (
+                ".ci/run",
+                "for name in low mid; do mkdir -p crates/$name/out/rlib/$name.rlib\n"
+                "echo \"$name, proved\" > crates/$name/out/rlib/$name.rlib/format; done\n"
+                "mkdir -p crates/irs/out; echo 'the program of the gate' > crates/irs/out/irs\n"
+                '[ -z "$TOUCH" ] || echo y >> "$TOUCH"\necho one\necho \'7 passed, 0 failed\'\nexit $END\n',
+            ),
+            (
+                "bindings/build",
+                'cd "${0%/*}" && cp ../crates/irs_c/out/libirs_c.a libirs.a && cp libirs.a libirs.so && echo built\n',
+            ),
+        ):
+            (self.top / name).parent.mkdir(exist_ok=True)
+            (self.top / name).write_text(f"#!/bin/sh\n{text}")
+            (self.top / name).chmod(0o755)
+        kit = self.room / "the kit"
+        kit.mkdir()
+        for name in ("KIT-ID", "WHAT"):
+            (kit / name).write_text("rattle-kit-1z logic 0123456789abcdef\n")
         self.program(
-            "rt", '#!/bin/sh\nmkdir -p out\n[ "${PWD##*/}" != "$BAD" ] || { echo \'a goal is left\'; exit 1; }\n'
+            "rt",
+            f"#!/bin/sh\ncase $1 in doc) echo '{kit}/START-HERE.md';; version) cat '{kit}/KIT-ID';;\n"
+            "*) echo \"$1 ${PWD##*/}\" >> ../../ran; mkdir -p out\n"
+            "[ \"${PWD##*/}\" != \"$BAD\" ] || { echo 'a goal is left'; exit 1; };;\nesac\n"
+            "case $1 in run) echo 'the program' > out/irs;; lib) echo 'the library' > out/libirs_c.a;; esac\n",
+        )
+        self.program(
+            "rattle",
+            "#!/bin/sh\necho \"rattle $1 ${PWD##*/}\" >> ../../ran\n"
+            "echo 'the library over the gate' > out/libirs_c.a\n",
         )
 
+    def prove(self, *words: str, **more: str) -> Tuple[int, str]:
+        """How tools/prove ends, and what it prints."""
+        status, out, errors = self.run_tool(["tools/prove", *words], self.top, **more)
+        self.assertEqual(errors, "")
+        return status, out
+
+    def gate(self, end: str = "0", **more: str) -> None:
+        """Runs the gate."""
+        status, out, _ = self.run_tool(["tools/gate"], self.top, END=end, **more)
+        self.assertEqual((status, out), (int(end), "one\n7 passed, 0 failed\n"))
+
+    def ran(self) -> List[str]:
+        """What the kit was asked to prove since this was called last."""
+        path = self.top / "ran"
+        found = path.read_text().splitlines() if path.exists() else []
+        path.unlink(missing_ok=True)
+        return found
+
+    def standing(self) -> List[str]:
+        """The parts that are as they were proved."""
+        asked = "import json, proved; print(json.dumps([it for it in proved.CRATES if proved.stands(it)]))"
+        found: List[str] = json.loads(self.run_tool(["python3", "-c", asked], self.top / "tools")[1])
+        return found
+
     def test_a_line_a_library(self) -> None:
-        status, out, _ = self.run_tool(["tools/prove"], self.top)
+        status, out = self.prove()
         self.assertEqual(status, 0)
         lines = out.splitlines()
         self.assertEqual(lines[0], "Proving 2 libraries, lowest first; about 2 min on four cores.")
         self.assertTrue(lines[1].startswith("low: proved in 0 s; 1 left, about "))
         self.assertTrue(lines[2].startswith("mid: proved in 0 s; 0 left, about 0 s"))
-        again = self.run_tool(["tools/prove"], self.top)[1].splitlines()
+        self.assertEqual(
+            lines[3:], ["Proving and building the program itself.", "The program is proved and built: ./irs"]
+        )
+        self.assertEqual(self.ran(), ["check low", "check mid", "run irs"])
+        (self.top / "irs").write_text("another program\n")
+        again = self.prove()[1].splitlines()
         self.assertEqual(again[0], "Proving 2 libraries, lowest first; about 16 s on four cores.")
 
-    def test_a_library_that_is_not_proved(self) -> None:
-        status, out, _ = self.run_tool(["tools/prove"], self.top, BAD="mid")
+    def test_what_is_not_proved(self) -> None:
+        status, out = self.prove(BAD="mid")
         self.assertEqual(status, 1)
         self.assertIn("mid isn't proved:\na goal is left", out)
+        status, out = self.prove(BAD="irs")
+        self.assertEqual(status, 1)
+        self.assertIn("irs isn't proved:\na goal is left", out)
+        self.assertFalse((self.top / "irs").exists())
+        self.assertEqual(self.standing(), [])
+
+    def test_what_stands_is_not_proved_again(self) -> None:
+        self.prove()
+        self.prove("library")
+        self.assertEqual(self.ran(), ["check low", "check mid", "run irs", "lib irs_c"])
+        for words in ((), ("library",)):
+            status, out = self.prove(*words)
+            self.assertEqual(status, 0)
+            self.assertIn("nothing has changed since", out)
+        self.assertEqual((self.ran(), self.standing()), ([], ["program", "library"]))
+
+    def test_what_the_gate_proved_is_taken(self) -> None:
+        self.gate()
+        self.assertEqual(self.standing(), GATE)
+        self.assertEqual(self.run_tool(["tools/look"], self.top), (0, "", ""))
+        status, out = self.prove()
+        self.assertEqual(status, 0)
+        self.assertIn("No source has changed since the gate, 7 passed, 0 failed: its proved program is taken", out)
+        self.assertEqual((self.top / "irs").read_text(), "the program of the gate\n")
+        self.assertEqual(self.ran(), [])
+        status, out = self.prove("library")
+        self.assertEqual(status, 0)
+        self.assertIn("No source has changed since the gate, 7 passed, 0 failed: the libraries that it left", out)
+        self.assertEqual((self.top / "bindings" / "libirs.so").read_text(), "the library over the gate\n")
+        self.assertEqual((self.ran(), self.standing()), (["rattle build irs_c"], EVERY))
+
+    def test_taking_both(self) -> None:
+        self.assertEqual(self.prove("--take"), (0, ""))
+        self.gate()
+        self.assertEqual([self.prove("--stands", it)[0] for it in ("gate", "program", "library")], [0, 1, 1])
+        self.assertEqual(self.prove("--take")[0], 0)
+        self.assertEqual((self.ran(), self.standing()), (["rattle build irs_c"], EVERY))
+        self.assertEqual(self.prove("--take"), (0, ""))
+
+    def test_its_last_line_is_kept(self) -> None:
+        for end in ("0", "1"):
+            self.gate(end)
+            self.assertEqual(
+                (self.top / "build" / "gate").read_text().splitlines()[1:],
+                ["rattle-kit-1z logic 0123456789abcdef", "7 passed, 0 failed"],
+            )
+
+    def test_a_gate_that_says_nothing(self) -> None:
+        low = self.top / "crates" / "low" / "src" / "lib.rt"
+        # It fails; or a source is written while it runs, also where it is as before in the end.
+        self.gate(end="1")
+        self.assertEqual(self.standing(), [])
+        self.gate(TOUCH=str(low))
+        self.assertEqual(self.standing(), [])
+        self.gate(TOUCH=str(low.with_name("new.rt")))
+        self.assertEqual(self.standing(), [])
+        low.with_name("new.rt").unlink()
+        (self.top / ".ci" / "run").write_text((self.top / ".ci" / "run").read_text().replace("echo y >>", "touch"))
+        self.gate(TOUCH=str(low))
+        self.assertEqual(self.standing(), [])
+        self.gate()
+        self.assertEqual(self.standing(), GATE)
+        # One that fails later takes away what an earlier one left.
+        self.prove("--take")
+        self.gate(end="1")
+        self.assertEqual(self.standing(), [])
+
+    def test_what_changes_since(self) -> None:
+        self.gate()
+        self.prove("--take")
+        crates = self.top / "crates"
+        changes = [
+            (crates / "low" / "src" / "lib.rt", []),
+            (crates / "low" / "specs" / "Lib.antt", []),
+            (crates / "mid" / "proofs" / "of" / "Answers.antt", []),
+            (self.top / "HANDLES", []),
+            (self.room / "the kit" / "KIT-ID", []),
+            (self.room / "the kit" / "WHAT", []),
+            (crates / "irs" / "src" / "lib.rt", ["library", "gate's libraries"]),
+            (crates / "irs_c" / "src" / "lib.rt", ["program", "gate's program"]),
+            (self.top / "irs", ["library", *GATE]),
+            (self.top / "bindings" / "libirs.a", ["program", *GATE]),
+            (self.top / "bindings" / "libirs.so", ["program", *GATE]),
+            (crates / "irs" / "out" / "irs", ["program", "library", "gate's libraries"]),
+            (crates / "mid" / "out" / "rlib" / "mid.rlib" / "format", ["program", "library", "gate's program"]),
+            # No proof of these parts reads them.
+            (crates / "other" / "src" / "lib.rt", EVERY),
+            (crates / "rows" / "src" / "lib.rt", EVERY),
+            (crates / "low" / "must-fail" / "one.edit", EVERY),
+        ]
+        for path, left in changes:
+            with self.subTest(path=str(path.relative_to(self.room))):
+                was = path.read_bytes() if path.exists() else None
+                path.parent.mkdir(parents=True, exist_ok=True)
+                path.write_bytes((was or b"") + b"z")
+                self.assertEqual(self.standing(), left)
+                if was is None:
+                    path.unlink()
+                else:
+                    path.write_bytes(was)
+                self.assertEqual(self.standing(), EVERY)
+        lines = (self.top / "crates.txt").read_text()
+        for line, left in (("mid: low jiff", []), ("other: low", EVERY)):
+            name = line.partition(":")[0]
+            (self.top / "crates.txt").write_text(re.sub(rf"(?m)^{name}:.*", line, lines))
+            self.assertEqual(self.standing(), left)
+        (self.top / "crates.txt").write_text(lines)
+
+    def test_libraries_that_are_not_the_gates(self) -> None:
+        self.gate()
+        (self.top / "crates" / "low" / "out" / "rlib" / "low.rlib" / "more").write_text("z")
+        self.assertEqual(self.prove("library")[0], 0)
+        self.assertEqual(self.ran(), ["check low", "check mid", "lib irs_c"])
+
+    def test_a_program_that_is_not_the_gates(self) -> None:
+        self.gate()
+        (self.top / "crates" / "irs" / "out" / "irs").write_text("another program\n")
+        self.assertEqual(self.prove()[0], 0)
+        self.assertEqual(self.ran(), ["check low", "check mid", "run irs"])
+        self.assertEqual((self.top / "irs").read_text(), "the program\n")
+
+    def test_a_record_that_cannot_be_read(self) -> None:
+        self.gate()
+        record = self.top / "build" / "proved"
+        for text in ("", "[]", '{"program": 1, "gate\'s program": {}}', record.read_text()[:-9]):
+            record.write_text(text)
+            self.assertEqual(self.standing(), [])
 
 
 class Words(InRoom):
@@ -646,25 +843,24 @@ class Shown(InRoom):
             self.assertIn("NOT as in README.md: irs schedule examples/xml_fixed_leg/terms.xml -", out)
 
 
-class Gate(InRoom):
-    def test_its_last_line_is_kept(self) -> None:
-        self.program("rt", "#!/bin/sh\necho 'rattle-kit-1z logic 0123456789abcdef'\n")
-        top = self.copy("tools/gate")
-        (top / ".ci").mkdir()
-        (top / "tools" / "version").write_text("#!/bin/sh\n")
-        for name, text in (
-            ("tools/version", "#!/bin/sh\n"),
-            (".ci/run", "#!/bin/sh\necho one\necho '34 passed, 0 failed'\nexit $END\n"),
+class Provenance(InRoom):
+    """What a package says of the gate."""
+
+    def test_the_gate(self) -> None:
+        self.addCleanup(setattr, tree, "TOP", tree.TOP)
+        tree.TOP = self.room
+        commit, kit = "0123456789" * 4, "rattle-kit-1z logic 0123456789abcdef"
+        self.assertEqual(tree.gate(commit), "not run here over this commit")
+        (self.room / "build").mkdir()
+        for ran_on, asked, said in (
+            (commit, commit, f"7 passed, 0 failed ({kit})"),
+            (commit, commit[::-1], "not run here over this commit"),
+            # Other changes may have come since.
+            (f"{commit} with changes", f"{commit} with changes", "not run here over this commit"),
+            ("unknown", "unknown", "not run here over this commit"),
         ):
-            (top / name).write_text(text)
-            (top / name).chmod(0o755)
-        for end in ("0", "1"):
-            status, out, _ = self.run_tool(["tools/gate"], top, END=end)
-            self.assertEqual((status, out), (int(end), "one\n34 passed, 0 failed\n"))
-            self.assertEqual(
-                (top / "build" / "gate").read_text().splitlines()[1:],
-                ["rattle-kit-1z logic 0123456789abcdef", "34 passed, 0 failed"],
-            )
+            (self.room / "build" / "gate").write_text(f"{ran_on}\n{kit}\n7 passed, 0 failed\n")
+            self.assertEqual(tree.gate(asked), said)
 
 
 class Faults(InRoom):

@@ -19,6 +19,9 @@ PAGES = ("README.md", "CHANGELOG.md", "docs")
 #: What a zip file can have as its oldest date.
 OLDEST = (1980, 1, 1, 0, 0, 0)
 
+#: A commit with no changes.
+CLEAN = re.compile(r"[0-9a-f]{40,64}$")
+
 PC = """# `pcfiledir` is the folder of this file, so the files may be moved together.
 prefix={prefix}
 includedir=${{prefix}}/include
@@ -66,22 +69,6 @@ def built(proved: bool) -> Built:
     return found
 
 
-def is_as_proved(of: Built, room: Path) -> None:
-    """Failed where the program and the libraries aren't those that `rt run` and `rt lib` left in crates/*/out."""
-    archive = TOP / "crates" / "irs_c" / "out" / "libirs_c.a"
-    pairs = [(of.program, TOP / "crates" / "irs" / "out" / "irs")]
-    if archive.is_file():
-        made = room / "as proved"
-        made.mkdir()
-        output_of([str(TOP / "bindings" / "build"), str(archive), str(made)])
-        pairs += [(of.archive, made / "libirs.a"), (of.shared, made / "libirs.so")]
-    else:
-        raise Failed("there is no crates/irs_c/out/libirs_c.a: make library builds it")
-    for ours, proved in pairs:
-        if not proved.is_file() or ours.read_bytes() != proved.read_bytes():
-            raise Failed(f"{ours.relative_to(TOP)} isn't what was proved here: make irs library")
-
-
 def output_of(words: List[str], **more: object) -> str:
     """What a command prints; Failed where it doesn't end with 0."""
     try:
@@ -113,12 +100,12 @@ def commit_time() -> int:
 
 
 def gate(of_commit: str) -> str:
-    """The last line that the gate printed over this commit here (`make test` keeps it), or that there is none."""
+    """The last line that the gate printed over this very commit here (`make test` keeps it), or that there is none."""
     try:
         ran_on, kit, line = (TOP / "build" / "gate").read_text().splitlines()
     except (OSError, ValueError):
         return "not run here over this commit"
-    return f"{line} ({kit})" if ran_on == of_commit else "not run here over this commit"
+    return f"{line} ({kit})" if ran_on == of_commit and CLEAN.match(of_commit) else "not run here over this commit"
 
 
 def kit_logic() -> str:
