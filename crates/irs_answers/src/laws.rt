@@ -22,7 +22,6 @@ pub fn emitted_flows_are_audited()
 /// Where the files of `schedule` pass every step, the status is 0. The text that is due is that of every list
 /// in the relations of dates, fractions and amounts, for what the files say. The function does nothing; its
 /// contract is the law.
-#[tactic(auto, using(crate::proofs::PrintedLemmas::printed))]
 pub fn every_schedule_has_the_printed_text()
     ensures { (g : Given) (f : Facts) (status : ℕ) (text : List ℕ) → Passes Schedule g f
         → DueFor Schedule g status text → (status ≡ 0) × IsTextOfEach f text }
