@@ -31,7 +31,7 @@ use Rattle.irs_cli.specs.Private.Due.{IsLawfulRequest}
 use Rattle.irs_cli.specs.Params.{IsCountWord, IsDateWord, IsFromWord, IsMeanWord, IsSideWord, IsStepWord, IsStreamWord}
 use Rattle.irs_cli.specs.Params.{IsTenorWord}
 use Rattle.irs_cli.proofs.ParamLemmas.{one_at, one_count, one_date, one_from, one_mean, one_side, one_step, one_stream}
-use Rattle.irs_cli.proofs.ParamLemmas.{one_tenor, step_lawful, tenor_lawful}
+use Rattle.irs_cli.proofs.ParamLemmas.{one_tenor, step_lawful}
 
 -- equal texts are equal where they are there
 pub ap_some : {x y : List ℕ} → x ≡ y → (let o : Option (List ℕ) = Some x in o ≡ Some y)
@@ -177,8 +177,8 @@ lawful_by kind.Overnight ws r h = subst IsLawfulRequest (sym h.is) tt
 lawful_by kind.Average ws r h = subst IsLawfulRequest (sym h.is) (step_lawful h.is_step.word h.step h.is_step.is)
 lawful_by kind.Interpolate ws r h =
     subst IsLawfulRequest (sym h.is) (
-      tenor_lawful h.is_low.word h.low h.is_low.is,
-      tenor_lawful h.is_high.word h.high h.is_high.is,
+      h.is_low.is.lawful,
+      h.is_high.is.lawful,
     )
 lawful_by kind.Carrier ws r h = subst IsLawfulRequest (sym h.is) tt
 

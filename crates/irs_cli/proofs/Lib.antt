@@ -1,5 +1,6 @@
 pub mod PutLemmas
 pub mod ParamLemmas
+pub mod TenorWords
 pub mod CommandLemmas
 pub mod FileLemmas
 pub mod FetchLemmas

@@ -1,9 +1,6 @@
 -- A word is one parameter at most, and parameters lie in their ranges.
-use Rattle.std.proofs.Common.{◌≡◌, inl, inr, ℕ, ◌+◌, ◌*◌, ◌-◌, ◌≤◌, List, [], ◌∷◌, Option, Some, None, Bool, true}
-use Rattle.std.proofs.Common.{codes, false, length, length-append, refl, sym, ◌∙◌, ap, subst, arith, ℤ}
-use Rattle.std.specs.Prelude.{nat_le, ◌&&◌, ◌==◌, if◌then◌else◌}
-use Rattle.std.proofs.lemmas.Bool.{cases_lt}
-use Rattle.std.proofs.lemmas.Bool.Decides.{nat_tests}
+use Rattle.std.proofs.Common.{◌≡◌, inl, inr, ℕ, ◌+◌, ◌*◌, ◌-◌, ◌≤◌, List, [], ◌∷◌, Option, Some, None}
+use Rattle.std.proofs.Common.{codes, length, length-append, refl, sym, ◌∙◌, ap, subst, arith, ℤ}
 use Rattle.std.proofs.lemmas.Fmt.{decimal_injective}
 use Rattle.std.proofs.lemmas.Option.{same_Some}
 use Rattle.irs_average.specs.declared.means.Mean.{Mean}
@@ -13,13 +10,12 @@ use Rattle.irs_average.specs.declared.stubs.Side.TheVariants.{Initial, Last}
 use Rattle.irs_average.specs.Averages.{most_step}
 use Rattle.irs_base.specs.Texts.{IsDateText}
 use Rattle.irs_elements.proofs.DatesAt.{day_is}
-use Rattle.irs_resets.specs.Tenors.{digit_at, first_digit, tens, two_digits, hundreds, three_digits, unit_at, with_unit}
-use Rattle.irs_terms.specs.Lawful.{IsLawfulTenor}
 use Rattle.irs_terms.specs.declared.frequency.Frequency.{Frequency}
 use Rattle.irs_terms.specs.declared.frequency.Unit.{Unit as FrequencyUnit}
 use Rattle.irs_terms.specs.declared.frequency.Unit.TheVariants.{D, W, M, Y, T}
 use Rattle.irs_cli.specs.Params.{At, IsCountWord, IsDateWord, IsFromWord, IsMeanWord, IsSideWord, IsStepWord}
 use Rattle.irs_cli.specs.Params.{IsStreamWord, IsTenorWord, days_of, mean_name, side_name}
+use Rattle.irs_cli.proofs.TenorWords.{tenor_read}
 
 -- the word at a place spells one x at most, where every word does
 pub one_at : {X : Type 0} (Is : List ℕ → X → Type 0) → ((w : List ℕ) (x y : X) → Is w x → Is w y → y ≡ x)
@@ -87,7 +83,7 @@ one_side w s t h k = same_side t s (sym k.is ∙ h.is)
 
 -- a word spells one tenor
 pub one_tenor : (w : List ℕ) (f g : Frequency) → IsTenorWord w f → IsTenorWord w g → g ≡ f
-one_tenor w f g h k = same_Some g f (same_Some (Some g) (Some f) (sym k.is ∙ h.is))
+one_tenor w f g h k = same_Some g f (same_Some (Some g) (Some f) (sym (tenor_read w g k) ∙ tenor_read w f h))
 
 -- a word spells one step
 pub one_step : (w : List ℕ) (n m : ℕ) → IsStepWord w n → IsStepWord w m → m ≡ n
@@ -96,114 +92,6 @@ one_step w n m h k =
     same_Some m n (sym k.days ∙ ap (λ (f : Frequency). days_of f.unit f.count) same ∙ h.days)
 
 -- ---- tenors lie in their range
-
-both : (a b : Bool) → (a && b) ≡ true → (a ≡ true) × (b ≡ true)
-both true b e = (refl, e)
-both false b e = cc
-
-at_most : (a b : ℕ) → nat_le a b ≡ true → a ≤ b
-at_most a b e = grind (arith, nat_tests)
-
-digit_if : (t : Bool) (b n : ℕ) → (nat_le 48 b && nat_le b 57) ≡ t
-    → (let o : Option ℕ = if t then Some (b - 48) else None in o ≡ Some n) → (b ≡ 48 + n) × (n ≤ 9)
-digit_if true b n e is =
-    let tests = both (nat_le 48 b) (nat_le b 57) e in
-    let low = at_most 48 b tests.0 in
-    let high = at_most b 57 tests.1 in
-    let same : b - 48 ≡ n = same_Some (b - 48) n is in
-    (omega (arith, low, same), omega (arith, low, high, same))
-digit_if false b n e is = cc
-
-digit_is : (b n : ℕ) → digit_at b ≡ Some n → (b ≡ 48 + n) × (n ≤ 9)
-digit_is b n e = digit_if (nat_le 48 b && nat_le b 57) b n refl e
-
-not_zero : (b : ℕ) → (b == 48) ≡ false → b ≡ 48 → ⊥
-not_zero b e same = grind (arith, nat_tests)
-
-first_if : (t : Bool) (b n : ℕ) → (b == 48) ≡ t → (let o : Option ℕ = if t then None else digit_at b in o ≡ Some n)
-    → (1 ≤ n) × (n ≤ 9)
-first_if true b n e is = cc
-first_if false b n e is =
-    let d = digit_is b n is in
-    let same = d.0 in
-    elim (cases_lt 0 n) [
-      | inl more ↦ (omega (arith, more), d.1)
-      | inr none ↦ absurd (not_zero b e (omega (arith, same, none)))
-    ]
-
-first_is : (b n : ℕ) → first_digit b ≡ Some n → (1 ≤ n) × (n ≤ 9)
-first_is b n e = first_if (b == 48) b n refl e
-
-tens_is : (o p : Option ℕ) (n : ℕ) → ((x : ℕ) → o ≡ Some x → (1 ≤ x) × (x ≤ 9)) → ((y : ℕ) → p ≡ Some y → y ≤ 9)
-    → tens o p ≡ Some n → (1 ≤ n) × (n ≤ 99)
-tens_is (Some x) (Some y) n f g e =
-    let a = f x refl in
-    let low = a.0 in
-    let high = a.1 in
-    let b = g y refl in
-    let same : 10 * x + y ≡ n = same_Some (10 * x + y) n e in
-    (omega (arith, low, same), omega (arith, high, b, same))
-tens_is (Some x) None n f g e = cc
-tens_is None p n f g e = cc
-
-hundreds_is : (o p q : Option ℕ) (n : ℕ) → ((x : ℕ) → o ≡ Some x → (1 ≤ x) × (x ≤ 9)) → ((y : ℕ) → p ≡ Some y → y ≤ 9)
-    → ((z : ℕ) → q ≡ Some z → z ≤ 9) → hundreds o p q ≡ Some n → (1 ≤ n) × (n ≤ 999)
-hundreds_is (Some x) (Some y) (Some z) n f g h e =
-    let a = f x refl in
-    let low = a.0 in
-    let high = a.1 in
-    let b = g y refl in
-    let c = h z refl in
-    let same : 100 * x + 10 * y + z ≡ n = same_Some (100 * x + 10 * y + z) n e in
-    (omega (arith, low, same), omega (arith, high, b, c, same))
-hundreds_is (Some x) (Some y) None n f g h e = cc
-hundreds_is (Some x) None r n f g h e = cc
-hundreds_is None p r n f g h e = cc
-
-letter_if : (s t u v : Bool) (x : FrequencyUnit)
-    → (let o : Option FrequencyUnit =
-    if s then Some D else (if t then Some W else (if u then Some M else (if v then Some Y else None))) in o ≡ Some x)
-    → x ≡ T → ⊥
-letter_if true t u v x e is = cc
-letter_if false true u v x e is = cc
-letter_if false false true v x e is = cc
-letter_if false false false true x e is = cc
-letter_if false false false false x e is = cc
-
-letter_is : (b : ℕ) (x : FrequencyUnit) → unit_at b ≡ Some x → x ≡ T → ⊥
-letter_is b x e = letter_if (b == 68) (b == 87) (b == 77) (b == 89) x e
-
--- a count from 1 to 999 and a unit are a lawful tenor
-unit_lawful : (o : Option ℕ) (p : Option FrequencyUnit) (f : Frequency) → ((n : ℕ) → o ≡ Some n → (1 ≤ n) × (n ≤ 999))
-    → ((u : FrequencyUnit) → p ≡ Some u → u ≡ T → ⊥) → with_unit o p ≡ Some (Some f) → IsLawfulTenor f
-unit_lawful (Some n) (Some u) f count letter e =
-    let is : record { count = n; unit = u } ≡ f =
-    same_Some (record { count = n; unit = u }) f (same_Some (Some (record { count = n; unit = u })) (Some f) e) in
-    subst IsLawfulTenor is (count n refl, letter u refl)
-unit_lawful (Some n) None f count letter e = cc
-unit_lawful None p f count letter e = cc
-
-dash_none : (b : Bool) (f : Frequency) → (let o : Option (Option Frequency) = if b then Some None else None in
-    o ≡ Some (Some f)) → ⊥
-dash_none true f e = cc
-dash_none false f e = cc
-
--- a tenor that a word spells is lawful
-pub tenor_lawful : (w : List ℕ) (f : Frequency) → IsTenorWord w f → IsLawfulTenor f
-tenor_lawful [] f h = let e = h.is in cc
-tenor_lawful (a ∷ []) f h = absurd (dash_none (a == 45) f h.is)
-tenor_lawful (a ∷ u ∷ []) f h =
-    unit_lawful (first_digit a) (unit_at u) f (λ n e. let b = first_is a n e in let high = b.1 in
-    (b.0, omega (arith, high))) (letter_is u) h.is
-tenor_lawful (a ∷ b ∷ u ∷ []) f h =
-    unit_lawful (two_digits a b) (unit_at u) f (λ n e. let r =
-    tens_is (first_digit a) (digit_at b) n (first_is a) (λ y d. (digit_is b y d).1) e in let high = r.1 in
-    (r.0, omega (arith, high))) (letter_is u) h.is
-tenor_lawful (a ∷ b ∷ c ∷ u ∷ []) f h =
-    unit_lawful (three_digits a b c) (unit_at u) f
-    (λ n e. hundreds_is (first_digit a) (digit_at b) (digit_at c) n (first_is a) (λ y d. (digit_is b y d).1)
-    (λ z d. (digit_is c z d).1) e) (letter_is u) h.is
-tenor_lawful (a ∷ b ∷ c ∷ d ∷ e ∷ rest) f h = let i = h.is in cc
 
 days_few : (u : FrequencyUnit) (count n : ℕ) → 1 ≤ count → count ≤ 999 → days_of u count ≡ Some n
     → (1 ≤ n) × (n ≤ most_step)
@@ -217,4 +105,4 @@ days_few T count n low high e = cc
 
 -- a step that a word spells is within its limits
 pub step_lawful : (w : List ℕ) (n : ℕ) → IsStepWord w n → (1 ≤ n) × (n ≤ most_step)
-step_lawful w n h = let f = tenor_lawful w h.step h.is_tenor in days_few h.step.unit h.step.count n f.0.0 f.0.1 h.days
+step_lawful w n h = let f = h.is_tenor.lawful in days_few h.step.unit h.step.count n f.0.0 f.0.1 h.days

@@ -1,6 +1,5 @@
 //! What the words of a command ask for: its parameters, and the name that `carrier` takes.
 ghost use Rattle.std.specs.Prelude.{◌≡◌, ◌↔◌, ℕ, ℤ, Option, Some, IfSome, IfNone, IsTrue};
-ghost use Rattle.irs_resets.specs.Tenors.{tenor_at};
 ghost use Rattle.irs_cli.specs.Commands.{texts, IsRequest};
 ghost use Rattle.irs_cli.specs.Params.{At, IsCountWord, IsDateWord, IsFromWord, IsMeanWord, IsSideWord, IsStepWord};
 ghost use Rattle.irs_cli.specs.Params.{IsStreamWord, IsTenorWord, days_of, form_of};
@@ -305,6 +304,7 @@ fn tenor_at(words: &[String], index: usize) -> Option<Frequency>
 }
 
 // The tenor that a word is, as in a fixing file; `-` is none.
+#[tactic(auto, using(crate::proofs::TenorWords::tenor_read))]
 fn tenor_of(word: &str) -> Option<Frequency>
     ensures some { IfSome result (λ f. IsTenorWord word.now f) }
     ensures none { IfNone result ((f : FrequencySpec) → IsTenorWord word.now f → ⊥) }
