@@ -17,6 +17,11 @@ pub mod AccrueSame
 pub mod FlowLemmas
 pub mod EmittedLemmas
 pub mod PrintedLemmas
+pub mod KeptParts
+pub mod PastTen
+pub mod UnfixedParts
+pub mod DerivedFiles
+pub mod DerivedSchedules
 pub mod NetLemmas
 pub mod DerivedLemmas
 pub mod StubLemmas

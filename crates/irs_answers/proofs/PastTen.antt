@@ -260,6 +260,7 @@ module _ (swap : Swap) (cal : List Section) (fix : RateTable) (parts : List Part
   past_ten_unpaid = past_unpaid p paid_within_ten
 
   -- where what has accrued has no amount, the payment has none
-  pub unaccrued_unpaid : (s : Stream) → is_daily s.leg ≡ false → UnaccruedUnpaid s p
-  unaccrued_unpaid s plain applicable other d i days frac y e a pays =
+  pub unaccrued_unpaid : (s : Stream) → slice_get swap.streams place ≡ Some s → is_daily s.leg ≡ false
+      → UnaccruedUnpaid s p
+  unaccrued_unpaid s there plain applicable other d i days frac y e a pays =
       accrued_unpaid p paid_within_ten d i days frac y e (plain_by s.leg s applicable other p d _ plain a) pays

@@ -1,12 +1,16 @@
 -- The resets of a floating stream in a schedule that breaks no rule, and in one that differs in its fixings alone.
-use Rattle.std.proofs.Common.{◌≡◌, ℕ, ◌+◌, ◌-◌, ◌^◌, ◌<◌, ◌≤◌, List, length, Option, Some, None, if◌then◌else◌, ℤ, refl}
+use Rattle.std.proofs.Common.{◌≡◌, inl, inr, ◌<ℤ◌, ℕ, ◌+◌, ◌-◌, ◌^◌, ◌<◌, ◌≤◌, List, length, Option, Some, None, if◌then◌else◌, ℤ, refl}
 use Rattle.std.proofs.Common.{sym, ap, subst, ◌∙◌, arith}
 use Rattle.std.specs.Prelude.{slice_get, slice_index_or}
 use Rattle.std.proofs.lemmas.Option.{get_or_from_slice_get, same_Some, slice_get-get_or}
+use Rattle.std.proofs.lemmas.Bool.{cases_lt}
+use Rattle.jiff_core.proofs.SignedLemmas.{signed_arith}
 use Rattle.irs_base.specs.Days.{IsDay}
-use Rattle.irs_base.specs.Members.{Every}
+use Rattle.irs_base.specs.Members.{Every, day_at}
 use Rattle.irs_base.proofs.MemberLemmas.{every_get, numbered_get}
+use Rattle.irs_terms.specs.FirstDay.{first_day_of}
 use Rattle.irs_terms.specs.Lawful.{IsLawfulStream}
+use Rattle.irs_terms.specs.TermDates.{DatesInOrder}
 use Rattle.irs_terms.specs.declared.amounts.FloatTerms.{FloatTerms}
 use Rattle.irs_terms.specs.declared.amounts.Leg.{Leg}
 use Rattle.irs_terms.specs.declared.amounts.Leg.TheVariants.{Fixed, Floating}
@@ -19,6 +23,12 @@ use Rattle.irs_terms.specs.declared.stream.Stream.{Stream}
 use Rattle.irs_calendar.specs.GoodDays.{DaySet}
 use Rattle.irs_calendar.specs.declared.sections.Section.{Section}
 use Rattle.irs_periods.proofs.OneSpan.{one_span}
+use Rattle.irs_periods.proofs.RegularEnds.{regular_end}
+use Rattle.irs_periods.proofs.RegularStarts.{regular_start}
+use Rattle.irs_periods.proofs.SpanThere.{lies_in_term}
+use Rattle.irs_periods.specs.Boundaries.{Boundaries}
+use Rattle.irs_periods.specs.SpanRules.{SpanKept}
+use Rattle.irs_periods.specs.Spans.{Regular}
 use Rattle.irs_resets.specs.ObservedRates.{ComesFrom, IsKind, IsObserved, Line}
 use Rattle.irs_resets.specs.Rates.{RateTable, rate_at}
 use Rattle.irs_resets.specs.ResetDates.{IsPeriod}
@@ -41,7 +51,7 @@ use Rattle.irs_schedule.proofs.LayoutLemmas.{layout_adjusted_days, layout_some, 
 use Rattle.irs_schedule.proofs.LayoutRules.{layout_kept, one_layout}
 use Rattle.irs_schedule.proofs.PaidEntries.{entries_are}
 use Rattle.irs_schedule.proofs.PartMade.{part_is}
-use Rattle.irs_schedule.proofs.PeriodLemmas.{rises_of}
+use Rattle.irs_schedule.proofs.PeriodLemmas.{next_day, rises_of}
 use Rattle.irs_schedule.proofs.RateLemmas.{resets_in_dated, resets_many, with_rates}
 use Rattle.irs_overnight.specs.DailySources.{fixing_at}
 use Rattle.irs_answers.specs.Derived.{FloatingStream}
@@ -53,10 +63,30 @@ use Rattle.irs_answers.proofs.KeptParts.{member_at}
 -- the part is that of the stream, and its resets are as many as its periods, on days of the range
 pub record HasResetDays (cal : List Section) (fix : RateTable) (s : Stream) (p : Part) : Type 0 where
   pub part : IsPart (stream_sets cal s) fix s p
+  pub some : 2 ≤ length p.adjusted
   pub many : length p.adjusted ≡ length p.resets + 1
   pub few : length p.adjusted < 2 ^ 32
   pub days : Every IsDatedReset p.resets
   pub rises : Rises p.adjusted
+  -- between an initial stub and a final one lies a boundary
+  pub apart : (span : Span) → Regular s span → first_day_of s <ℤ span.first → span.last <ℤ s.termination.day
+      → 3 ≤ length p.adjusted
+
+-- so it is in a layout that is kept
+stubs_apart : (s : Stream) (span : Span) (b : List ℤ) → DatesInOrder s → Regular s span → SpanKept s span
+    → Boundaries s span b → 2 ≤ length b → first_day_of s <ℤ span.first → span.last <ℤ s.termination.day → 3 ≤ length b
+stubs_apart s span b dates regular kept listed some before after = elim (cases_lt 2 (length b)) [
+  | inl more ↦ more
+  | inr two ↦
+      let starts : day_at b 1 ≡ span.first = (regular_start s span dates regular kept b listed).behind_stub before in
+      let ends : day_at b (length b - 2) ≡ span.last = (regular_end s span dates regular kept b listed).before_stub after in
+      let none : length b - 2 ≡ 0 = omega (arith, two) in
+      let first : day_at b 0 ≡ span.last = ap (day_at b) (sym none) ∙ ends in
+      let order = (lies_in_term s span dates regular kept.fits).order in
+      let next : day_at b 0 <ℤ day_at b 1 =
+      next_day b 1 (rises_of b listed.rising) (omega arith) (omega (arith, some)) in
+      absurd (omega (arith, signed_arith, starts, first, order, next))
+]
 
 pub reset_days_of : (cal : List Section) (fix : RateTable) (s : Stream) (float : FloatTerms) (p : Part)
     → s.leg ≡ Floating float → IsLawfulStream s → TermsKept cal s → (stream_of (stream_sets cal s) fix s).Answers p
@@ -81,25 +111,21 @@ reset_days_of cal fix s float p pays lawful kept g =
     let paid = entries_are (layout_dates s l d.resets d.rates) d.payments es g.2.2.1.1 in
     let made : HasResetDays cal fix s (part_over s l d es) = record {
       part = part_is sets fix s l some laid d es dated paid;
+      some = omega (arith, some, laid.adjusted.same_length);
       many = omega (arith, counted, some, laid.adjusted.same_length);
       few = omega (arith, laid.few, laid.adjusted.same_length);
       days = resets_in_dated source sets.applicable fix
           (record { adjusted = moved; reset_set = range.reset; fixing_set = range.fixing }) s.leg x dated.resets;
       rises = rises_of l.adjusted laid.rises;
+      apart = λ span regular before after.
+          let same : l.span ≡ span = one_span s l.span span laid.regular regular in
+          let three : 3 ≤ length l.unadjusted =
+          stubs_apart s l.span l.unadjusted kept.dates laid.regular laid.kept laid.unadjusted some
+          (subst (λ (x : Span). first_day_of s <ℤ x.first) (sym same) before)
+          (subst (λ (x : Span). x.last <ℤ s.termination.day) (sym same) after) in
+          omega (arith, three, laid.adjusted.same_length);
     } in
     subst (HasResetDays cal fix s) (sym g.2.2.2) made
-
-fixing_of : (r : Reset) → IsDatedReset r → IsDay r.fixing
-fixing_of r (reset, fixing) = fixing
-
--- the fixing date of a period is a day
-pub fixing_is_day : (adjusted : List ℤ) (resets : List Reset) → length adjusted ≡ length resets + 1
-    → Every IsDatedReset resets → (i : ℕ) → IsPeriod adjusted i → IsDay (fixing_at resets i)
-fixing_is_day adjusted resets many days i period =
-    let low : i - 1 < length resets = omega (arith, period.0, period.1, many) in
-    let r : Reset = slice_index_or resets (i - 1) no_reset in
-    let at : slice_get resets (i - 1) ≡ Some r = slice_get-get_or resets (i - 1) no_reset low in
-    fixing_of r (every_get IsDatedReset resets (i - 1) r days at)
 
 -- ---- the resets of a stream without calculation parameters
 
@@ -188,7 +214,7 @@ module _ (cal : List Section) (t u : RateTable) (stream : FloatingStream)
       subst (λ (n : ℕ). IsReset first float a.terms t n x.0) number
       (numbered_get (IsReset first float a.terms t) 1 (i - 1) p.resets x.0 a.has.each x.1) in
       let over : IsReset second float a.terms t i x.0 =
-      subst (λ (source : ResetSource). IsReset source float a.terms t i x.0) sources own in
+      subst (λ (source : ResetSource). IsReset source float a.terms t i x.0) {y = second} sources own in
       let by_terms : IsReset second float b.terms t i x.0 =
       subst (λ (r : ResetTerms). IsReset second float r t i x.0) terms over in
       let other : IsReset second float b.terms u i y.0 =

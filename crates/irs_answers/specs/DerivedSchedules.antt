@@ -10,7 +10,7 @@ use Rattle.irs_calendar.specs.declared.sections.Section.{Section}
 use Rattle.irs_periods.specs.Spans.{Regular}
 use Rattle.irs_resets.specs.FixingFiles.{IsFixingFile}
 use Rattle.irs_resets.specs.ObservedRates.{ComesFrom, IsKind, Line}
-use Rattle.irs_resets.specs.Rates.{AreSmall, RateTable}
+use Rattle.irs_resets.specs.Rates.{RateTable}
 use Rattle.irs_resets.specs.ResetDates.{IsPeriod}
 use Rattle.irs_resets.specs.declared.observed.PeriodKind.{PeriodKind}
 use Rattle.irs_schedule.specs.DaySets.{reset_days}
@@ -68,30 +68,29 @@ pub record IsMadeWith (swap : Swap) (cal : List Section) (text : List ℕ) (part
   pub file : IsFixingFile text table
   pub schedule : IsSchedule swap cal table parts
 
--- with this index and tenor the rows print a fixing file that has exactly their rates. In each schedule of the swap
--- that is made with it, P holds of the part of the stream with that number.
-pub record AreUsed (swap : Swap) (cal : List Section) (number : ℕ) (rows : List DerivedRow) (tenor : Option Frequency)
-    (index : List ℕ) (P : Part → Type 0) : Type 0 where
-  pub file : AreFixings rows tenor index
-  pub used : (parts : List Part) → IsMadeWith swap cal (file_text rows tenor index) parts → HoldsOf P parts number
+-- in each schedule of the swap that is made with that file, P holds of the part of the stream with that number
+abbrev pub HoldsWith : Swap → List Section → ℕ → List ℕ → (Part → Type 0) → Type 0
+HoldsWith swap cal number text P = (parts : List Part) → IsMadeWith swap cal text parts → HoldsOf P parts number
 
--- the rates that daily rates give for the stream with that number are used by a schedule made with them
+-- The rates that daily rates give for the stream with that number are used. That is so if no rule is broken, and if they
+-- print a fixing file that has exactly their rates.
 abbrev pub OvernightIsUsed : Swap → List Section → List Part → ℕ → FloatingStream → RateTable → Type 0
 OvernightIsUsed swap cal parts number x rates =
     let a : Asked = asked swap number parts (reset_days cal x.stream) rates in
-    (rows : List DerivedRow) → OvernightKept a → IsOvernight a rows
-    → AreUsed swap cal number rows x.float.tenor x.float.index (HasRowRates x rows)
+    (rows : List DerivedRow) → OvernightKept a → IsOvernight a rows → AreFixings rows x.float.tenor x.float.index
+    → HoldsWith swap cal number (file_text rows x.float.tenor x.float.index) (HasRowRates x rows)
 
--- so are the averages of rates of at most 10 in size
+-- so are averages
 abbrev pub AverageIsUsed : Swap → List Section → List Part → ℕ → FloatingStream → RateTable → Mean → ℕ → Type 0
 AverageIsUsed swap cal parts number x rates mean step =
     let a : AverageAsked = averaged (asked swap number parts (reset_days cal x.stream) rates) mean step in
-    (rows : List DerivedRow) → AreSmall rates → AverageKept a → IsAverage a rows
-    → AreUsed swap cal number rows x.float.tenor x.float.index (HasRowRates x rows)
+    (rows : List DerivedRow) → AverageKept a → IsAverage a rows → AreFixings rows x.float.tenor x.float.index
+    → HoldsWith swap cal number (file_text rows x.float.tenor x.float.index) (HasRowRates x rows)
 
--- so is the rate of a stub, between such rates, by the period that the stub is
+-- so is the rate of a stub: the stub's period has it
 abbrev pub StubIsUsed : Swap → List Section → List Part → ℕ → RateTable → Side → Frequency → Frequency → Type 0
 StubIsUsed swap cal parts number rates side low high =
     let a : StubAsked = stub_asked swap number side low high parts rates in
-    (row : DerivedRow) (stub : Stub) → AreSmall rates → IsInterpolated a row → HasStub a stub
-    → AreUsed swap cal number (row ∷ []) stub.tenor stub.source.index (HasRateOf row)
+    (row : DerivedRow) (stub : Stub) → IsInterpolated a row → HasStub a stub
+    → AreFixings (row ∷ []) stub.tenor stub.source.index
+    → HoldsWith swap cal number (file_text (row ∷ []) stub.tenor stub.source.index) (HasRateOf row)

@@ -9,6 +9,9 @@ pub mod Accrued
 pub mod Observed
 pub mod Netted
 pub mod Derived
+pub mod KeptSchedules
+pub mod DerivedSchedules
+pub mod PastTen
 pub mod CashFlows
 pub mod Due
 pub mod Replying
