@@ -1,5 +1,5 @@
 -- A schedule made with derived rates has the rate of each row.
-use Rattle.std.proofs.Common.{◌≡◌, inl, inr, ℕ, ◌+◌, ◌-◌, ◌^◌, ◌<◌, ◌≤◌, List, [], ◌∷◌, length, Option, Some, None, IfSome}
+use Rattle.std.proofs.Common.{◌≡◌, inl, inr, ℕ, ◌+◌, ◌-◌, ◌≤◌, List, [], ◌∷◌, length, Option, Some, None}
 use Rattle.std.proofs.Common.{ℤ, refl, sym, ap, subst, ◌∙◌, arith}
 use Rattle.std.specs.Prelude.{slice_get}
 use Rattle.std.proofs.lemmas.Option.{same_Some}
@@ -33,7 +33,7 @@ use Rattle.irs_average.specs.Averages.{AverageAsked, HasMeanSource, averaged}
 use Rattle.irs_average.specs.MeanRows.{AreMeans, IsMeanRow}
 use Rattle.irs_average.specs.MeanSources.{MeanSource, averaging_by, mean_source, own_lines}
 use Rattle.irs_average.specs.StubRates.{IsStubRow, StubSource}
-use Rattle.irs_average.specs.Stubs.{GivesOn, HasStub, IsStubOn, Stub, StubAsked, stub_asked}
+use Rattle.irs_average.specs.Stubs.{GivesOn, IsStubOn, Stub, StubAsked, stub_asked}
 use Rattle.irs_average.specs.declared.means.Mean.{Mean}
 use Rattle.irs_average.specs.declared.stubs.Side.{Side}
 use Rattle.irs_average.specs.declared.stubs.Side.TheVariants.{Initial, Last}

@@ -1,5 +1,5 @@
 -- Rates past 10 in size, which is above 1,000 per cent. They are in payments without an amount alone.
-use Rattle.std.specs.Prelude.{◌≡◌, ℕ, ◌-◌, ◌<◌, ◌≤◌, Option, Some, None, IsSome, IsSomeAnd, ℤ, unsigned_abs, slice_get}
+use Rattle.std.specs.Prelude.{◌≡◌, ℕ, ◌-◌, ◌<◌, ◌≤◌, Some, None, IsSome, IsSomeAnd, ℤ, unsigned_abs, slice_get}
 use Rattle.irs_base.specs.Limits.{most_rate}
 use Rattle.irs_terms.specs.Lawful.{IsRate}
 use Rattle.irs_terms.specs.declared.results.Frac.{Frac}
