@@ -5,6 +5,7 @@ pub mod PieceLemmas
 pub mod PartLemmas
 pub mod ShownLaws
 pub mod VisibleLaws
+pub mod CenterLaws
 pub mod SlipLemmas
 pub mod SilenceLaws
 pub mod CodeLaws

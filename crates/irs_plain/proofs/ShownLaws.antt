@@ -8,8 +8,7 @@ use Rattle.std.proofs.lemmas.Str.{inside_one}
 use Rattle.irs_base.proofs.EveryLemmas.{every_both}
 use Rattle.irs_base.specs.Members.{Every}
 use Rattle.std.specs.Str.{chars}
-use Rattle.irs_plain.specs.Shown.{hex_digit, is_control, shown, shown_char, turns_text, two_digits}
-use Rattle.irs_plain.specs.Private.Shown.{IsPrinted}
+use Rattle.irs_plain.specs.Shown.{hex_digit, is_control, shown, shown_char, turns_text, two_digits, IsPrinted}
 
 digit_printed : (n : ℕ) → n < 16 → IsPrinted (hex_digit n)
 digit_printed n small = grind arith

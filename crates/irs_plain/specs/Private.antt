@@ -1,3 +1,2 @@
 pub mod Lookup
 pub mod Parts
-pub mod Shown

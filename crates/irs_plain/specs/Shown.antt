@@ -4,6 +4,7 @@ use Rattle.std.specs.Prelude.{if◌then◌else◌}
 use Rattle.std.specs.Char.{encode_utf8}
 use Rattle.std.specs.List.{flat_map}
 use Rattle.std.specs.Str.{chars}
+use Rattle.std.specs.Prelude.{◌≡◌, ◌≤◌}
 
 -- the character of a digit in base 16
 abbrev pub hex_digit : ℕ → ℕ
@@ -33,3 +34,7 @@ shown_char c =
 -- a text as it is shown
 abbrev pub shown : List ℕ → List ℕ
 shown text = flat_map shown_char (chars text)
+
+-- a byte that no control has: a space or above, and not DEL
+abbrev pub IsPrinted : ℕ → Type 0
+IsPrinted b = (32 ≤ b) × (b ≡ 127 → ⊥)

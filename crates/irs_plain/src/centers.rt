@@ -1,15 +1,22 @@
 //! The centres that the calendar files have, as a sentence lists them after a centre that is in none.
+ghost use Rattle.irs_base.specs.Members.{Every};
 ghost use Rattle.irs_outside.specs.Outside.{Grew, GrewByFront, Rose};
 ghost use Rattle.irs_plain.specs.Centers.{centers_text, count_text, listed_text, more_text, name_after, names_text};
 ghost use Rattle.irs_plain.specs.Centers.{other_name, other_names};
 ghost use Rattle.irs_plain.specs.Private.Parts.{said_by};
-ghost use Rattle.std.specs.Prelude.{◌≡◌, ◌∷◌, ◌++◌, OnOk, OnErr};
+ghost use Rattle.irs_plain.specs.Visible.{IsVisible};
+ghost use Rattle.std.specs.Prelude.{◌≡◌, ℕ, ◌<◌, ◌^◌, List, ◌∷◌, ◌++◌, OnOk, OnErr};
 
 use crate::parts::{Part, put_parts};
 use crate::visible::dots;
 use irs_answers::Listed;
 use irs_base::Text;
 use irs_outside::{PutFailed, Sink};
+
+/// A law: each byte of a list of centres is visible ASCII, whatever their names are. So it is one line.
+pub fn lists_are_visible()
+    ensures { (names : List (List ℕ)) (more : ℕ) → more < 2 ^ 64 → Every IsVisible (names_text names more) }
+{}
 
 /// Writes the centres that the calendar files have, where there is a list.
 pub(crate) fn put_centers<S: Sink>(out: &mut S, list: &Option<Listed>) -> Result<(), PutFailed>

@@ -19,9 +19,10 @@ mod visible;
 mod words;
 mod wrong_words;
 
+pub use centers::lists_are_visible;
 pub use help::{COMMANDS, HELP, VERSION};
 pub use sentences::{is_silent, put_sentence, silence_is_empty};
-pub use shown::shown_words;
+pub use shown::{shown_words, what_is_shown_is_one_line};
 pub use slips::slips_are_found;
 pub use table::rules_listed;
 pub use usage::{commands_listed, parameters_listed};

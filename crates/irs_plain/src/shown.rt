@@ -3,8 +3,8 @@
 //! shown by its number in base 16. So a name can neither forge a line nor clear a screen.
 ghost use Rattle.irs_base.specs.Members.{Every};
 ghost use Rattle.irs_plain.specs.Shown.{hex_digit as hex_digit_of, is_control as is_control_of, shown as shown_of};
-ghost use Rattle.irs_plain.specs.Private.Shown.{IsPrinted};
-ghost use Rattle.irs_plain.specs.Shown.{shown_char as shown_char_of, turns_text as turns_text_of, two_digits};
+ghost use Rattle.irs_plain.specs.Shown.{IsPrinted, shown_char as shown_char_of, turns_text as turns_text_of};
+ghost use Rattle.irs_plain.specs.Shown.{two_digits};
 ghost use Rattle.irs_plain.specs.Words.{texts};
 ghost use Rattle.std.specs.Prelude.{◌≡◌, ℕ, ◌<◌, ◌++◌, List, map, IfOk, OnOk, string_bytes};
 
