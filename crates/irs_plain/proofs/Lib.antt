@@ -9,3 +9,4 @@ pub mod CenterLaws
 pub mod SlipLemmas
 pub mod SilenceLaws
 pub mod CodeLaws
+pub mod DayRolls

@@ -5,6 +5,7 @@ pub mod Lookup
 pub mod Words
 pub mod Parts
 pub mod Values
+pub mod DayRolls
 pub mod Centers
 pub mod Notes
 pub mod Sentences

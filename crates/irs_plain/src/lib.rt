@@ -4,6 +4,7 @@
 
 mod centers;
 mod cuts;
+mod day_rolls;
 mod elements;
 mod help;
 mod lookup;
@@ -20,6 +21,7 @@ mod words;
 mod wrong_words;
 
 pub use centers::lists_are_visible;
+pub use day_rolls::day_rolls_are_numbers;
 pub use help::{COMMANDS, HELP, VERSION};
 pub use sentences::{is_silent, put_sentence, silence_is_empty};
 pub use shown::{shown_words, what_is_shown_is_one_line};
