@@ -1,3 +1,4 @@
 pub mod Texts
 pub mod EachLemmas
 pub mod LentLemmas
+pub mod ShownLemmas

@@ -59,7 +59,8 @@ pub record IsRun (ws : Words) (fs : List File) (o : Outcome) : Type 0 where
   -- the sentence is that of the status and the text, and of the files
   pub explained : o.status ≢ 7 → IsExplained ws (gives_in fs) o.status o.text o.sentence
 
--- the same for words as they are lent; 9 where one isn't UTF-8
+-- the same for words as they are lent, where each is UTF-8; 9 where one isn't, and 7 where memory ran out, without a text
+-- and a sentence
 abbrev pub IsOutcome : List Bytes → List File → Outcome → Type 0
 IsOutcome ws fs o =
     (AreText ws × IsRun (words_in ws) fs o)

@@ -1,11 +1,11 @@
 //! The functions that C calls. Their form is our rule; `bindings/irs.h` declares them in C.
-ghost use Rattle.std.specs.Prelude.{◌≡◌, ◌≢◌, ◌⊎◌, ℕ, ◌<◌, List, ◌++◌, length, take, drop, OnOk, OnErr, IfOk, IfErr};
-ghost use Rattle.irs_cli.specs.Commands.{IsListed, texts};
-ghost use Rattle.irs_cli.specs.Due.{Due, IsOneAnswer};
+ghost use Rattle.std.specs.Prelude.{◌≡◌, ◌≢◌, ◌⊎◌, ◌<◌, ◌++◌, length, take, drop, OnOk, OnErr, IfOk, IfErr};
+ghost use Rattle.irs_cli.specs.Commands.{texts};
+ghost use Rattle.irs_cli.specs.Due.{IsOneAnswer};
 ghost use Rattle.irs_cli.specs.Given.{TellsAll};
-ghost use Rattle.irs_c.specs.Each.{IsExplained, IsRun, Said};
+ghost use Rattle.irs_c.specs.Each.{IsOutcome, IsRun, Outcome, Said};
 ghost use Rattle.irs_c.specs.Private.Each.{outcome_by};
-ghost use Rattle.irs_c.specs.Given.{words_in, file_in, gives_in, AreText, IsAbsent};
+ghost use Rattle.irs_c.specs.Given.{words_in, file_in, AreText};
 ghost use Rattle.irs_c.specs.Shown.{Shown};
 
 use crate::each::{Answer, answer_each};
@@ -37,30 +37,9 @@ pub extern "C" fn irs_run(
     said: &mut [u8],
     said_needed: &mut usize,
 ) -> u8
-    // Out of memory, or a word that isn't UTF-8: no text.
-    ensures memory { result ≡ 7 → (out.new ≡ out.old) × (needed.new ≡ 0) }
-    ensures not_text { result ≡ 9 → (AreText words.now → ⊥) × (out.new ≡ out.old)
-        × (needed.new ≡ 0) }
-    ensures unsaid { (result ≡ 7) ⊎ (result ≡ 9) → (said.new ≡ said.old) × (said_needed.new ≡ 0) }
-    // Any other status comes only where each word is UTF-8.
-    ensures text { result ≢ 7 → result ≢ 9 → AreText words.now }
-    // The sentence is that of the status, the text and the files, with the words as they are shown.
-    ensures said { result ≢ 7 → result ≢ 9 → (text : List ℕ) × ((sentence : List ℕ)
-        × IsExplained (words_in words.now) (gives_in files.now) result text sentence
-        × (Shown out.old out.new needed.new text × Shown said.old said.new said_needed.new sentence)) }
-    // A file that the words name isn't lent, and the text says which.
-    ensures absent { result ≡ 5 → (text : List ℕ)
-        × IsAbsent (words_in words.now) (file_in files.now) text
-        × Shown out.old out.new needed.new text }
-    // Any other status, and exactly its text, are what is due.
-    ensures due { result ≢ 5 → result ≢ 7 → result ≢ 9 → (text : List ℕ)
-        × Due (words_in words.now) (file_in files.now) result text
-        × Shown out.old out.new needed.new text }
-    // 4 comes for words that are no listed command, and always for them.
-    ensures only_unlisted { result ≡ 4 → IsListed (words_in words.now) → ⊥ }
-    ensures unlisted { (IsListed (words_in words.now) → ⊥) → result ≢ 7 → result ≢ 9 → result ≡ 4 }
-    // The statuses are these, and 6 is none of them.
-    ensures listed { (result < 10) × (result ≢ 6) }
+    // What the words come to over the lent files: its status, and what a caller sees of its text and its sentence.
+    ensures run { (o : Outcome) × IsOutcome words.now files.now o × (result ≡ o.status)
+        × Shown out.old out.new needed.new o.text × Shown said.old said.new said_needed.new o.sentence }
     // Where every file that the words name is lent, one status and one text are due.
     ensures one { TellsAll (words_in words.now) (file_in files.now)
         → IsOneAnswer (words_in words.now) (file_in files.now) }
