@@ -46,6 +46,7 @@ examples: irs
 	tools/shown
 	tools/words --wrong
 	tools/reading --check
+	tools/rows --check
 
 faults: irs
 	tools/faults

@@ -624,6 +624,82 @@ kept n = IsSet n
         return (self.top / "docs" / "READING.md").read_text()
 
 
+class Rows(InRoom):
+    """The numbers of the tables of elements."""
+
+    LIST = "crates/irs_base/specs/PathList.antt"
+    TABLE = "crates/irs_read/src/table.rt"
+    FILES = [LIST, TABLE, "crates/irs_base/src/elements.rt", "crates/irs_base/specs/Elements.antt",
+             "crates/irs_audit/src/flow_table.rt"]
+    LEAF = "calculationPeriodDates/stubPeriodType"
+
+    def change(self, name: str, old: str, new: str) -> None:
+        """Changes a text that a file of the copy has once."""
+        path = self.room / "the copy" / name
+        text = path.read_text(encoding="utf-8")
+        self.assertEqual(text.count(old), 1, old)
+        path.write_text(text.replace(old, new), encoding="utf-8")
+
+    def text(self, name: str) -> str:
+        """A file of the copy."""
+        return (self.room / "the copy" / name).read_text(encoding="utf-8")
+
+    def run_it(self, *words: str) -> "subprocess.CompletedProcess[str]":
+        """The tool on the copy."""
+        return subprocess.run([sys.executable, str(TOOLS / "rows"), "--top", str(self.room / "the copy"), *words],
+                              capture_output=True, text=True, check=False)
+
+    def setUp(self) -> None:
+        super().setUp()
+        for name in self.FILES:
+            to = self.room / "the copy" / name
+            to.parent.mkdir(parents=True, exist_ok=True)
+            shutil.copy2(TOP / name, to)
+
+    def test_the_repository(self) -> None:
+        self.assertEqual(self.run_it("--check").returncode, 0)
+
+    def test_wrong_numbers(self) -> None:
+        for name, old, new in (
+            (self.TABLE, '[35, 45, "payRelativeTo"', '[35, 46, "payRelativeTo"'),
+            (self.TABLE, 'OBJECT, Count::One, 146]', 'OBJECT, Count::One, 145]'),
+            (self.FILES[2], "FINAL_STUB: Elem = Elem { place: 130 }", "FINAL_STUB: Elem = Elem { place: 131 }"),
+            (self.FILES[3], "final_stub = 130", "final_stub = 131"),
+            (self.FILES[4], '[0, 152, "forecastRate"', '[0, 153, "forecastRate"'),
+        ):
+            with self.subTest(new):
+                self.change(name, old, new)
+                made = self.run_it("--check")
+                self.assertEqual((made.returncode, name in made.stderr), (1, True))
+                self.assertEqual(self.run_it().stdout, name + "\n")
+                self.assertEqual(self.text(name), (TOP / name).read_text(encoding="utf-8"))
+
+    def test_an_element_less_and_again(self) -> None:
+        self.change(self.LIST, f'    ∷ "{self.LEAF}"\n', "")
+        self.assertEqual(self.run_it().returncode, 0)
+        self.assertNotIn('"stubPeriodType"', self.text(self.TABLE))
+        self.assertIn('[42, 48, "dayType"', self.text(self.TABLE))
+        self.assertIn("FINAL_STUB: Elem = Elem { place: 129 }", self.text(self.FILES[2]))
+        self.assertIn("pub const ROWS: [Row; 178]", self.text(self.TABLE))
+        after = '    ∷ "calculationPeriodDates/calculationPeriodFrequency"\n'
+        self.change(self.LIST, after, f'    ∷ "{self.LEAF}"\n{after}')
+        line = re.search(r'^ +\[\d+, \d+, "calculationPeriodFrequency".*\n', self.text(self.TABLE), re.M)
+        assert line is not None
+        new = '            ["calculationPeriodDates", _, "stubPeriodType", Kind::Leaf(Leaf::StubType), Count::Maybe, _],\n'
+        self.change(self.TABLE, line[0], new + line[0])
+        self.assertEqual(self.run_it().returncode, 0)
+        for name in self.FILES:
+            self.assertEqual(self.text(name), (TOP / name).read_text(encoding="utf-8"), name)
+
+    def test_a_line_without_a_path(self) -> None:
+        line = re.search(r'^ +\[\d+, \d+, "payRelativeTo".*\n', self.text(self.TABLE), re.M)
+        assert line is not None
+        self.change(self.TABLE, line[0], '            ["paymentDates", _, "payLate", OBJECT, Count::Maybe, _],\n' + line[0])
+        made = self.run_it()
+        self.assertEqual((made.returncode, made.stderr),
+                         (1, "tools/rows: paymentDates/payLate: the list of paths has no such element there\n"))
+
+
 class MovePrivate(InRoom):
     """What moves to specs/Private, in a repository of two crates."""
 
