@@ -144,7 +144,7 @@ class Books(unittest.TestCase):
         stop, killed = threading.Event(), []
 
         def kill():
-            while not stop.wait(0.5):
+            while len(killed) < 5 and not stop.wait(0.05):
                 children = multiprocessing.active_children()
                 if children:
                     os.kill(random.choice(children).pid, signal.SIGKILL)

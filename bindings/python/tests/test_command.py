@@ -20,6 +20,9 @@ AGREES = example("audit_agrees/flows.json")
 DEPARTS = example("audit_departs/flows.json")
 PACKAGE = HERE.parent
 
+#: So many trades that the proved library works on them for seconds.
+LONG = 4000
+
 
 class Command(unittest.TestCase):
     def setUp(self):
@@ -398,7 +401,7 @@ class Kept(Command):
         return False
 
     def test_a_signal_ends_the_run_and_its_workers(self):
-        self.many(1500)
+        self.many(LONG)
         for number in (signal.SIGTERM, signal.SIGINT):
             process = self.started()
             children = self.children(process)
@@ -413,21 +416,21 @@ class Kept(Command):
             (self.room / "irs-book.csv.journal").unlink()
 
     def test_what_a_killed_run_did_is_resumed(self):
-        self.many(600)
+        self.many(LONG)
         process = self.started()
         children = self.children(process)
         process.kill()
         process.communicate()
         self.assertTrue(all(self.is_gone(child) for child in children))
         before = self.in_journal()
-        self.assertTrue(0 < before < 600)
+        self.assertTrue(0 < before < LONG)
         status, _, said = self.run_book("book", "--resume", "--verbose")
         self.assertEqual(status, 1)
-        self.assertIn(f"600 trades, {600 - before} of them to be worked", said)
+        self.assertIn(f"{LONG} trades, {LONG - before} of them to be worked", said)
         self.assertEqual((self.room / "irs-book.csv").read_bytes(), self.undisturbed())
 
     def test_workers_that_are_killed_change_nothing(self):
-        self.many(600)
+        self.many(LONG)
         process = self.started(rows=1)
         for _ in range(4):
             for child in self.children(process)[:1]:
@@ -464,9 +467,11 @@ class Kept(Command):
         self.assertEqual((self.room / "irs-book.csv").read_text(), "yesterday")
 
     def test_two_runs_at_once(self):
-        self.many(600)
+        self.many(LONG)
         process = self.started()
+        process.send_signal(signal.SIGSTOP)
         status, _, said = self.run_book()
+        process.send_signal(signal.SIGCONT)
         self.assertEqual(status, 2)
         self.assertIn("another run", said)
         process.communicate(timeout=120)
