@@ -5,7 +5,7 @@ use Rattle.irs_base.specs.DateOf.{year_of, month_of, day_of_month}
 use Rattle.irs_base.specs.Days.{IsDay, HasDate, first_day, last_day}
 use Rattle.irs_base.specs.Texts.{IsDateText, IsPlainDate, date_text, day_text}
 use Rattle.irs_elements.proofs.Exact.{Exact, both_true, exact_same, true_both}
-use Rattle.irs_elements.specs.Dates.{day_at, is_text_of, named_day, pair_at, plain_day_at, without_z}
+use Rattle.irs_elements.specs.Dates.{leaf_date_at, is_text_of, named_day, digit_pair_at, plain_day_at, without_z}
 use Rattle.jiff_core.proofs.CalendarLemmas.{days_in_month_bounds}
 use Rattle.jiff_core.proofs.SignedLemmas.{signed_arith}
 use Rattle.jiff_core.specs.Calendar.{days_from_civil}
@@ -28,11 +28,11 @@ same_days a y b m c d p q r = cc
 
 named : (y m d : ℕ) → y < 10000 → m < 100 → d < 100 → named_day (date_text y m d) ≡ days_from_civil (pos y) m d
 named y m d a b c =
-    let e : pair_at (date_text y m d) 0 ≡ y / 100 = two_of (y / 100) (omega arith) in
-    let f : pair_at (date_text y m d) 2 ≡ y % 100 = two_of (y % 100) (omega arith) in
-    let g : 100 * pair_at (date_text y m d) 0 + pair_at (date_text y m d) 2 ≡ y = omega (arith, e, f) in
-    same_days (100 * pair_at (date_text y m d) 0 + pair_at (date_text y m d) 2) y (pair_at (date_text y m d) 5) m
-    (pair_at (date_text y m d) 8) d g (two_of m b) (two_of d c)
+    let e : digit_pair_at (date_text y m d) 0 ≡ y / 100 = two_of (y / 100) (omega arith) in
+    let f : digit_pair_at (date_text y m d) 2 ≡ y % 100 = two_of (y % 100) (omega arith) in
+    let g : 100 * digit_pair_at (date_text y m d) 0 + digit_pair_at (date_text y m d) 2 ≡ y = omega (arith, e, f) in
+    same_days (100 * digit_pair_at (date_text y m d) 0 + digit_pair_at (date_text y m d) 2) y (digit_pair_at (date_text y m d) 5) m
+    (digit_pair_at (date_text y m d) 8) d g (two_of m b) (two_of d c)
 
 -- the day of a text is the one that its digits name
 named_is : (s : List ℕ) (d : ℤ) → IsDay d → IsPlainDate s d → named_day s ≡ d
@@ -134,8 +134,8 @@ dated_from : (s : List ℕ) (o : Option ℤ) → Exact (Plain (without_z s)) o �
 dated_from s None h = λ d p. h d (p.0, dropped s d p.1)
 dated_from s (Some d) h = (h.0, kept s d h.1)
 
-day_exact : (s : List ℕ) → Exact (Dated s) (day_at s)
-unfolding day_at
+day_exact : (s : List ℕ) → Exact (Dated s) (leaf_date_at s)
+unfolding leaf_date_at
 day_exact s = dated_from s (plain_day_at (without_z s)) (plain_exact (without_z s))
 
 one_day : (s : List ℕ) (v w : ℤ) → Dated s v → Dated s w → v ≡ w
@@ -149,5 +149,5 @@ dated_of s (Some d) some none = some
 
 -- the text names the day that the function gives, and none where it gives none
 pub day_is : (s : List ℕ) (r : Option ℤ) → IfSome r (λ d. IsDay d × IsDateText s d)
-    → IfNone r ((d : ℤ) → IsDay d → IsDateText s d → ⊥) → r ≡ day_at s
-day_is s r some none = exact_same (Dated s) (day_at s) r (one_day s) (day_exact s) (dated_of s r some none)
+    → IfNone r ((d : ℤ) → IsDay d → IsDateText s d → ⊥) → r ≡ leaf_date_at s
+day_is s r some none = exact_same (Dated s) (leaf_date_at s) r (one_day s) (day_exact s) (dated_of s r some none)

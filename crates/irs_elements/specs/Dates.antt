@@ -7,12 +7,12 @@ use Rattle.std.specs.Prelude.{Option, Some, None, if◌then◌else◌}
 use Rattle.std.specs.Str.{bytes_eq}
 
 -- the number that the two digits from the place i on spell
-abbrev pub pair_at : List ℕ → ℕ → ℕ
-pair_at s i = 10 * (slice_index s i - 48) + (slice_index s (i + 1) - 48)
+abbrev pub digit_pair_at : List ℕ → ℕ → ℕ
+digit_pair_at s i = 10 * (slice_index s i - 48) + (slice_index s (i + 1) - 48)
 
 -- the day whose year, month and day are where `YYYY-MM-DD` has them
 abbrev pub named_day : List ℕ → ℤ
-named_day s = days_from_civil (pos (100 * pair_at s 0 + pair_at s 2)) (pair_at s 5) (pair_at s 8)
+named_day s = days_from_civil (pos (100 * digit_pair_at s 0 + digit_pair_at s 2)) (digit_pair_at s 5) (digit_pair_at s 8)
 
 -- the text is that of the day d, and d is in range
 abbrev pub is_text_of : List ℕ → ℤ → Bool
@@ -27,5 +27,5 @@ abbrev pub without_z : List ℕ → List ℕ
 without_z s = if (length s == 11) && (slice_index s 10 == 90) then take 10 s else s
 
 -- `YYYY-MM-DD` of a day in range, with or without a last `Z`
-unfoldable pub day_at : List ℕ → Option ℤ
-day_at s = plain_day_at (without_z s)
+unfoldable pub leaf_date_at : List ℕ → Option ℤ
+leaf_date_at s = plain_day_at (without_z s)

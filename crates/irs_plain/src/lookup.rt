@@ -1,7 +1,7 @@
 //! The words of a rule and of a fault of cash flows, by the table.
-ghost use Rattle.irs_plain.specs.Lookup.{after as after_of, before as before_of, row_of_rule as row_of};
+ghost use Rattle.irs_plain.specs.Lookup.{words_after as after_of, before as before_of, row_of_rule as row_of};
 ghost use Rattle.irs_plain.specs.Lookup.{row_of_shape as row_of_fault, text_at as text_at_of};
-ghost use Rattle.irs_plain.specs.Private.Lookup.{texts};
+ghost use Rattle.irs_elements.specs.Elements.{referenced_texts};
 ghost use Rattle.std.specs.Prelude.{◌≡◌};
 
 use crate::table::{AFTER, BEFORE};
@@ -73,7 +73,7 @@ pub(crate) fn row_of_shape(kind: ShapeKind) -> usize
 
 // The text at a place of a list, or this one past its end.
 fn text_at(list: &[&'static str], place: usize, other: &'static str) -> &'static [u8]
-    ensures { result.now ≡ text_at_of (texts list.now) place other.now }
+    ensures { result.now ≡ text_at_of (referenced_texts list.now) place other.now }
 {
     match list {
         [] => other.as_bytes(),

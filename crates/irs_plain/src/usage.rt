@@ -1,6 +1,6 @@
 //! How a command is called, and what its parameters have to be, for words that don't fit it.
-ghost use Rattle.irs_plain.specs.Private.Lookup.{texts};
-ghost use Rattle.irs_plain.specs.Usage.{commands, line_of as line_of_name, parameters, usage_of};
+ghost use Rattle.irs_elements.specs.Elements.{referenced_texts};
+ghost use Rattle.irs_plain.specs.Usage.{commands, usage_line as line_of_name, parameter_lines, usage_of};
 ghost use Rattle.irs_plain.specs.WrongWords.{needs_of};
 ghost use Rattle.std.specs.Prelude.{◌≡◌, map};
 
@@ -27,7 +27,7 @@ pub const PARAMETERS: [&str; 13] = [
 
 // The line with this name, empty where there is none.
 fn line_of(lines: &[&'static str], name: &[u8]) -> &'static [u8]
-    ensures { result.now ≡ line_of_name (texts lines.now) name.now }
+    ensures { result.now ≡ line_of_name (referenced_texts lines.now) name.now }
 {
     match lines {
         [] => b"",
@@ -64,5 +64,5 @@ pub fn commands_listed()
 /// The parameters are those of the specification.
 #[tactic(auto, using(crate::proofs::TableLaws::parameters_are))]
 pub fn parameters_listed()
-    ensures { map (λ p. p.now) PARAMETERS ≡ parameters }
+    ensures { map (λ p. p.now) PARAMETERS ≡ parameter_lines }
 {}

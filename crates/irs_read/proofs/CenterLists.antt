@@ -2,7 +2,7 @@
 -- else is.
 use Rattle.irs_base.specs.Limits.{most_centers}
 use Rattle.irs_elements.specs.Elements.{name_at}
-use Rattle.irs_elements.specs.Find.{text_in}
+use Rattle.irs_elements.specs.Find.{leaf_text_in}
 use Rattle.irs_elements.specs.Lines.{object}
 use Rattle.irs_elements.specs.Words.{is_center_name}
 use Rattle.irs_elements.specs.declared.table.Count.TheVariants.{OneTo}
@@ -50,9 +50,9 @@ pub word_reads : (c : ℕ) (kind : LeafKind) (test : List ℕ → Bool) → Agre
     → Reads c (text kind (λ s. if test s then Some s else None)) (λ d. word_in (Some d))
 word_reads c kind test agree is = record {
   gives =
-      λ d clean. word_some test (text_in (Some d))
+      λ d clean. word_some test (leaf_text_in (Some d))
       (leaf_said c kind (λ s. if test s then Some s else None) agree is d clean);
-  only = λ d t e. word_only test (text_in (Some d)) t e;
+  only = λ d t e. word_only test (leaf_text_in (Some d)) t e;
 }
 
 -- the list of centres at row r, with its names at row c

@@ -2,14 +2,14 @@
 use Prim.Native.String.{String}
 use Rattle.irs_elements.specs.Elements.{name_at}
 use Rattle.irs_elements.specs.Find.{once, values_in}
-use Rattle.irs_elements.specs.Leaves.{has_value, text_of}
+use Rattle.irs_elements.specs.Leaves.{has_value, text_of_leaf}
 use Rattle.irs_elements.specs.declared.table.Count.{Count}
 use Rattle.irs_elements.specs.declared.table.Leaf.{Leaf as LeafKind}
 use Rattle.irs_read.proofs.Clean.{Clean, clean_leaf, clean_once, clean_there, fine_values, is_child, leaf_at}
 use Rattle.irs_read.proofs.Clean.{required_at}
 use Rattle.irs_read.proofs.TableLaws.{code_names as row_names}
 use Rattle.irs_elements.specs.Lines.{Form}
-use Rattle.irs_read.specs.Readings.{EachSays, Part, Says, Value, each, holds, maybe, one, or_by, said, text}
+use Rattle.irs_read.specs.Readings.{EachSays, ReadPart, Says, Value, each, holds, maybe, one, or_by, said, text}
 use Rattle.irs_read.specs.declared.table.TheConstants.{ROWS}
 use Rattle.serde_json.specs.Data.{Data}
 use Rattle.std.proofs.Common.{◌≡◌, ℕ, suc, true, true≢false, List, [], ◌∷◌, map, Option, Some, None, IfSome}
@@ -30,7 +30,7 @@ pub record Reads {A : Type 0} (c : ℕ) (v : Value A) (f : Data → A) : Type 0 
   pub only : (d : Data) (a : A) → v.says d a → a ≡ f d
 
 -- an object at row r says f of it by these members, and nothing else
-pub record Fills {A : Type 0} (r : ℕ) (p : Part A) (f : Data → A) : Type 0 where
+pub record Fills {A : Type 0} (r : ℕ) (p : ReadPart A) (f : Data → A) : Type 0 where
   pub gives : (d : Data) → At r d → p.says d (f d)
   pub only : (d : Data) (a : A) → p.says d a → a ≡ f d
 
@@ -46,7 +46,7 @@ abbrev pub ◌&◌ : {A B : Type 0} → A → B → A × B
 a & b = (a, b)
 
 -- what is the same as what is read of a clean object is what it says
-pub same_says : {A : Type 0} {r : ℕ} {p : Part A} {f : Data → A} → Fills r p f → (d : Data) → At r d → (a : A)
+pub same_says : {A : Type 0} {r : ℕ} {p : ReadPart A} {f : Data → A} → Fills r p f → (d : Data) → At r d → (a : A)
     → a ≡ f d → p.says d a
 same_says {p = p} h d clean a e = subst (p.says d) (sym e) (h.gives d clean)
 
@@ -69,7 +69,7 @@ pub leaf_said : {A : Type 0} (c : ℕ) (kind : LeafKind) (at : List ℕ → Opti
     → leaf_at (slice_get ROWS c) ≡ Some kind → (d : Data) → At c d → is_some (said at (Some d)) ≡ true
 leaf_said c kind at agree is d clean =
     let s = clean_leaf ROWS row_names c kind d is clean in
-    rw s.found (sym (agree (text_of s.says)) ∙ s.valued)
+    rw s.found (sym (agree (text_of_leaf s.says)) ∙ s.valued)
 
 -- a leaf
 pub leaf_reads : {A : Type 0} (c : ℕ) (kind : LeafKind) (at : List ℕ → Option A) (other : A) → Agree kind at
@@ -212,7 +212,7 @@ each_fills r c name often v f child named reads = record {
 -- ---- objects, and leaves by their rows
 
 -- an object is what its members say
-pub whole : {A : Type 0} (r : ℕ) (form : Form) (p : Part A) (f : Data → A) → Fills r p f → Reads r (holds form p) f
+pub whole : {A : Type 0} (r : ℕ) (form : Form) (p : ReadPart A) (f : Data → A) → Fills r p f → Reads r (holds form p) f
 whole r form p f h = record { gives = h.gives; only = h.only }
 
 -- c is the row of a leaf that must occur, below row r

@@ -3,13 +3,13 @@ use Rattle.irs_base.specs.Days.{first_day}
 use Rattle.irs_base.specs.declared.rounding.Direction.TheVariants.{Nearest}
 use Rattle.irs_elements.specs.Codes.{calculation_method_at, compounding_at, convention_at, day_count_at, day_kind_at}
 use Rattle.irs_elements.specs.Codes.{direction_at, relative_at, roll_at, stub_kind_at, tenor_unit_at, treatment_at}
-use Rattle.irs_elements.specs.Codes.{truth_at, unit_at}
-use Rattle.irs_elements.specs.Dates.{day_at}
+use Rattle.irs_elements.specs.Codes.{truth_at, period_unit_at}
+use Rattle.irs_elements.specs.Dates.{leaf_date_at}
 use Rattle.irs_elements.specs.Elements.{name_at}
 use Rattle.irs_elements.specs.Find.{member, once}
 use Rattle.irs_elements.specs.Lines.{object}
 use Rattle.irs_elements.specs.Numbers.{multiplier_at, observation_days_at, offset_at, precision_at}
-use Rattle.irs_elements.specs.Numbers.{rate_at}
+use Rattle.irs_elements.specs.Numbers.{leaf_rate_at}
 use Rattle.irs_elements.specs.Words.{currency_at, is_index_name}
 use Rattle.irs_elements.specs.declared.table.Count.TheVariants.{UpTo}
 use Rattle.irs_elements.specs.declared.table.Leaf.{Leaf as LeafKind}
@@ -50,7 +50,8 @@ use Rattle.irs_read.specs.StreamElements.{StreamSays, adjustable, adjusting, adj
 use Rattle.irs_read.specs.StreamElements.{stream_by}
 use Rattle.irs_read.specs.StreamElements.{center_list, date, exchanges, fixing_dates, floating, frequency, index_name}
 use Rattle.irs_read.specs.StreamElements.{indexed, leg, notional, observed, offset, parameters, payment_dates}
-use Rattle.irs_read.specs.StreamElements.{period_dates, rate, reference, reset_dates, rounded, schedule, step, stub}
+use Rattle.irs_read.specs.StreamElements.{period_dates, rate, reference, reset_dates, rounding_read, schedule, step}
+use Rattle.irs_read.specs.StreamElements.{stub}
 use Rattle.irs_read.specs.StreamElements.{stubs, tenor, unadjusted}
 use Rattle.irs_read.specs.declared.leaf_values.Scale.{Scale}
 use Rattle.irs_read.specs.declared.leaf_values.Scale.TheVariants.{Notionals, Rates}
@@ -90,7 +91,7 @@ frequency_fills : (r m u : ℕ) → LeafRow r m "periodMultiplier" Multiplier �
     → Fills r frequency (λ d. frequency_in (Some d))
 frequency_fills r m u count_row unit_row =
     let a = leaf_one r m "periodMultiplier" Multiplier multiplier_at 1 (λ s. refl) count_row in
-    let b = leaf_one r u "period" PeriodUnit unit_at D (λ s. refl) unit_row in
+    let b = leaf_one r u "period" PeriodUnit period_unit_at D (λ s. refl) unit_row in
     record {
       gives = a.gives ⊗ b.gives;
       only = λ d f h. λ i. record { count = a.only d f.count h.0 i; unit = b.only d f.unit h.1 i };
@@ -193,7 +194,7 @@ DatedRows r u a v b c =
 dated_reads : (lists : List (Option Data)) → GoodLists lists → (r u a v b c : ℕ) → DatedRows r u a v b c
     → Reads r (adjustable lists) (λ d. dated_in lists (Some d))
 dated_reads lists g r u a v b c at =
-    let day = leaf_one r u "unadjustedDate" Date day_at first_day (λ s. refl) at.0 in
+    let day = leaf_one r u "unadjustedDate" Date leaf_date_at first_day (λ s. refl) at.0 in
     let adj =
     one_fills r a "dateAdjustments" (adjustments lists) (adjustments_in lists) at.1 at.2 at.3
     (adjustments_reads lists g a v b c at.4) in
@@ -260,8 +261,8 @@ pay_reads lists g dates =
     let ref = reference_fills 35 36 "calculationPeriodDatesReference" dates refl refl in
     let freq =
     frequency_one 35 37 38 39 "paymentFrequency" refl refl refl (refl, refl, refl, refl) (refl, refl, refl, refl) in
-    let first = leaf_maybe 35 40 "firstPaymentDate" Date day_at (λ s. refl) (refl, refl, refl) in
-    let last = leaf_maybe 35 41 "lastRegularPaymentDate" Date day_at (λ s. refl) (refl, refl, refl) in
+    let first = leaf_maybe 35 40 "firstPaymentDate" Date leaf_date_at (λ s. refl) (refl, refl, refl) in
+    let last = leaf_maybe 35 41 "lastRegularPaymentDate" Date leaf_date_at (λ s. refl) (refl, refl, refl) in
     let relative = leaf_one 35 42 "payRelativeTo" PayRelative relative_at Start (λ s. refl) (refl, refl, refl, refl) in
     let days =
     or_fills 35 43 "paymentDaysOffset" (holds object offset) (λ _. record { days = pos 0; kind = Unsaid })
@@ -371,7 +372,7 @@ ScheduleRows scale r i t y z =
 step_reads : (scale : Scale) (t y z : ℕ) → LeafRow t y "stepDate" Date → LeafRow t z "stepValue" (kind_by scale)
     → Reads t (step (text (kind_by scale) (scale_at scale))) (step_in scale)
 step_reads scale t y z day_row value_row =
-    let day = leaf_one t y "stepDate" Date day_at first_day (λ s. refl) day_row in
+    let day = leaf_one t y "stepDate" Date leaf_date_at first_day (λ s. refl) day_row in
     let value = leaf_one t z "stepValue" (kind_by scale) (scale_at scale) (pos 0) (scale_agrees scale) value_row in
     record {
       gives = day.gives ⊗ value.gives;
@@ -425,7 +426,7 @@ indexed_fills r k t m u index_row child named count_row unit_row =
       only = λ d p h. λ i. (index.only d p.0 h.0 i, tenors.only d p.1 h.1 i);
     }
 
-rounded_reads : (places : ℕ) → Reads 102 rounded (λ d. rounding_in places (Some d))
+rounded_reads : (places : ℕ) → Reads 102 rounding_read (λ d. rounding_in places (Some d))
 rounded_reads places =
     let dir =
     leaf_one 102 103 "roundingDirection" Direction direction_at Nearest (λ s. refl) (refl, refl, refl, refl) in
@@ -505,9 +506,9 @@ floating_reads =
     let multiplier =
     schedule_or_fills (pos 1_000_000_000) 86 91 92 93 94 95 "floatingRateMultiplierSchedule" refl refl rows in
     let spread = schedule_or_fills (pos 0) 86 96 97 98 99 100 "spreadSchedule" refl refl spreads in
-    let initial = leaf_maybe 86 101 "initialRate" Rate rate_at (λ s. refl) (refl, refl, refl) in
+    let initial = leaf_maybe 86 101 "initialRate" Rate leaf_rate_at (λ s. refl) (refl, refl, refl) in
     let round =
-    or_fills 86 102 "finalRateRounding" rounded
+    or_fills 86 102 "finalRateRounding" rounding_read
     (λ d. record { dir = Nearest; places = places_by (once (codes "calculationParameters") d) })
     (λ d o. rounding_in (places_by (once (codes "calculationParameters") d)) o) refl refl (λ d. refl)
     (λ d. rounded_reads (places_by (once (codes "calculationParameters") d))) in
@@ -607,7 +608,7 @@ stub_reads r f k t m u c at there_is =
     let indices : Reads f (holds object indexed) index_in =
     whole f object indexed index_in (indexed_fills f k t m u at.0 at.1 at.2 at.3 at.4) in
     let rates : Reads c rate (λ d. number_in Rates (Some d)) =
-    leaf_reads c Rate rate_at (pos 0) (λ s. refl) at.7.2 in
+    leaf_reads c Rate leaf_rate_at (pos 0) (λ s. refl) at.7.2 in
     let float = once (codes "floatingRate") in
     let stated = once (codes "stubRate") in
     record {
@@ -681,8 +682,8 @@ record DatesRead (lists : List (Option Data)) (dates times : Option Data) (s : S
   first_start : s.first_start ≡ maybe_dated_in lists (member (codes "firstPeriodStartDate") dates)
   termination : s.termination ≡ dated_in lists (member (codes "terminationDate") dates)
   period_adj : s.period_adj ≡ adjustments_in lists (member (codes "calculationPeriodDatesAdjustments") dates)
-  first_regular : s.first_regular ≡ said day_at (member (codes "firstRegularPeriodStartDate") dates)
-  last_regular : s.last_regular ≡ said day_at (member (codes "lastRegularPeriodEndDate") dates)
+  first_regular : s.first_regular ≡ said leaf_date_at (member (codes "firstRegularPeriodStartDate") dates)
+  last_regular : s.last_regular ≡ said leaf_date_at (member (codes "lastRegularPeriodEndDate") dates)
   stub : s.stub ≡ said stub_kind_at (member (codes "stubPeriodType") dates)
   freq : s.freq ≡ frequency_in times
   roll : s.roll ≡ unwrap_or (said roll_at (member (codes "rollConvention") times)) NoRoll
@@ -728,12 +729,12 @@ start_fills lists g =
     ((refl, refl, refl, refl), refl, refl, refl, firsts))
 
 first_fills : Fills 1 (maybe "firstRegularPeriodStartDate" date)
-    (λ d. said day_at (once (codes "firstRegularPeriodStartDate") d))
-first_fills = leaf_maybe 1 28 "firstRegularPeriodStartDate" Date day_at (λ s. refl) (refl, refl, refl)
+    (λ d. said leaf_date_at (once (codes "firstRegularPeriodStartDate") d))
+first_fills = leaf_maybe 1 28 "firstRegularPeriodStartDate" Date leaf_date_at (λ s. refl) (refl, refl, refl)
 
 last_fills : Fills 1 (maybe "lastRegularPeriodEndDate" date)
-    (λ d. said day_at (once (codes "lastRegularPeriodEndDate") d))
-last_fills = leaf_maybe 1 29 "lastRegularPeriodEndDate" Date day_at (λ s. refl) (refl, refl, refl)
+    (λ d. said leaf_date_at (once (codes "lastRegularPeriodEndDate") d))
+last_fills = leaf_maybe 1 29 "lastRegularPeriodEndDate" Date leaf_date_at (λ s. refl) (refl, refl, refl)
 
 stub_fills : Fills 1 (maybe "stubPeriodType" (text StubType stub_kind_at))
     (λ d. said stub_kind_at (once (codes "stubPeriodType") d))
