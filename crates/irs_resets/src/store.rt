@@ -83,13 +83,13 @@ impl Rates {
     }
 }
 
-/// The rates of all indexes.
+// The rates of indexes by their bytes.
 #[derive(Drop)]
-pub struct Table {
+struct ByIndex {
     indexes: BTreeMap<Vec<u8>, Rates>,
 }
 
-impl Model for Table {
+impl Model for ByIndex {
     ghost use Rattle.std.specs.Prelude.{ℤ, ℕ, List};
     ghost use Rattle.irs_resets.specs.declared.store.Slot.{Slot as AtSlot};
 
@@ -100,32 +100,25 @@ impl Model for Table {
     ghost view = { λ t. by_bytes t.indexes.entries };
 }
 
-impl Table {
-    /// No rates; it takes no memory.
-    pub fn new(alloc: Global) -> Table
+impl ByIndex {
+    // No rates; it takes no memory.
+    fn new(alloc: Global) -> ByIndex
         ensures { result ≡ [] }
     {
-        Table {
+        ByIndex {
             indexes: BTreeMap::new(alloc),
         }
     }
 
-    /// The rates of an index; `None` where there are none.
-    pub fn of(&self, index: &[u8]) -> Option<&Rates>
+    // The rates of an index; `None` where there are none.
+    fn of(&self, index: &[u8]) -> Option<&Rates>
         ensures { option_copied result ≡ lookup (bytes_eq index.now) self.now }
     {
         self.indexes.get(index)
     }
 
-    /// Adds a rate, and whether its index had none at its date and tenor. The table can't be used any more if
-    /// it had one, or if memory runs out.
-    pub fn add(
-        &mut self,
-        alloc: Global,
-        index: &[u8],
-        slot: Slot,
-        rate: i64,
-    ) -> Result<bool, Memory>
+    // As `Table::add`.
+    fn add(&mut self, alloc: Global, index: &[u8], slot: Slot, rate: i64) -> Result<bool, Memory>
         ensures adds { IfOk result (AddsNewAt self.old index.now slot rate self.new) }
         ensures memory { OnErr result (rate_at self.old index.now slot ≡ None) }
     {
@@ -149,6 +142,92 @@ impl Table {
         let mut rates = Rates::new(alloc);
         let is_new = rates.add(&slot, rate)?;
         self.indexes.insert(Vec::from_slice(alloc, index)?, rates)?;
+        Ok(is_new)
+    }
+}
+
+/// The rates of all indexes. Those of the index that came first are apart from the others, since most files
+/// have one index.
+#[derive(Drop)]
+pub struct Table {
+    first: Option<(Vec<u8>, Rates)>,
+    others: ByIndex,
+}
+
+impl Model for Table {
+    ghost use Rattle.std.specs.Prelude.{◌≡◌, ℤ, ℕ, List, [], IfNone};
+    ghost use Rattle.irs_resets.specs.declared.store.Slot.{Slot as AtSlot};
+
+    ghost Value = { List (List ℕ × List (AtSlot × ℤ)) };
+
+    ghost use Rattle.irs_resets.specs.Private.Rates.{with_first};
+
+    ghost view = { λ t. with_first t.first t.others };
+
+    ghost invariant = { λ t. IfNone t.first (t.others ≡ []) };
+}
+
+impl Table {
+    /// No rates; it takes no memory.
+    pub fn new(alloc: Global) -> Table
+        ensures { result ≡ [] }
+    {
+        Table {
+            first: None,
+            others: ByIndex::new(alloc),
+        }
+    }
+
+    /// The rates of an index; `None` where there are none.
+    pub fn of(&self, index: &[u8]) -> Option<&Rates>
+        ensures { option_copied result ≡ lookup (bytes_eq index.now) self.now }
+    {
+        if let Some((first, rates)) = &self.first {
+            if first.as_slice() == index {
+                return Some(rates);
+            }
+        }
+        self.others.of(index)
+    }
+
+    /// Adds a rate, and whether its index had none at its date and tenor. The table can't be used any more if
+    /// it had one, or if memory runs out.
+    pub fn add(
+        &mut self,
+        alloc: Global,
+        index: &[u8],
+        slot: Slot,
+        rate: i64,
+    ) -> Result<bool, Memory>
+        ensures adds { IfOk result (AddsNewAt self.old index.now slot rate self.new) }
+        ensures memory { OnErr result (rate_at self.old index.now slot ≡ None) }
+    {
+        match &mut self.first {
+            Some((first, rates)) => {
+                if first.as_slice() == index {
+                    rates.add(&slot, rate)
+                } else {
+                    self.others.add(alloc, index, slot, rate)
+                }
+            }
+            None => self.add_first(alloc, index, slot, rate),
+        }
+    }
+
+    // The same where there are no rates.
+    fn add_first(
+        &mut self,
+        alloc: Global,
+        index: &[u8],
+        slot: Slot,
+        rate: i64,
+    ) -> Result<bool, Memory>
+        requires { self.old ≡ [] }
+        ensures adds { IfOk result (AddsNewAt self.old index.now slot rate self.new) }
+    {
+        let mut rates = Rates::new(alloc);
+        let is_new = rates.add(&slot, rate)?;
+        self.first = Some((Vec::from_slice(alloc, index)?, rates));
         Ok(is_new)
     }
 }

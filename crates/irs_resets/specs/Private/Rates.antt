@@ -1,9 +1,10 @@
 -- Private: no public contract rests on this file.
 -- Rates by index, date and tenor.
-use Rattle.std.specs.Prelude.{◌≡◌, ℕ, Bool, true, false, ◌&&◌, Some, None, ℤ, List, IsSome}
+use Rattle.std.specs.Prelude.{◌≡◌, ℕ, Bool, true, false, ◌&&◌, Option, Some, None, ℤ, List, ◌∷◌, IsSome}
 use Rattle.std.specs.Prelude.{if◌then◌else◌}
 use Rattle.std.specs.Map.{lookup}
 use Rattle.std.specs.Str.{bytes_eq}
+use Rattle.std.specs.declared.vec.Vec.{Vec}
 use Rattle.irs_resets.specs.declared.store.Slot.{Slot}
 use Rattle.irs_resets.specs.Rates.{is_slot, SlotRates, RateTable, rate_at}
 
@@ -27,3 +28,8 @@ AddsNew old slot rate new false = IsSome (lookup (is_slot slot) old)
 abbrev pub AddsNewAt : RateTable → List ℕ → Slot → ℤ → RateTable → Bool → Type 0
 AddsNewAt old index slot rate new true = (rate_at old index slot ≡ None) × Adds old index slot rate new
 AddsNewAt old index slot rate new false = IsSome (rate_at old index slot)
+
+-- the rates of the index that came first, before those of the others
+abbrev pub with_first : {Y : Type 0} → Option (Vec ℕ Y × SlotRates) → RateTable → RateTable
+with_first None others = others
+with_first (Some f) others = (f.0.items, f.1) ∷ others

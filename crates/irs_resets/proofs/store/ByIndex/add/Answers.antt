@@ -6,7 +6,7 @@ use Rattle.std.specs.Str.{bytes_eq}
 use Rattle.irs_resets.specs.Rates.{SlotRates, by_bytes, rate_of}
 use Rattle.irs_resets.proofs.KeyLemmas.{adds_there, lookup_by_bytes, updates_bytes}
 use Rattle.irs_resets.proofs.OrderLemmas.{on_err_of}
-use Rattle.irs_resets.proofs.store.Table.add.Goals as goal
+use Rattle.irs_resets.proofs.store.ByIndex.add.Goals as goal
 
 pub returns-in-Some-clause-adds : goal.returns-in-Some-clause-adds
 returns-in-Some-clause-adds c =

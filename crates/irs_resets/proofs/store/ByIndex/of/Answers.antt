@@ -1,6 +1,6 @@
 use Rattle.std.proofs.Common.{◌∙◌}
 use Rattle.irs_resets.proofs.KeyLemmas.{lookup_by_bytes}
-use Rattle.irs_resets.proofs.store.Table.of.Goals as goal
+use Rattle.irs_resets.proofs.store.ByIndex.of.Goals as goal
 
 pub returns : goal.returns
 returns c = rw (← c.self.view_is)

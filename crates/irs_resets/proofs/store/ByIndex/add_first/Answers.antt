@@ -7,7 +7,7 @@ use Rattle.std.specs.Map.{lookup}
 use Rattle.std.specs.Str.{bytes_eq}
 use Rattle.irs_resets.specs.Rates.{RateTable, SlotRates, by_bytes}
 use Rattle.irs_resets.proofs.KeyLemmas.{adds_first, lookup_by_bytes, updates_bytes}
-use Rattle.irs_resets.proofs.store.Table.add_first.Goals as goal
+use Rattle.irs_resets.proofs.store.ByIndex.add_first.Goals as goal
 
 pub returns : goal.returns
 returns c =
