@@ -14,8 +14,10 @@ use Rattle.irs_read.specs.Documents.{DocumentFault, below, the_swap}
 use Rattle.irs_read.specs.Private.Meaning.{stream_in, swap_in}
 use Rattle.irs_read.specs.References.{streams_in}
 use Rattle.irs_read.specs.References.{lists_of}
+use Rattle.irs_read.specs.Stated.{EachStated, IsStated}
+use Rattle.irs_read.proofs.StatedTables.{stated}
 use Rattle.irs_read.proofs.TableLaws.{code_names, stream_fault}
-use Rattle.irs_read.specs.StreamLines.{swap_rows}
+use Rattle.irs_read.specs.StreamLines.{stream_names, stream_rows, swap_rows}
 use Rattle.irs_read.specs.Swaps.{StreamsFault, SwapFault, in_stream, many_streams, no_stream, outside}
 use Rattle.irs_read.specs.declared.table.TheConstants.{ROWS, SWAP}
 use Rattle.irs_terms.specs.Lawful.{IsLawful, IsLawfulStream}
@@ -118,3 +120,18 @@ document_means d at s none found is = record {
 -- the swap that a document means is what is read of its swap
 pub means_read : (d : Data) (s : Swap) (m : Means d s) → s ≡ swap_in m.at
 means_read d s m = swap_only m.at (λ f q. m.clean f (below m.at f m.found q)) s m.says
+
+-- nothing is missing in the streams of a swap that breaks no rule
+swap_stated : (d : Data) → ((f : Broken) → SwapFault d f → ⊥) → (j : ℕ) (x : Data)
+    → slice_get (streams_in d) j ≡ Some x → IsStated stream_rows stream_names x
+swap_stated d none j x e =
+    let there = object_by d (is_some (names_of d)) refl none in
+    let ds = streams_in d in
+    let clear : (f : Broken) → StreamsFault ds f → ⊥ = λ f q. none f (inr (there, q)) in
+    let lo = some_by ds (length ds) refl clear in
+    let hi = few_by ds (le_or_lt (length ds) most_streams) clear in
+    stated stream_rows stream_names x (j + 1) 0 (λ f q. clear f (in_stream f lo hi (j, (x, (e, q)))))
+
+-- nor in those of a document that means a swap
+pub meant_stated : (d : Data) (s : Swap) → Means d s → EachStated d
+meant_stated d s m at found j x e = swap_stated at (λ f q. m.clean f (below at f found q)) j x e

@@ -12,9 +12,11 @@ use Rattle.irs_elements.specs.declared.table.Leaf.{Leaf as LeafKind}
 use Rattle.irs_elements.specs.declared.table.Row.{Row}
 use Rattle.irs_json.specs.Carrier.{child_of}
 use Rattle.irs_json.specs.Values.{items_of}
-use Rattle.irs_read.specs.References.{attribute}
+use Rattle.irs_read.specs.Documents.{the_swap}
+use Rattle.irs_read.specs.References.{attribute, streams_in}
+use Rattle.irs_read.specs.StreamLines.{stream_names, stream_rows}
 use Rattle.serde_json.specs.Data.{Data}
-use Rattle.std.specs.Prelude.{◌≡◌, ℕ, Bool, true, false, List, Option, Some, None, codes, is_some, slice_get}
+use Rattle.std.specs.Prelude.{◌≡◌, ℕ, Bool, true, false, List, Option, Some, None, codes, is_some, slice_get, Ok}
 
 -- x is a value inside d, at a row of the table and with the kind of the row
 pub data Stands (rows : List Row) (names : List (List ℕ)) (d : Data) : ℕ → Kind → Data → Type 0 where
@@ -45,3 +47,8 @@ pub record IsStated (rows : List Row) (names : List (List ℕ)) (d : Data) : Typ
   -- if an object names another by `@href`, that attribute is present and a text
   pub named : (r : ℕ) (y : Data) → Stands rows names d r (Object Reference) y
       → is_some (attribute (codes "@href") (Some y)) ≡ true
+
+-- nothing is missing in the streams of a document
+abbrev pub EachStated : Data → Type 0
+EachStated d = (at : Data) → the_swap d ≡ Ok at → (j : ℕ) (x : Data) → slice_get (streams_in at) j ≡ Some x
+    → IsStated stream_rows stream_names x

@@ -13,7 +13,7 @@ mod swap;
 mod table;
 
 pub use document::{first_in_document, the_swap};
-pub use reader::{ReadErr, read_swap, swap_of_document_is_determined};
+pub use reader::{ReadErr, meant_documents_are_stated, read_swap, swap_of_document_is_determined};
 pub use table::{
     NAMES, ROWS, SWAP_NAMES, SWAP_ROWS, lines_follow, lists_listed, rows_whole, swap_rows_whole,
     tables_listed,

@@ -6,7 +6,10 @@ ghost use Rattle.irs_base.specs.declared.places.Broken.{Broken as BrokenRule};
 ghost use Rattle.irs_read.specs.Documents.{DocumentFault};
 ghost use Rattle.irs_read.specs.Outcomes.{swap_of_document};
 ghost use Rattle.irs_read.specs.Reading.{Means};
+ghost use Rattle.irs_read.specs.Stated.{EachStated};
 ghost use Rattle.irs_terms.specs.Lawful.{IsLawful};
+ghost use Rattle.irs_terms.specs.declared.stream_list.Swap.{Swap as MeantSwap};
+ghost use Rattle.serde_json.specs.Data.{Data};
 ghost use Rattle.serde_json.specs.View.{view};
 ghost use Rattle.std.specs.Prelude.{IfOk};
 
@@ -46,3 +49,9 @@ pub fn swap_of_document_is_determined(v: &Value)
     // hands the prover a right outcome
     let _outcome = clean_swap(v);
 }
+
+/// A law: in a document that means a swap nothing is missing. Required elements are present, and each leaf
+/// has a value of its kind. Each choice is kept, and each reference has its `@href`.
+pub fn meant_documents_are_stated()
+    ensures { (d : Data) (s : MeantSwap) → Means d s → EachStated d }
+{}
