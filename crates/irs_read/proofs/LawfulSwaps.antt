@@ -5,7 +5,8 @@ use Rattle.irs_base.specs.declared.places.Rule.TheVariants.{K2, K3, K7}
 use Rattle.irs_elements.specs.Elements.{own, place}
 use Rattle.irs_json.specs.Names.{names_of}
 use Rattle.irs_read.proofs.Clean.{clean_from, le_or_lt}
-use Rattle.irs_read.proofs.Fills.{At, each_gives, each_only}
+use Rattle.irs_read.proofs.Fills.{each_gives, each_only}
+use Rattle.irs_read.proofs.Rows.{At, at_top}
 use Rattle.irs_read.proofs.StreamReads.{stream_gives, stream_only}
 use Rattle.irs_read.specs.Reading.{Means}
 use Rattle.irs_read.specs.StreamElements.{StreamSays, SwapSays}
@@ -24,7 +25,7 @@ use Rattle.irs_terms.specs.Lawful.{IsLawful, IsLawfulStream}
 use Rattle.irs_base.specs.Limits.{most_streams}
 use Rattle.irs_terms.specs.declared.stream_list.Swap.{Swap}
 use Rattle.serde_json.specs.Data.{Data}
-use Rattle.std.proofs.Common.{◌≡◌, ℕ, zero, suc, ◌+◌, ◌<◌, ◌≤◌, Bool, true, false, ◌⊎◌, inl, inr, List, map, length}
+use Rattle.std.proofs.Common.{◌≡◌, ℕ, zero, suc, ◌+◌, ◌<◌, ◌≤◌, Bool, true, false, ◌⊎◌, inl, inr, List, [], map, length}
 use Rattle.std.proofs.Common.{get_or, Some, Ok, is_some, slice_get, All, refl, sym, subst, arith}
 use Rattle.std.proofs.lemmas.List.{length-map}
 use Rattle.std.proofs.lemmas.List.Elements.{All-map}
@@ -45,9 +46,10 @@ few_by ds (inl le) none = le
 few_by ds (inr lt) none = absurd (none (outside K7 swap_stream) (many_streams lt))
 
 each_clean : (ds : List Data) → 0 < length ds → length ds ≤ most_streams → ((f : Broken) → StreamsFault ds f → ⊥)
-    → (j : ℕ) (x : Data) → slice_get ds j ≡ Some x → At 0 x
+    → (j : ℕ) (x : Data) → slice_get ds j ≡ Some x → At [] x
 each_clean ds lo hi none j x e =
-    clean_from ROWS code_names 0 (j + 1) 0 x _ refl (λ f q. none f (in_stream f lo hi (j, (x, (e, stream_fault q)))))
+    at_top x
+    (clean_from ROWS code_names 0 (j + 1) 0 x _ refl (λ f q. none f (in_stream f lo hi (j, (x, (e, stream_fault q))))))
 
 streams_lawful : (ds : List Data) → ((f : Broken) → StreamsFault ds f → ⊥)
     → (1 ≤ length ds) × ((length ds ≤ most_streams) × All IsLawfulStream (map (stream_in (lists_of ds)) ds))
@@ -81,7 +83,7 @@ document_lawful d at s none found says = subst IsLawful (sym says) (swap_lawful 
 
 -- the streams of a swap that breaks no rule break none, and their lists of centres are good
 streams_clean : (d : Data) → ((f : Broken) → SwapFault d f → ⊥)
-    → ((j : ℕ) (x : Data) → slice_get (streams_in d) j ≡ Some x → At 0 x) × GoodLists (lists_of (streams_in d))
+    → ((j : ℕ) (x : Data) → slice_get (streams_in d) j ≡ Some x → At [] x) × GoodLists (lists_of (streams_in d))
 streams_clean d none =
     let there = object_by d (is_some (names_of d)) refl none in
     let ds = streams_in d in

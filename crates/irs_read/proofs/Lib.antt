@@ -5,6 +5,7 @@ pub mod Lists
 pub mod Clean
 pub mod Ranges
 pub mod Words
+pub mod Rows
 pub mod Fills
 pub mod CenterLists
 pub mod Streams

@@ -11,7 +11,9 @@ use Rattle.irs_elements.specs.Lines.{object}
 use Rattle.irs_elements.specs.Numbers.{multiplier_at, observation_days_at, offset_at, precision_at}
 use Rattle.irs_elements.specs.Numbers.{rate_at}
 use Rattle.irs_elements.specs.Words.{currency_at, is_index_name}
+use Rattle.irs_elements.specs.declared.table.Choice.TheVariants.{ExactlyOne}
 use Rattle.irs_elements.specs.declared.table.Count.TheVariants.{UpTo}
+use Rattle.irs_elements.specs.declared.table.Kind.TheVariants.{Object}
 use Rattle.irs_elements.specs.declared.table.Leaf.{Leaf as LeafKind}
 use Rattle.irs_elements.specs.declared.table.Leaf.TheVariants.{CalculationMethod, Compounding, Convention}
 use Rattle.irs_elements.specs.declared.table.Leaf.TheVariants.{CurrencyName, Date, DayCount, DayType, Direction}
@@ -24,13 +26,14 @@ use Rattle.irs_elements.specs.declared.table.Leaf.TheVariants.{TenorUnit, Treatm
 use Prim.Native.String.{String}
 use Rattle.irs_base.specs.Limits.{most_steps}
 use Rattle.irs_read.proofs.CenterLists.{guard_is, names_reads, word_reads}
-use Rattle.irs_read.proofs.Clean.{either_there, is_child, required_at}
-use Rattle.irs_read.proofs.Fills.{At, AtMost, Agree, Fills, FreeRow, LeafRow, Reads, each_fills, leaf_maybe, leaf_one}
-use Rattle.irs_read.proofs.Fills.{leaf_or}
+use Rattle.irs_read.proofs.Clean.{either_there, kind_at}
+use Rattle.irs_read.proofs.Fills.{Agree, Fills, Reads, each_fills, leaf_maybe, leaf_one, leaf_or}
 use Rattle.irs_read.proofs.Fills.{◌⊗◌, ◌&◌, same_says}
 use Rattle.irs_read.proofs.Fills.{leaf_reads, maybe_fills, one_fills, one_is, or_fills, perhaps, there, whole}
-use Rattle.irs_read.proofs.Streams.{AdjustmentRows, GoodList, GoodLists, effective_rows, first_rows, fixing_rows}
-use Rattle.irs_read.proofs.Streams.{good_below, one_good, payment_rows, period_rows, reset_rows, termination_rows}
+use Rattle.irs_read.proofs.Rows.{At, AtMost, FreeRow, LeafRow, May, Must, Path, RowIs, facts, is_leaf, is_named}
+use Rattle.irs_read.proofs.Rows.{most_of, row_of}
+use Rattle.irs_read.proofs.Streams.{AdjustingRows, GoodList, GoodLists, calculation_path, dates_path, floating_path}
+use Rattle.irs_read.proofs.Streams.{good_below, one_good, parameters_path, payments_path, resets_path, stubs_path}
 use Rattle.irs_read.proofs.TableLaws.{code_names as row_names}
 use Rattle.irs_read.specs.Private.Meaning.{adjustments_in, applicable_in, centers_by, dated_in, exchanges_in}
 use Rattle.irs_read.specs.Private.Meaning.{fix_in}
@@ -80,39 +83,39 @@ use Rattle.irs_terms.specs.declared.frequency.Frequency.{Frequency}
 use Rattle.irs_terms.specs.declared.frequency.Unit.TheVariants.{D}
 use Rattle.irs_terms.specs.declared.stream.Stream.{Stream}
 use Rattle.serde_json.specs.Data.{Data}
-use Rattle.std.proofs.Common.{◌≡◌, ℕ, true, false, List, ℤ, pos, Option, Some, None}
+use Rattle.std.proofs.Common.{◌≡◌, ℕ, false, List, [], ◌∷◌, ℤ, pos, Option, Some, None}
 use Rattle.std.proofs.Common.{◌⊎◌, inl, inr, option_map, unwrap_or, slice_get, codes, refl, sym, ap, subst, ◌∙◌}
 
 -- ---- numbers of periods and offsets
 
--- a frequency at row r, with its leaves at rows m and u
-frequency_fills : (r m u : ℕ) → LeafRow r m "periodMultiplier" Multiplier → LeafRow r u "period" PeriodUnit
-    → Fills r frequency (λ d. frequency_in (Some d))
-frequency_fills r m u count_row unit_row =
-    let a = leaf_one r m "periodMultiplier" Multiplier multiplier_at 1 (λ s. refl) count_row in
-    let b = leaf_one r u "period" PeriodUnit unit_at D (λ s. refl) unit_row in
+-- a frequency
+frequency_fills : (p : Path) → LeafRow p "periodMultiplier" Multiplier → LeafRow p "period" PeriodUnit
+    → Fills p frequency (λ d. frequency_in (Some d))
+frequency_fills p count_row unit_row =
+    let a = leaf_one p "periodMultiplier" Multiplier multiplier_at 1 (λ s. refl) count_row in
+    let b = leaf_one p "period" PeriodUnit unit_at D (λ s. refl) unit_row in
     record {
       gives = a.gives ⊗ b.gives;
       only = λ d f h. λ i. record { count = a.only d f.count h.0 i; unit = b.only d f.unit h.1 i };
     }
 
--- the tenor of an index at row r
-tenor_fills : (r m u : ℕ) → LeafRow r m "periodMultiplier" Multiplier → LeafRow r u "period" TenorUnit
-    → Fills r tenor tenor_in
-tenor_fills r m u count_row unit_row =
-    let a = leaf_one r m "periodMultiplier" Multiplier multiplier_at 1 (λ s. refl) count_row in
-    let b = leaf_one r u "period" TenorUnit tenor_unit_at D (λ s. refl) unit_row in
+-- the tenor of an index
+tenor_fills : (p : Path) → LeafRow p "periodMultiplier" Multiplier → LeafRow p "period" TenorUnit
+    → Fills p tenor tenor_in
+tenor_fills p count_row unit_row =
+    let a = leaf_one p "periodMultiplier" Multiplier multiplier_at 1 (λ s. refl) count_row in
+    let b = leaf_one p "period" TenorUnit tenor_unit_at D (λ s. refl) unit_row in
     record {
       gives = a.gives ⊗ b.gives;
       only = λ d f h. λ i. record { count = a.only d f.count h.0 i; unit = b.only d f.unit h.1 i };
     }
 
--- an offset at row r
-offset_fills : (r m t : ℕ) → LeafRow r m "periodMultiplier" OffsetDays → FreeRow r t "dayType" DayType
-    → Fills r offset (λ d. offset_in (Some d))
-offset_fills r m t count_row kind_row =
-    let a = leaf_one r m "periodMultiplier" OffsetDays offset_at (pos 0) (λ s. refl) count_row in
-    let b = leaf_or r t "dayType" DayType day_kind_at Unsaid (λ s. refl) kind_row in
+-- an offset
+offset_fills : (p : Path) → LeafRow p "periodMultiplier" OffsetDays → FreeRow p "dayType" DayType
+    → Fills p offset (λ d. offset_in (Some d))
+offset_fills p count_row kind_row =
+    let a = leaf_one p "periodMultiplier" OffsetDays offset_at (pos 0) (λ s. refl) count_row in
+    let b = leaf_or p "dayType" DayType day_kind_at Unsaid (λ s. refl) kind_row in
     record {
       gives = a.gives ⊗ (λ d clean. tt) ⊗ b.gives;
       only = λ d o h. λ i. record { days = a.only d o.days h.0 i; kind = b.only d o.kind h.1.1 i };
@@ -130,7 +133,8 @@ own_gives (Some d) g = (names_in d, (refl, g.1))
 
 -- a list says its names, and nothing else
 list_only : (d : Data) (ns : List (List ℕ)) → center_list.says d ns → ns ≡ names_in d
-list_only = (names_reads 7 8 refl refl refl).only
+unfolding facts row_of
+list_only = (names_reads ("businessCenters" ∷ "paymentDatesAdjustments" ∷ payments_path) refl).only
 
 named_only : (o : Option Data) (c : Centers) → Says o center_list.says Listed (λ c. c ≡ Dangling) c
     → c ≡ named_centers o
@@ -159,18 +163,14 @@ centers_only : (lists : List (Option Data)) (ref own : Option Data) (c : Centers
 centers_only lists None own c h = own_only own c h
 centers_only lists (Some r) own c (c', (e, h)) = e ∙ named_only (the_one (href_of r) lists) c' h
 
--- r is the row of adjustments, v that of their convention, b that of their list, and c that of its names
-abbrev AdjustingRows : ℕ → ℕ → ℕ → ℕ → Type 0
-AdjustingRows r v b c = LeafRow r v "businessDayConvention" Convention × AdjustmentRows r b c
-
-adjusting_fills : (lists : List (Option Data)) → GoodLists lists → (r v b c : ℕ) → AdjustingRows r v b c
-    → Fills r (adjusting lists) (λ d. adjustments_in lists (Some d))
-adjusting_fills lists g r v b c at =
-    let code = leaf_one r v "businessDayConvention" Convention convention_at Unadjusted (λ s. refl) at.0 in
+adjusting_fills : (lists : List (Option Data)) → GoodLists lists → (p : Path) → AdjustingRows p
+    → Fills p (adjusting lists) (λ d. adjustments_in lists (Some d))
+adjusting_fills lists g p at =
+    let code = leaf_one p "businessDayConvention" Convention convention_at Unadjusted (λ s. refl) at.0 in
     record {
       gives = code.gives
           ⊗ (λ d clean. centers_give lists (once (codes "businessCentersReference") d)
-          (once (codes "businessCenters") d) g (good_below r b c at.1 (Some d) clean));
+          (once (codes "businessCenters") d) g (good_below p at (Some d) clean));
       only = λ d a h. λ i. record {
         code = code.only d a.code h.0 i;
         centers = centers_only lists (once (codes "businessCentersReference") d) (once (codes "businessCenters") d)
@@ -178,98 +178,75 @@ adjusting_fills lists g r v b c at =
       };
     }
 
-adjustments_reads : (lists : List (Option Data)) → GoodLists lists → (r v b c : ℕ) → AdjustingRows r v b c
-    → Reads r (adjustments lists) (λ d. adjustments_in lists (Some d))
-adjustments_reads lists g r v b c at =
-    let fills = adjusting_fills lists g r v b c at in
+adjustments_reads : (lists : List (Option Data)) → GoodLists lists → (p : Path) → AdjustingRows p
+    → Reads p (adjustments lists) (λ d. adjustments_in lists (Some d))
+adjustments_reads lists g p at =
+    let fills = adjusting_fills lists g p at in
     record { gives = fills.gives; only = fills.only }
 
--- r is the row of a date with adjustments, u that of the date
-abbrev DatedRows : ℕ → ℕ → ℕ → ℕ → ℕ → ℕ → Type 0
-DatedRows r u a v b c =
-    LeafRow r u "unadjustedDate" Date × (is_child ROWS r a ≡ true) × (required_at (slice_get ROWS a) ≡ true)
-    × (name_at row_names a ≡ codes "dateAdjustments") × AdjustingRows a v b c
+-- what the table says of a date with adjustments at the end of a path
+abbrev DatedRows : Path → Type 0
+DatedRows p =
+    LeafRow p "unadjustedDate" Date × Must p "dateAdjustments" × AdjustingRows ("dateAdjustments" ∷ p)
 
-dated_reads : (lists : List (Option Data)) → GoodLists lists → (r u a v b c : ℕ) → DatedRows r u a v b c
-    → Reads r (adjustable lists) (λ d. dated_in lists (Some d))
-dated_reads lists g r u a v b c at =
-    let day = leaf_one r u "unadjustedDate" Date day_at first_day (λ s. refl) at.0 in
+dated_reads : (lists : List (Option Data)) → GoodLists lists → (p : Path) → DatedRows p
+    → Reads p (adjustable lists) (λ d. dated_in lists (Some d))
+dated_reads lists g p at =
+    let day = leaf_one p "unadjustedDate" Date day_at first_day (λ s. refl) at.0 in
     let adj =
-    one_fills r a "dateAdjustments" (adjustments lists) (adjustments_in lists) at.1 at.2 at.3
-    (adjustments_reads lists g a v b c at.4) in
+    one_fills p "dateAdjustments" (adjustments lists) (adjustments_in lists) at.1
+    (adjustments_reads lists g ("dateAdjustments" ∷ p) at.2) in
     record {
       gives = day.gives ⊗ adj.gives;
       only = λ d x h. λ i. record { day = day.only d x.day h.0 i; adj = adj.only d x.adj h.1 i };
     }
 
-effective : AdjustingRows 4 5 7 8
-effective = ((refl, refl, refl, refl), effective_rows)
-
-termination : AdjustingRows 11 12 14 15
-termination = ((refl, refl, refl, refl), termination_rows)
-
-periods : AdjustingRows 16 17 19 20
-periods = ((refl, refl, refl, refl), period_rows)
-
-firsts : AdjustingRows 23 24 26 27
-firsts = ((refl, refl, refl, refl), first_rows)
-
-payments : AdjustingRows 47 48 50 51
-payments = ((refl, refl, refl, refl), payment_rows)
-
-fixing : AdjustingRows 55 59 61 62
-fixing = ((refl, refl, refl, refl), fixing_rows)
-
-resets : AdjustingRows 67 68 70 71
-resets = ((refl, refl, refl, refl), reset_rows)
-
 -- ---- references
 
-reference_reads : (c : ℕ) (target : Option Data) → Reads c (reference target) (λ x. reference_in target (Some x))
-reference_reads c target = record { gives = λ d clean. refl; only = λ d a h. h }
+reference_reads : (p : Path) (target : Option Data) → Reads p (reference target) (λ x. reference_in target (Some x))
+reference_reads p target = record { gives = λ d clean. refl; only = λ d a h. h }
 
--- a reference to the target at row c, which may be absent
-reference_fills : (r c : ℕ) (name : String) (target : Option Data) → is_child ROWS r c ≡ true
-    → name_at row_names c ≡ codes name
-    → Fills r (or_by name (reference target) (λ _. NoReference)) (λ d. reference_in target (once (codes name) d))
-reference_fills r c name target child named =
-    or_fills r c name (reference target) (λ _. NoReference) (λ _ o. reference_in target o) child named (λ d. refl)
-    (λ d. reference_reads c target)
+-- a reference to the target, which may be absent
+reference_fills : (p : Path) (name : String) (target : Option Data) → May p name
+    → Fills p (or_by name (reference target) (λ _. NoReference)) (λ d. reference_in target (once (codes name) d))
+reference_fills p name target row =
+    or_fills p name (reference target) (λ _. NoReference) (λ _ o. reference_in target o) row (λ d. refl)
+    (λ d. reference_reads (name ∷ p) target)
 
 -- ---- payments and resets
 
--- a frequency that must occur below row r
-frequency_one : (r c m u : ℕ) (name : String) → is_child ROWS r c ≡ true → required_at (slice_get ROWS c) ≡ true
-    → name_at row_names c ≡ codes name → LeafRow c m "periodMultiplier" Multiplier → LeafRow c u "period" PeriodUnit
-    → Fills r (one name (holds object frequency)) (λ d. frequency_in (once (codes name) d))
-frequency_one r c m u name child required named count_row unit_row =
-    one_fills r c name (holds object frequency) frequency_in child required named
-    (whole c object frequency (λ d. frequency_in (Some d)) (frequency_fills c m u count_row unit_row))
+-- a frequency that must occur
+frequency_one : (p : Path) (name : String) → Must p name → LeafRow (name ∷ p) "periodMultiplier" Multiplier
+    → LeafRow (name ∷ p) "period" PeriodUnit
+    → Fills p (one name (holds object frequency)) (λ d. frequency_in (once (codes name) d))
+frequency_one p name row count_row unit_row =
+    one_fills p name (holds object frequency) frequency_in row
+    (whole (name ∷ p) object frequency (λ d. frequency_in (Some d)) (frequency_fills (name ∷ p) count_row unit_row))
 
--- adjustments that may be absent below row r
-adjustments_or : (lists : List (Option Data)) → GoodLists lists → (r a v b c : ℕ) (name : String)
-    → is_child ROWS r a ≡ true → name_at row_names a ≡ codes name → AdjustingRows a v b c
-    → Fills r (or_by name (adjustments lists) (λ _. unadjusted)) (λ d. adjustments_in lists (once (codes name) d))
-adjustments_or lists g r a v b c name child named at =
-    or_fills r a name (adjustments lists) (λ _. unadjusted) (λ _ o. adjustments_in lists o) child named (λ d. refl)
-    (λ d. adjustments_reads lists g a v b c at)
+-- adjustments that may be absent
+adjustments_or : (lists : List (Option Data)) → GoodLists lists → (p : Path) (name : String) → May p name
+    → AdjustingRows (name ∷ p)
+    → Fills p (or_by name (adjustments lists) (λ _. unadjusted)) (λ d. adjustments_in lists (once (codes name) d))
+adjustments_or lists g p name row at =
+    or_fills p name (adjustments lists) (λ _. unadjusted) (λ _ o. adjustments_in lists o) row (λ d. refl)
+    (λ d. adjustments_reads lists g (name ∷ p) at)
 
 pay_reads : (lists : List (Option Data)) → GoodLists lists → (dates : Option Data)
-    → Reads 35 (payment_dates lists dates) (λ d. pay_in lists dates (Some d))
+    → Reads payments_path (payment_dates lists dates) (λ d. pay_in lists dates (Some d))
+unfolding facts row_of most_of
 pay_reads lists g dates =
-    let ref = reference_fills 35 36 "calculationPeriodDatesReference" dates refl refl in
-    let freq =
-    frequency_one 35 37 38 39 "paymentFrequency" refl refl refl (refl, refl, refl, refl) (refl, refl, refl, refl) in
-    let first = leaf_maybe 35 40 "firstPaymentDate" Date day_at (λ s. refl) (refl, refl, refl) in
-    let last = leaf_maybe 35 41 "lastRegularPaymentDate" Date day_at (λ s. refl) (refl, refl, refl) in
-    let relative = leaf_one 35 42 "payRelativeTo" PayRelative relative_at Start (λ s. refl) (refl, refl, refl, refl) in
+    let p = payments_path in
+    let ref = reference_fills p "calculationPeriodDatesReference" dates refl in
+    let freq = frequency_one p "paymentFrequency" refl refl refl in
+    let first = leaf_maybe p "firstPaymentDate" Date day_at (λ s. refl) refl in
+    let last = leaf_maybe p "lastRegularPaymentDate" Date day_at (λ s. refl) refl in
+    let relative = leaf_one p "payRelativeTo" PayRelative relative_at Start (λ s. refl) refl in
     let days =
-    or_fills 35 43 "paymentDaysOffset" (holds object offset) (λ _. record { days = pos 0; kind = Unsaid })
-    (λ _ o. offset_in o)
-    refl refl (λ d. refl)
-    (λ d. whole 43 object offset (λ x. offset_in (Some x))
-    (offset_fills 43 44 46 (refl, refl, refl, refl) (refl, refl, refl))) in
-    let adj = adjustments_or lists g 35 47 48 50 51 "paymentDatesAdjustments" refl refl payments in
+    or_fills p "paymentDaysOffset" (holds object offset) (λ _. record { days = pos 0; kind = Unsaid })
+    (λ _ o. offset_in o) refl (λ d. refl)
+    (λ d. whole ("paymentDaysOffset" ∷ p) object offset (λ x. offset_in (Some x))
+    (offset_fills ("paymentDaysOffset" ∷ p) refl refl)) in
+    let adj = adjustments_or lists g p "paymentDatesAdjustments" refl (refl, refl, (refl, refl)) in
     record {
       gives = ref.gives ⊗ freq.gives ⊗ first.gives ⊗ last.gives ⊗ relative.gives ⊗ days.gives ⊗ adj.gives;
       only = λ d p h. λ i. record {
@@ -283,13 +260,18 @@ pay_reads lists g dates =
       };
     }
 
+-- `fixingDates`
+abbrev fixings_path : Path
+fixings_path = "fixingDates" ∷ resets_path
+
 fixing_reads : (lists : List (Option Data)) → GoodLists lists → (target : Option Data)
-    → Reads 55 (fixing_dates lists target)
+    → Reads fixings_path (fixing_dates lists target)
     (λ d. (fix_in lists d, reference_in target (once (codes "dateRelativeTo") d)))
+unfolding facts row_of most_of
 fixing_reads lists g target =
-    let days = offset_fills 55 56 58 (refl, refl, refl, refl) (refl, refl, refl) in
-    let adj = adjusting_fills lists g 55 59 61 62 fixing in
-    let ref = reference_fills 55 63 "dateRelativeTo" target refl refl in
+    let days = offset_fills fixings_path refl refl in
+    let adj = adjusting_fills lists g fixings_path (refl, refl, (refl, refl)) in
+    let ref = reference_fills fixings_path "dateRelativeTo" target refl in
     record {
       gives = days.gives ⊗ adj.gives ⊗ ref.gives;
       only = λ d f h. λ i. (
@@ -313,7 +295,7 @@ FixingsSaid lists target o =
     Says {B = Option FixTerms × RefState} o (fixing_dates lists target).says (λ f. (Some f.0, f.1))
     (λ f. f ≡ (None, NoReference))
 
-fixings_give : (lists : List (Option Data)) → GoodLists lists → (target o : Option Data) → AtMost 55 o
+fixings_give : (lists : List (Option Data)) → GoodLists lists → (target o : Option Data) → AtMost fixings_path o
     → FixingsSaid lists target o (fixings_in lists target o)
 fixings_give lists g target None clean = refl
 fixings_give lists g target (Some x) clean = (
@@ -327,17 +309,18 @@ fixings_only lists g target None p h = h
 fixings_only lists g target (Some x) p (f, (e, h)) = e ∙ ap with_terms ((fixing_reads lists g target).only x f h)
 
 reset_reads : (lists : List (Option Data)) → GoodLists lists → (dates : Option Data)
-    → Reads 52 (reset_dates lists dates) (reset_in lists dates)
+    → Reads resets_path (reset_dates lists dates) (reset_in lists dates)
+unfolding facts row_of most_of
 reset_reads lists g dates =
-    let ref = reference_fills 52 53 "calculationPeriodDatesReference" dates refl refl in
-    let relative = leaf_or 52 54 "resetRelativeTo" ResetRelative relative_at Start (λ s. refl) (refl, refl, refl) in
-    let freq =
-    frequency_one 52 64 65 66 "resetFrequency" refl refl refl (refl, refl, refl, refl) (refl, refl, refl, refl) in
-    let adj = adjustments_or lists g 52 67 68 70 71 "resetDatesAdjustments" refl refl resets in
+    let p = resets_path in
+    let ref = reference_fills p "calculationPeriodDatesReference" dates refl in
+    let relative = leaf_or p "resetRelativeTo" ResetRelative relative_at Start (λ s. refl) refl in
+    let freq = frequency_one p "resetFrequency" refl refl refl in
+    let adj = adjustments_or lists g p "resetDatesAdjustments" refl (refl, refl, (refl, refl)) in
     record {
       gives = ref.gives ⊗ relative.gives
           ⊗ (λ d clean. fixings_give lists g (Some d) (once (codes "fixingDates") d)
-          (perhaps 52 55 "fixingDates" refl refl d clean))
+          (perhaps p "fixingDates" refl d clean))
           ⊗ freq.gives ⊗ adj.gives;
       only = λ d r h.
           let fix = fixings_only lists g (Some d) (once (codes "fixingDates") d) (r.fixing, r.fixing_ref) h.1.1.0 in
@@ -362,93 +345,104 @@ scale_agrees : (scale : Scale) → Agree (kind_by scale) (scale_at scale)
 scale_agrees Notionals s = refl
 scale_agrees Rates s = refl
 
--- r is the row of a schedule, i that of its first value, t that of its steps, y and z those of their leaves
-abbrev ScheduleRows : Scale → ℕ → ℕ → ℕ → ℕ → ℕ → Type 0
-ScheduleRows scale r i t y z =
-    LeafRow r i "initialValue" (kind_by scale) × (is_child ROWS r t ≡ true) × (name_at row_names t ≡ codes "step")
-    × LeafRow t y "stepDate" Date × LeafRow t z "stepValue" (kind_by scale)
+-- what the table says of a schedule at the end of a path
+abbrev ScheduleRows : Scale → Path → Type 0
+ScheduleRows scale p =
+    LeafRow p "initialValue" (kind_by scale) × May p "step" × LeafRow ("step" ∷ p) "stepDate" Date
+    × LeafRow ("step" ∷ p) "stepValue" (kind_by scale)
 
-step_reads : (scale : Scale) (t y z : ℕ) → LeafRow t y "stepDate" Date → LeafRow t z "stepValue" (kind_by scale)
-    → Reads t (step (text (kind_by scale) (scale_at scale))) (step_in scale)
-step_reads scale t y z day_row value_row =
-    let day = leaf_one t y "stepDate" Date day_at first_day (λ s. refl) day_row in
-    let value = leaf_one t z "stepValue" (kind_by scale) (scale_at scale) (pos 0) (scale_agrees scale) value_row in
+step_reads : (scale : Scale) (p : Path) → LeafRow p "stepDate" Date → LeafRow p "stepValue" (kind_by scale)
+    → Reads p (step (text (kind_by scale) (scale_at scale))) (step_in scale)
+step_reads scale p day_row value_row =
+    let day = leaf_one p "stepDate" Date day_at first_day (λ s. refl) day_row in
+    let value = leaf_one p "stepValue" (kind_by scale) (scale_at scale) (pos 0) (scale_agrees scale) value_row in
     record {
       gives = day.gives ⊗ value.gives;
       only = λ d s h. λ i. record { day = day.only d s.day h.0 i; value = value.only d s.value h.1 i };
     }
 
-schedule_fills : (scale : Scale) (r i t y z : ℕ) → ScheduleRows scale r i t y z
-    → Fills r (schedule (text (kind_by scale) (scale_at scale))) (λ d. schedule_in scale (Some d))
-schedule_fills scale r i t y z at =
-    let first =
-    leaf_one r i "initialValue" (kind_by scale) (scale_at scale) (pos 0) (scale_agrees scale) at.0 in
+schedule_fills : (scale : Scale) (p : Path) → ScheduleRows scale p
+    → Fills p (schedule (text (kind_by scale) (scale_at scale))) (λ d. schedule_in scale (Some d))
+schedule_fills scale p at =
+    let first = leaf_one p "initialValue" (kind_by scale) (scale_at scale) (pos 0) (scale_agrees scale) at.0 in
     let steps =
-    each_fills r t "step" (UpTo most_steps) (step (text (kind_by scale) (scale_at scale))) (step_in scale) at.1
-    at.2 (step_reads scale t y z at.3 at.4) in
+    each_fills p "step" (UpTo most_steps) (step (text (kind_by scale) (scale_at scale))) (step_in scale) at.1
+    (step_reads scale ("step" ∷ p) at.2 at.3) in
     record {
       gives = first.gives ⊗ steps.gives;
       only = λ d s h. λ j. record { initial = first.only d s.initial h.0 j; steps = steps.only d s.steps h.1 j };
     }
 
-schedule_reads : (r i t y z : ℕ) → ScheduleRows Rates r i t y z
-    → Reads r (holds object (schedule rate)) (λ d. schedule_in Rates (Some d))
-schedule_reads r i t y z at =
-    let h = schedule_fills Rates r i t y z at in
+schedule_reads : (p : Path) → ScheduleRows Rates p
+    → Reads p (holds object (schedule rate)) (λ d. schedule_in Rates (Some d))
+schedule_reads p at =
+    let h = schedule_fills Rates p at in
     record { gives = h.gives; only = h.only }
 
 -- a schedule of rates that may be absent, and then a value without steps
-schedule_or_fills : (v : ℤ) (r c i t y z : ℕ) (name : String) → is_child ROWS r c ≡ true
-    → name_at row_names c ≡ codes name → ScheduleRows Rates c i t y z
-    → Fills r (or_by name (holds object (schedule rate)) (λ _. always v)) (λ d. schedule_or v (once (codes name) d))
-schedule_or_fills v r c i t y z name child named at =
-    or_fills r c name (holds object (schedule rate)) (λ _. always v) (λ _ o. schedule_or v o) child named (λ d. refl)
-    (λ d. schedule_reads c i t y z at)
+schedule_or_fills : (v : ℤ) (p : Path) (name : String) → May p name → ScheduleRows Rates (name ∷ p)
+    → Fills p (or_by name (holds object (schedule rate)) (λ _. always v)) (λ d. schedule_or v (once (codes name) d))
+schedule_or_fills v p name row at =
+    or_fills p name (holds object (schedule rate)) (λ _. always v) (λ _ o. schedule_or v o) row (λ d. refl)
+    (λ d. schedule_reads (name ∷ p) at)
 
 -- ---- rates
 
--- an index with its tenor at row r
-indexed_fills : (r k t m u : ℕ) → LeafRow r k "floatingRateIndex" IndexName → is_child ROWS r t ≡ true
-    → name_at row_names t ≡ codes "indexTenor" → LeafRow t m "periodMultiplier" Multiplier
-    → LeafRow t u "period" TenorUnit
-    → Fills r indexed
-    (λ d. (word_in (once (codes "floatingRateIndex") d), option_map tenor_in (once (codes "indexTenor") d)))
-indexed_fills r k t m u index_row child named count_row unit_row =
+-- what the table says of an index with its tenor at the end of a path
+abbrev IndexedRows : Path → Type 0
+IndexedRows p =
+    LeafRow p "floatingRateIndex" IndexName × May p "indexTenor"
+    × LeafRow ("indexTenor" ∷ p) "periodMultiplier" Multiplier × LeafRow ("indexTenor" ∷ p) "period" TenorUnit
+
+-- the index and the tenor of a floating rate
+abbrev index_in : Data → List ℕ × Option Frequency
+index_in d = (word_in (once (codes "floatingRateIndex") d), option_map tenor_in (once (codes "indexTenor") d))
+
+indexed_fills : (p : Path) → IndexedRows p → Fills p indexed index_in
+indexed_fills p at =
     let index =
-    one_fills r k "floatingRateIndex" index_name word_in index_row.0 index_row.1 index_row.2
-    (word_reads k IndexName is_index_name (λ s. guard_is (is_index_name s) s) index_row.3) in
+    one_fills p "floatingRateIndex" index_name word_in at.0
+    (word_reads ("floatingRateIndex" ∷ p) IndexName is_index_name (λ s. guard_is (is_index_name s) s)
+    (is_leaf p "floatingRateIndex" at.0)) in
     let tenors =
-    maybe_fills r t "indexTenor" (holds object tenor) tenor_in child named
-    (whole t object tenor tenor_in (tenor_fills t m u count_row unit_row)) in
+    maybe_fills p "indexTenor" (holds object tenor) tenor_in at.1
+    (whole ("indexTenor" ∷ p) object tenor tenor_in (tenor_fills ("indexTenor" ∷ p) at.2 at.3)) in
     record {
       gives = index.gives ⊗ tenors.gives;
       only = λ d p h. λ i. (index.only d p.0 h.0 i, tenors.only d p.1 h.1 i);
     }
 
-rounded_reads : (places : ℕ) → Reads 102 rounded (λ d. rounding_in places (Some d))
+rounded_reads : (places : ℕ) → Reads ("finalRateRounding" ∷ floating_path) rounded (λ d. rounding_in places (Some d))
+unfolding facts row_of
 rounded_reads places =
-    let dir =
-    leaf_one 102 103 "roundingDirection" Direction direction_at Nearest (λ s. refl) (refl, refl, refl, refl) in
-    let precise = leaf_one 102 104 "precision" Precision precision_at places (λ s. refl) (refl, refl, refl, refl) in
+    let p = "finalRateRounding" ∷ floating_path in
+    let dir = leaf_one p "roundingDirection" Direction direction_at Nearest (λ s. refl) refl in
+    let precise = leaf_one p "precision" Precision precision_at places (λ s. refl) refl in
     record {
       gives = dir.gives ⊗ precise.gives;
       only = λ d r h. λ i. record { dir = dir.only d r.dir h.0 i; places = precise.only d r.places h.1 i };
     }
 
--- days at row c, in the leaf at row k
-observed_reads : (c k : ℕ) → LeafRow c k "offsetDays" ObservationDays → Reads c observed observation_days_in
-observed_reads c k row =
-    let h = leaf_one c k "offsetDays" ObservationDays observation_days_at 1 (λ s. refl) row in
+-- the member of the parameters with this name
+abbrev ObservedReads : String → Type 0
+ObservedReads name = Reads (name ∷ parameters_path) observed observation_days_in
+
+observed_reads : (name : String) → LeafRow (name ∷ parameters_path) "offsetDays" ObservationDays → ObservedReads name
+observed_reads name row =
+    let h = leaf_one (name ∷ parameters_path) "offsetDays" ObservationDays observation_days_at 1 (λ s. refl) row in
     record { gives = h.gives; only = h.only }
 
-shifts : Reads 108 observed observation_days_in
-shifts = observed_reads 108 109 (refl, refl, refl, refl)
+shifts : ObservedReads "observationShift"
+unfolding facts row_of
+shifts = observed_reads "observationShift" refl
 
-lookbacks : Reads 110 observed observation_days_in
-lookbacks = observed_reads 110 111 (refl, refl, refl, refl)
+lookbacks : ObservedReads "lookback"
+unfolding facts row_of
+lookbacks = observed_reads "lookback" refl
 
-lockouts : Reads 112 observed observation_days_in
-lockouts = observed_reads 112 113 (refl, refl, refl, refl)
+lockouts : ObservedReads "lockout"
+unfolding facts row_of
+lockouts = observed_reads "lockout" refl
 
 -- what these three members say
 abbrev ObservingSaid : Option Data → Option Data → Option Data → ObservationOffset → Type 0
@@ -456,7 +450,8 @@ ObservingSaid a b c =
     Says a observed.says Shift
     (Says b observed.says Lookback (Says c observed.says Lockout (λ o. o ≡ NoOffset)))
 
-observing_gives : (a b c : Option Data) → AtMost 108 a → AtMost 110 b → AtMost 112 c
+observing_gives : (a b c : Option Data) → AtMost ("observationShift" ∷ parameters_path) a
+    → AtMost ("lookback" ∷ parameters_path) b → AtMost ("lockout" ∷ parameters_path) c
     → ObservingSaid a b c (observation_offset_by a b c)
 observing_gives (Some x) b c p q r = (observation_days_in x, (refl, shifts.gives x p))
 observing_gives None (Some x) c p q r = (observation_days_in x, (refl, lookbacks.gives x q))
@@ -470,22 +465,22 @@ observing_only None (Some x) c o (n, (e, h)) = e ∙ ap Lookback (lookbacks.only
 observing_only None None (Some x) o (n, (e, h)) = e ∙ ap Lockout (lockouts.only x n h)
 observing_only None None None o h = h
 
-parameters_reads : Reads 106 parameters parameters_in
+parameters_reads : Reads parameters_path parameters parameters_in
+unfolding facts row_of
 parameters_reads =
-    let method =
-    leaf_one 106 107 "calculationMethod" CalculationMethod calculation_method_at ByCompounding (λ s. refl)
-    (refl, refl, refl, refl) in
+    let p = parameters_path in
+    let method = leaf_one p "calculationMethod" CalculationMethod calculation_method_at ByCompounding (λ s. refl) refl in
     let applicable =
-    one_fills 106 114 "applicableBusinessDays" center_list applicable_in refl refl refl
-    (names_reads 114 115 refl refl refl) in
+    one_fills p "applicableBusinessDays" center_list applicable_in refl
+    (names_reads ("applicableBusinessDays" ∷ p) refl) in
     let shift = once (codes "observationShift") in
     let lookback = once (codes "lookback") in
     let lockout = once (codes "lockout") in
     record {
       gives = method.gives
           ⊗ (λ d clean. observing_gives (shift d) (lookback d) (lockout d)
-          (perhaps 106 108 "observationShift" refl refl d clean) (perhaps 106 110 "lookback" refl refl d clean)
-          (perhaps 106 112 "lockout" refl refl d clean))
+          (perhaps p "observationShift" refl d clean) (perhaps p "lookback" refl d clean)
+          (perhaps p "lockout" refl d clean))
           ⊗ applicable.gives;
       only = λ d p h. λ i. record {
         method = method.only d p.method h.0 i;
@@ -494,26 +489,22 @@ parameters_reads =
       };
     }
 
-floating_reads : Reads 86 floating float_in
+floating_reads : Reads floating_path floating float_in
+unfolding facts row_of
 floating_reads =
-    let index =
-    indexed_fills 86 87 88 89 90 (refl, refl, refl, refl) refl refl (refl, refl, refl, refl) (refl, refl, refl, refl) in
-    let rows : ScheduleRows Rates 91 92 93 94 95 =
-    ((refl, refl, refl, refl), refl, refl, (refl, refl, refl, refl), (refl, refl, refl, refl)) in
-    let spreads : ScheduleRows Rates 96 97 98 99 100 =
-    ((refl, refl, refl, refl), refl, refl, (refl, refl, refl, refl), (refl, refl, refl, refl)) in
+    let p = floating_path in
+    let index = indexed_fills p (refl, refl, refl, refl) in
     let multiplier =
-    schedule_or_fills (pos 1_000_000_000) 86 91 92 93 94 95 "floatingRateMultiplierSchedule" refl refl rows in
-    let spread = schedule_or_fills (pos 0) 86 96 97 98 99 100 "spreadSchedule" refl refl spreads in
-    let initial = leaf_maybe 86 101 "initialRate" Rate rate_at (λ s. refl) (refl, refl, refl) in
+    schedule_or_fills (pos 1_000_000_000) p "floatingRateMultiplierSchedule" refl (refl, refl, refl, refl) in
+    let spread = schedule_or_fills (pos 0) p "spreadSchedule" refl (refl, refl, refl, refl) in
+    let initial = leaf_maybe p "initialRate" Rate rate_at (λ s. refl) refl in
     let round =
-    or_fills 86 102 "finalRateRounding" rounded
+    or_fills p "finalRateRounding" rounded
     (λ d. record { dir = Nearest; places = places_by (once (codes "calculationParameters") d) })
-    (λ d o. rounding_in (places_by (once (codes "calculationParameters") d)) o) refl refl (λ d. refl)
+    (λ d o. rounding_in (places_by (once (codes "calculationParameters") d)) o) refl (λ d. refl)
     (λ d. rounded_reads (places_by (once (codes "calculationParameters") d))) in
-    let treated =
-    leaf_or 86 105 "negativeInterestRateTreatment" Treatment treatment_at AsIs (λ s. refl) (refl, refl, refl) in
-    let daily = maybe_fills 86 106 "calculationParameters" parameters parameters_in refl refl parameters_reads in
+    let treated = leaf_or p "negativeInterestRateTreatment" Treatment treatment_at AsIs (λ s. refl) refl in
+    let daily = maybe_fills p "calculationParameters" parameters parameters_in refl parameters_reads in
     record {
       gives = index.gives ⊗ multiplier.gives ⊗ spread.gives ⊗ initial.gives ⊗ round.gives ⊗ treated.gives ⊗ daily.gives;
       only = λ d f h. λ i. record {
@@ -530,12 +521,13 @@ floating_reads =
 
 -- ---- legs and stubs
 
-fixed_rows : ScheduleRows Rates 81 82 83 84 85
-fixed_rows =
-    ((refl, refl, refl, refl), refl, refl, (refl, refl, refl, refl), (refl, refl, refl, refl))
+-- `fixedRateSchedule`
+abbrev fixed_path : Path
+fixed_path = "fixedRateSchedule" ∷ calculation_path
 
-fixed_reads : Reads 81 (holds object (schedule rate)) (λ d. schedule_in Rates (Some d))
-fixed_reads = schedule_reads 81 82 83 84 85 fixed_rows
+fixed_reads : Reads fixed_path (holds object (schedule rate)) (λ d. schedule_in Rates (Some d))
+unfolding facts row_of
+fixed_reads = schedule_reads fixed_path (refl, refl, refl, refl)
 
 -- of two members of which an object has exactly one, the second where the first is absent
 second_of : (a b : Option Data) → ((x : Data) × (a ≡ Some x)) ⊎ ((x : Data) × (b ≡ Some x)) → a ≡ None
@@ -549,12 +541,27 @@ first_of_two : (a b : Option Data) → ((x : Data) × (a ≡ Some x)) ⊎ ((x : 
 first_of_two a b (inl p) none = p
 first_of_two a b (inr (x, e)) none = cc
 
+-- the object at the end of a path has exactly one of two members
+abbrev ChoiceIs : Path → String → String → Type 0
+ChoiceIs p a b = kind_at (slice_get ROWS (row_of p)) ≡ Some (Object (ExactlyOne (row_of (a ∷ p)) (row_of (b ∷ p))))
+
+-- so one of them is there
+one_there : {k l : Option LeafKind} (p : Path) (a b : String) → RowIs p a false k → RowIs p b false l → ChoiceIs p a b
+    → (d : Data) → At p d
+    → ((x : Data) × (once (codes a) d ≡ Some x)) ⊎ ((x : Data) × (once (codes b) d ≡ Some x))
+one_there p a b first second choice d clean =
+    subst (λ (n : List ℕ). ((x : Data) × (once n d ≡ Some x)) ⊎ ((x : Data) × (once (codes b) d ≡ Some x)))
+    (is_named p a first)
+    (subst (λ (n : List ℕ). ((x : Data) × (once (name_at row_names (row_of (a ∷ p))) d ≡ Some x))
+    ⊎ ((x : Data) × (once n d ≡ Some x))) (is_named p b second)
+    (either_there ROWS row_names (row_of p) (row_of (a ∷ p)) (row_of (b ∷ p)) d choice clean.clean))
+
 -- what a leg's two members say
 abbrev LegSaid : Option Data → Option Data → Leg → Type 0
 LegSaid float fixed =
     Says float floating.says Floating (Says fixed (holds object (schedule rate)).says Fixed (λ _. ⊥))
 
-leg_gives : (float fixed : Option Data) → AtMost 86 float → AtMost 81 fixed
+leg_gives : (float fixed : Option Data) → AtMost floating_path float → AtMost fixed_path fixed
     → (float ≡ None → (x : Data) × (fixed ≡ Some x)) → LegSaid float fixed (leg_by float fixed)
 leg_gives (Some x) fixed p q other = (float_in x, (refl, floating_reads.gives x p))
 leg_gives None (Some y) p q other = (schedule_in Rates (Some y), (refl, fixed_reads.gives y q))
@@ -565,12 +572,9 @@ leg_only (Some x) fixed l (f, (e, h)) = e ∙ ap Floating (floating_reads.only x
 leg_only None (Some y) l (v, (e, h)) = e ∙ ap Fixed (fixed_reads.only y v h)
 leg_only None None l h = absurd h
 
--- the rows of a stub with an index, below row r
-abbrev StubRows : ℕ → ℕ → ℕ → ℕ → ℕ → ℕ → ℕ → Type 0
-StubRows r f k t m u c =
-    LeafRow f k "floatingRateIndex" IndexName × (is_child ROWS f t ≡ true) × (name_at row_names t ≡ codes "indexTenor")
-    × LeafRow t m "periodMultiplier" Multiplier × LeafRow t u "period" TenorUnit × (is_child ROWS r f ≡ true)
-    × (name_at row_names f ≡ codes "floatingRate") × FreeRow r c "stubRate" Rate
+-- what the table says of a stub at the end of a path
+abbrev StubRows : Path → Type 0
+StubRows p = May p "floatingRate" × FreeRow p "stubRate" Rate × IndexedRows ("floatingRate" ∷ p)
 
 -- what a stub's two members say
 abbrev StubSaid : Option Data → Option Data → StubRate → Type 0
@@ -578,74 +582,47 @@ StubSaid float stated =
     Says float (holds object indexed).says (λ (i : List ℕ × Option Frequency). Index i.0 i.1)
     (Says stated rate.says FixedStub (λ _. ⊥))
 
--- the index and the tenor of a floating rate
-abbrev index_in : Data → List ℕ × Option Frequency
-index_in d = (word_in (once (codes "floatingRateIndex") d), option_map tenor_in (once (codes "indexTenor") d))
-
-stub_gives : (f c : ℕ) → Reads f (holds object indexed) index_in → Reads c rate (λ d. number_in Rates (Some d))
-    → (float stated : Option Data) → AtMost f float → AtMost c stated
+stub_gives : (p q : Path) → Reads p (holds object indexed) index_in → Reads q rate (λ d. number_in Rates (Some d))
+    → (float stated : Option Data) → AtMost p float → AtMost q stated
     → (float ≡ None → (x : Data) × (stated ≡ Some x)) → StubSaid float stated (stub_by float stated)
-stub_gives f c indices rates (Some x) stated p q other = (index_in x, (refl, indices.gives x p))
-stub_gives f c indices rates None (Some y) p q other = (number_in Rates (Some y), (refl, rates.gives y q))
-stub_gives f c indices rates None None p q other = let (x, e) = other refl in cc
+stub_gives p q indices rates (Some x) stated a b other = (index_in x, (refl, indices.gives x a))
+stub_gives p q indices rates None (Some y) a b other = (number_in Rates (Some y), (refl, rates.gives y b))
+stub_gives p q indices rates None None a b other = let (x, e) = other refl in cc
 
-stub_only : (f c : ℕ) → Reads f (holds object indexed) index_in → Reads c rate (λ d. number_in Rates (Some d))
+stub_only : (p q : Path) → Reads p (holds object indexed) index_in → Reads q rate (λ d. number_in Rates (Some d))
     → (float stated : Option Data) (s : StubRate) → StubSaid float stated s → s ≡ stub_by float stated
-stub_only f c indices rates (Some x) stated s (v, (e, h)) =
+stub_only p q indices rates (Some x) stated s (v, (e, h)) =
     e ∙ ap (λ (i : List ℕ × Option Frequency). Index i.0 i.1) (indices.only x v h)
-stub_only f c indices rates None (Some y) s (v, (e, h)) = e ∙ ap FixedStub (rates.only y v h)
-stub_only f c indices rates None None s h = absurd h
+stub_only p q indices rates None (Some y) s (v, (e, h)) = e ∙ ap FixedStub (rates.only y v h)
+stub_only p q indices rates None None s h = absurd h
 
--- one of the two is there
-abbrev StubThere : ℕ → Type 0
-StubThere r =
-    (d : Data) → At r d
-    → ((x : Data) × (once (codes "floatingRate") d ≡ Some x)) ⊎ ((x : Data) × (once (codes "stubRate") d ≡ Some x))
-
-stub_reads : (r f k t m u c : ℕ) → StubRows r f k t m u c → StubThere r → Reads r stub stub_in
-stub_reads r f k t m u c at there_is =
-    let indices : Reads f (holds object indexed) index_in =
-    whole f object indexed index_in (indexed_fills f k t m u at.0 at.1 at.2 at.3 at.4) in
-    let rates : Reads c rate (λ d. number_in Rates (Some d)) =
-    leaf_reads c Rate rate_at (pos 0) (λ s. refl) at.7.2 in
+stub_reads : (p : Path) → StubRows p → ChoiceIs p "floatingRate" "stubRate" → Reads p stub stub_in
+stub_reads p at choice =
+    let indices : Reads ("floatingRate" ∷ p) (holds object indexed) index_in =
+    whole ("floatingRate" ∷ p) object indexed index_in (indexed_fills ("floatingRate" ∷ p) at.2) in
+    let rates : Reads ("stubRate" ∷ p) rate (λ d. number_in Rates (Some d)) =
+    leaf_reads ("stubRate" ∷ p) Rate rate_at (pos 0) (λ s. refl) (is_leaf p "stubRate" at.1) in
     let float = once (codes "floatingRate") in
     let stated = once (codes "stubRate") in
     record {
       gives = λ d clean.
-          stub_gives f c indices rates (float d) (stated d) (perhaps r f "floatingRate" at.5 at.6 d clean)
-          (perhaps r c "stubRate" at.7.0 at.7.1 d clean) (second_of (float d) (stated d) (there_is d clean));
-      only = λ d s h. stub_only f c indices rates (float d) (stated d) s h;
+          stub_gives ("floatingRate" ∷ p) ("stubRate" ∷ p) indices rates (float d) (stated d)
+          (perhaps p "floatingRate" at.0 d clean) (perhaps p "stubRate" at.1 d clean)
+          (second_of (float d) (stated d) (one_there p "floatingRate" "stubRate" at.0 at.1 choice d clean));
+      only = λ d s h. stub_only ("floatingRate" ∷ p) ("stubRate" ∷ p) indices rates (float d) (stated d) s h;
     }
 
-stubs_reads : (dates : Option Data) → Reads 118 (stubs dates) (stubs_in dates)
+stubs_reads : (dates : Option Data) → Reads stubs_path (stubs dates) (stubs_in dates)
+unfolding facts row_of
 stubs_reads dates =
-    let ref = reference_fills 118 119 "calculationPeriodDatesReference" dates refl refl in
+    let p = stubs_path in
+    let ref = reference_fills p "calculationPeriodDatesReference" dates refl in
     let initial =
-    maybe_fills 118 120 "initialStub" stub stub_in refl refl
-    (stub_reads 120 121 122 123 124 125 126 (
-      (refl, refl, refl, refl),
-      refl,
-      refl,
-      (refl, refl, refl, refl),
-      (refl, refl, refl, refl),
-      refl,
-      refl,
-      (refl, refl, refl),
-    )
-    (λ d clean. either_there ROWS row_names 120 121 126 d refl clean)) in
+    maybe_fills p "initialStub" stub stub_in refl
+    (stub_reads ("initialStub" ∷ p) (refl, refl, (refl, refl, refl, refl)) refl) in
     let last =
-    maybe_fills 118 127 "finalStub" stub stub_in refl refl
-    (stub_reads 127 128 129 130 131 132 133 (
-      (refl, refl, refl, refl),
-      refl,
-      refl,
-      (refl, refl, refl, refl),
-      (refl, refl, refl, refl),
-      refl,
-      refl,
-      (refl, refl, refl),
-    )
-    (λ d clean. either_there ROWS row_names 127 128 133 d refl clean)) in
+    maybe_fills p "finalStub" stub stub_in refl
+    (stub_reads ("finalStub" ∷ p) (refl, refl, (refl, refl, refl, refl)) refl) in
     record {
       gives = ref.gives ⊗ initial.gives ⊗ last.gives;
       only = λ d s h. λ i. record {
@@ -655,15 +632,20 @@ stubs_reads dates =
       };
     }
 
-exchange_one : (c : ℕ) (name : String) → LeafRow 134 c name Truth
-    → Fills 134 (one name (text Truth truth_at)) (λ d. truth_in (once (codes name) d))
-exchange_one c name row = leaf_one 134 c name Truth truth_at false (λ s. refl) row
+-- `principalExchanges`
+abbrev exchanges_path : Path
+exchanges_path = "principalExchanges" ∷ []
 
-exchanges_reads : Reads 134 exchanges (λ d. exchanges_in (Some d))
+exchange_one : (name : String) → LeafRow exchanges_path name Truth
+    → Fills exchanges_path (one name (text Truth truth_at)) (λ d. truth_in (once (codes name) d))
+exchange_one name row = leaf_one exchanges_path name Truth truth_at false (λ s. refl) row
+
+exchanges_reads : Reads exchanges_path exchanges (λ d. exchanges_in (Some d))
+unfolding facts row_of
 exchanges_reads =
-    let initial = exchange_one 135 "initialExchange" (refl, refl, refl, refl) in
-    let last = exchange_one 136 "finalExchange" (refl, refl, refl, refl) in
-    let between = exchange_one 137 "intermediateExchange" (refl, refl, refl, refl) in
+    let initial = exchange_one "initialExchange" refl in
+    let last = exchange_one "finalExchange" refl in
+    let between = exchange_one "intermediateExchange" refl in
     record {
       gives = initial.gives ⊗ last.gives ⊗ between.gives;
       only = λ d e h. λ i. record {
@@ -699,58 +681,70 @@ record CalculationRead (calc : Option Data) (s : Stream) : Type 0 where
   compounding : s.compounding ≡ unwrap_or (said compounding_at (member (codes "compoundingMethod") calc)) Simple
 
 effective_fills : (lists : List (Option Data)) → GoodLists lists
-    → Fills 1 (one "effectiveDate" (adjustable lists)) (λ d. dated_in lists (once (codes "effectiveDate") d))
+    → Fills dates_path (one "effectiveDate" (adjustable lists)) (λ d. dated_in lists (once (codes "effectiveDate") d))
+unfolding facts row_of most_of
 effective_fills lists g =
-    one_fills 1 2 "effectiveDate" (adjustable lists) (dated_in lists) refl refl refl
-    (dated_reads lists g 2 3 4 5 7 8
-    ((refl, refl, refl, refl), refl, refl, refl, effective))
+    one_fills dates_path "effectiveDate" (adjustable lists) (dated_in lists) refl
+    (dated_reads lists g ("effectiveDate" ∷ dates_path) (refl, refl, (refl, refl, (refl, refl))))
 
 termination_fills : (lists : List (Option Data)) → GoodLists lists
-    → Fills 1 (one "terminationDate" (adjustable lists)) (λ d. dated_in lists (once (codes "terminationDate") d))
+    → Fills dates_path (one "terminationDate" (adjustable lists))
+    (λ d. dated_in lists (once (codes "terminationDate") d))
+unfolding facts row_of most_of
 termination_fills lists g =
-    one_fills 1 9 "terminationDate" (adjustable lists) (dated_in lists) refl refl refl
-    (dated_reads lists g 9 10 11 12 14 15
-    ((refl, refl, refl, refl), refl, refl, refl, termination))
+    one_fills dates_path "terminationDate" (adjustable lists) (dated_in lists) refl
+    (dated_reads lists g ("terminationDate" ∷ dates_path) (refl, refl, (refl, refl, (refl, refl))))
 
 period_fills : (lists : List (Option Data)) → GoodLists lists
-    → Fills 1 (one "calculationPeriodDatesAdjustments" (adjustments lists))
+    → Fills dates_path (one "calculationPeriodDatesAdjustments" (adjustments lists))
     (λ d. adjustments_in lists (once (codes "calculationPeriodDatesAdjustments") d))
+unfolding facts row_of most_of
 period_fills lists g =
-    one_fills 1 16 "calculationPeriodDatesAdjustments" (adjustments lists) (adjustments_in lists) refl refl refl
-    (adjustments_reads lists g 16 17 19 20 periods)
+    one_fills dates_path "calculationPeriodDatesAdjustments" (adjustments lists) (adjustments_in lists) refl
+    (adjustments_reads lists g ("calculationPeriodDatesAdjustments" ∷ dates_path) (refl, refl, (refl, refl)))
 
 start_fills : (lists : List (Option Data)) → GoodLists lists
-    → Fills 1 (maybe "firstPeriodStartDate" (adjustable lists))
+    → Fills dates_path (maybe "firstPeriodStartDate" (adjustable lists))
     (λ d. maybe_dated_in lists (once (codes "firstPeriodStartDate") d))
+unfolding facts row_of most_of
 start_fills lists g =
-    maybe_fills 1 21 "firstPeriodStartDate" (adjustable lists) (λ d. dated_in lists (Some d)) refl refl
-    (dated_reads lists g 21 22 23 24 26 27
-    ((refl, refl, refl, refl), refl, refl, refl, firsts))
+    maybe_fills dates_path "firstPeriodStartDate" (adjustable lists) (λ d. dated_in lists (Some d)) refl
+    (dated_reads lists g ("firstPeriodStartDate" ∷ dates_path) (refl, refl, (refl, refl, (refl, refl))))
 
-first_fills : Fills 1 (maybe "firstRegularPeriodStartDate" date)
+first_fills : Fills dates_path (maybe "firstRegularPeriodStartDate" date)
     (λ d. said day_at (once (codes "firstRegularPeriodStartDate") d))
-first_fills = leaf_maybe 1 28 "firstRegularPeriodStartDate" Date day_at (λ s. refl) (refl, refl, refl)
+unfolding facts row_of
+first_fills = leaf_maybe dates_path "firstRegularPeriodStartDate" Date day_at (λ s. refl) refl
 
-last_fills : Fills 1 (maybe "lastRegularPeriodEndDate" date)
+last_fills : Fills dates_path (maybe "lastRegularPeriodEndDate" date)
     (λ d. said day_at (once (codes "lastRegularPeriodEndDate") d))
-last_fills = leaf_maybe 1 29 "lastRegularPeriodEndDate" Date day_at (λ s. refl) (refl, refl, refl)
+unfolding facts row_of
+last_fills = leaf_maybe dates_path "lastRegularPeriodEndDate" Date day_at (λ s. refl) refl
 
-stub_fills : Fills 1 (maybe "stubPeriodType" (text StubType stub_kind_at))
+stub_fills : Fills dates_path (maybe "stubPeriodType" (text StubType stub_kind_at))
     (λ d. said stub_kind_at (once (codes "stubPeriodType") d))
-stub_fills = leaf_maybe 1 30 "stubPeriodType" StubType stub_kind_at (λ s. refl) (refl, refl, refl)
+unfolding facts row_of
+stub_fills = leaf_maybe dates_path "stubPeriodType" StubType stub_kind_at (λ s. refl) refl
 
-times_fills : Fills 31 frequency (λ d. frequency_in (Some d))
-times_fills = frequency_fills 31 32 33 (refl, refl, refl, refl) (refl, refl, refl, refl)
+-- `calculationPeriodFrequency`
+abbrev times_path : Path
+times_path = "calculationPeriodFrequency" ∷ dates_path
 
-roll_fills : Fills 31 (one "rollConvention" (text Roll roll_at))
+times_fills : Fills times_path frequency (λ d. frequency_in (Some d))
+unfolding facts row_of
+times_fills = frequency_fills times_path refl refl
+
+roll_fills : Fills times_path (one "rollConvention" (text Roll roll_at))
     (λ d. unwrap_or (said roll_at (once (codes "rollConvention") d)) NoRoll)
-roll_fills = leaf_one 31 34 "rollConvention" Roll roll_at NoRoll (λ s. refl) (refl, refl, refl, refl)
+unfolding facts row_of
+roll_fills = leaf_one times_path "rollConvention" Roll roll_at NoRoll (λ s. refl) refl
 
 -- `calculationPeriodDates` says what is read of it
-dates_give : (lists : List (Option Data)) → GoodLists lists → (x : Data) → At 1 x → (s : Stream)
+dates_give : (lists : List (Option Data)) → GoodLists lists → (x : Data) → At dates_path x → (s : Stream)
     → DatesRead lists (Some x) (once (codes "calculationPeriodFrequency") x) s → (period_dates lists).says x s
+unfolding facts row_of
 dates_give lists g x clean s r =
-    let (y, (e, inner)) = there 1 31 "calculationPeriodFrequency" refl refl refl x clean in
+    let (y, (e, inner)) = there dates_path "calculationPeriodFrequency" refl x clean in
     let at : DatesRead lists (Some x) (Some y) s = subst (λ o. DatesRead lists (Some x) o s) e r in
     let times = same_says times_fills y inner s.freq at.freq & same_says roll_fills y inner s.roll at.roll in
     same_says (effective_fills lists g) x clean s.effective r.effective
@@ -783,28 +777,36 @@ dates_only lists g x s (effective, (termination, (period, (start, (first, (last,
       roll = rw e (roll_fills.only y s.roll roll);
     }
 
-notional_fills : Fills 75 (schedule notional) (λ d. schedule_in Notionals (Some d))
-notional_fills =
-    schedule_fills Notionals 75 76 77 78 79
-    (((refl, refl, refl, refl), refl, refl, (refl, refl, refl, refl), (refl, refl, refl, refl)))
+-- `notionalStepSchedule`
+abbrev notionals_path : Path
+notionals_path = "notionalStepSchedule" ∷ "notionalSchedule" ∷ calculation_path
 
-currency_fills : Fills 75 (one "currency" (text CurrencyName currency_at))
+notional_fills : Fills notionals_path (schedule notional) (λ d. schedule_in Notionals (Some d))
+unfolding facts row_of
+notional_fills = schedule_fills Notionals notionals_path (refl, refl, refl, refl)
+
+currency_fills : Fills notionals_path (one "currency" (text CurrencyName currency_at))
     (λ d. unwrap_or (said currency_at (once (codes "currency") d)) no_currency)
-currency_fills = leaf_one 75 80 "currency" CurrencyName currency_at no_currency (λ s. refl) (refl, refl, refl, refl)
+unfolding facts row_of
+currency_fills = leaf_one notionals_path "currency" CurrencyName currency_at no_currency (λ s. refl) refl
 
-count_fills : Fills 73 (one "dayCountFraction" (text DayCount day_count_at))
+count_fills : Fills calculation_path (one "dayCountFraction" (text DayCount day_count_at))
     (λ d. unwrap_or (said day_count_at (once (codes "dayCountFraction") d)) OneOne)
-count_fills = leaf_one 73 116 "dayCountFraction" DayCount day_count_at OneOne (λ s. refl) (refl, refl, refl, refl)
+unfolding facts row_of
+count_fills = leaf_one calculation_path "dayCountFraction" DayCount day_count_at OneOne (λ s. refl) refl
 
-method_fills : Fills 73 (or_by "compoundingMethod" (text Compounding compounding_at) (λ _. Simple))
+method_fills : Fills calculation_path (or_by "compoundingMethod" (text Compounding compounding_at) (λ _. Simple))
     (λ d. unwrap_or (said compounding_at (once (codes "compoundingMethod") d)) Simple)
-method_fills = leaf_or 73 117 "compoundingMethod" Compounding compounding_at Simple (λ s. refl) (refl, refl, refl)
+unfolding facts row_of
+method_fills = leaf_or calculation_path "compoundingMethod" Compounding compounding_at Simple (λ s. refl) refl
 
 -- `calculation` says what is read of it
-calculation_gives : (x : Data) → At 73 x → (s : Stream) → CalculationRead (Some x) s → calculation.says x s
+calculation_gives : (x : Data) → At calculation_path x → (s : Stream) → CalculationRead (Some x) s
+    → calculation.says x s
+unfolding facts row_of
 calculation_gives x clean s r =
-    let (y, (e, inner)) = there 73 74 "notionalSchedule" refl refl refl x clean in
-    let (z, (f, innermost)) = there 74 75 "notionalStepSchedule" refl refl refl y inner in
+    let (y, (e, inner)) = there calculation_path "notionalSchedule" refl x clean in
+    let (z, (f, innermost)) = there ("notionalSchedule" ∷ calculation_path) "notionalStepSchedule" refl y inner in
     let path = ap (member (codes "notionalStepSchedule")) e ∙ f in
     let notionals : s.notional ≡ schedule_in Notionals (Some z) = r.notional ∙ ap (schedule_in Notionals) path in
     let currency : s.currency ≡ unwrap_or (said currency_at (once (codes "currency") z)) no_currency =
@@ -814,9 +816,10 @@ calculation_gives x clean s r =
     & same_says currency_fills z innermost s.currency currency in
     let legs : leg.says x (leg_by (once (codes "floatingRateCalculation") x) (once (codes "fixedRateSchedule") x)) =
     leg_gives (once (codes "floatingRateCalculation") x) (once (codes "fixedRateSchedule") x)
-    (perhaps 73 86 "floatingRateCalculation" refl refl x clean) (perhaps 73 81 "fixedRateSchedule" refl refl x clean)
+    (perhaps calculation_path "floatingRateCalculation" refl x clean)
+    (perhaps calculation_path "fixedRateSchedule" refl x clean)
     (first_of_two (once (codes "fixedRateSchedule") x) (once (codes "floatingRateCalculation") x)
-    (either_there ROWS row_names 73 81 86 x refl clean)) in
+    (one_there calculation_path "fixedRateSchedule" "floatingRateCalculation" refl refl refl x clean)) in
     rw e (s, (refl, rw f (s, (refl, values))))
     & subst (leg.says x) (sym r.leg) legs
     & same_says count_fills x clean s.day_count r.day_count
@@ -849,30 +852,34 @@ calculation_only x s (notionals, (legs, (count, method))) =
 -- ---- streams
 
 pay_fills : (lists : List (Option Data)) → GoodLists lists → (dates : Option Data)
-    → Fills 0 (one "paymentDates" (payment_dates lists dates)) (λ d. pay_in lists dates (once (codes "paymentDates") d))
+    → Fills [] (one "paymentDates" (payment_dates lists dates))
+    (λ d. pay_in lists dates (once (codes "paymentDates") d))
+unfolding facts row_of
 pay_fills lists g dates =
-    one_fills 0 35 "paymentDates" (payment_dates lists dates) (pay_in lists dates) refl refl refl
-    (pay_reads lists g dates)
+    one_fills [] "paymentDates" (payment_dates lists dates) (pay_in lists dates) refl (pay_reads lists g dates)
 
 resets_fills : (lists : List (Option Data)) → GoodLists lists → (dates : Option Data)
-    → Fills 0 (maybe "resetDates" (reset_dates lists dates))
+    → Fills [] (maybe "resetDates" (reset_dates lists dates))
     (λ d. option_map (reset_in lists dates) (once (codes "resetDates") d))
+unfolding facts row_of
 resets_fills lists g dates =
-    maybe_fills 0 52 "resetDates" (reset_dates lists dates) (reset_in lists dates) refl refl (reset_reads lists g dates)
+    maybe_fills [] "resetDates" (reset_dates lists dates) (reset_in lists dates) refl (reset_reads lists g dates)
 
-stubs_fills : (dates : Option Data) → Fills 0 (maybe "stubCalculationPeriodAmount" (stubs dates))
+stubs_fills : (dates : Option Data) → Fills [] (maybe "stubCalculationPeriodAmount" (stubs dates))
     (λ d. option_map (stubs_in dates) (once (codes "stubCalculationPeriodAmount") d))
+unfolding facts row_of
 stubs_fills dates =
-    maybe_fills 0 118 "stubCalculationPeriodAmount" (stubs dates) (stubs_in dates) refl refl (stubs_reads dates)
+    maybe_fills [] "stubCalculationPeriodAmount" (stubs dates) (stubs_in dates) refl (stubs_reads dates)
 
 -- no principal is exchanged
 abbrev no_exchange : ExchangeFlags
 no_exchange = record { initial = false; intermediate = false; last = false }
 
-exchanges_fills : Fills 0 (or_by "principalExchanges" exchanges (λ _. no_exchange))
+exchanges_fills : Fills [] (or_by "principalExchanges" exchanges (λ _. no_exchange))
     (λ d. exchanges_in (once (codes "principalExchanges") d))
+unfolding facts row_of
 exchanges_fills =
-    or_fills 0 134 "principalExchanges" exchanges (λ _. no_exchange) (λ _ o. exchanges_in o) refl refl (λ d. refl)
+    or_fills [] "principalExchanges" exchanges (λ _. no_exchange) (λ _ o. exchanges_in o) refl (λ d. refl)
     (λ d. exchanges_reads)
 
 -- what `calculationPeriodAmount` says
@@ -880,16 +887,16 @@ abbrev AmountSaid : Data → Stream → Type 0
 AmountSaid y = Says (once (codes "calculation") y) calculation.says (λ a. a) (λ _. ⊥)
 
 -- a clean stream says what is read of it
-pub stream_gives : (lists : List (Option Data)) → GoodLists lists → (d : Data) → At 0 d
+pub stream_gives : (lists : List (Option Data)) → GoodLists lists → (d : Data) → At [] d
     → StreamSays lists d (stream_in lists d)
-unfolding StreamSays stream_in
+unfolding StreamSays stream_in facts row_of
 stream_gives lists g d clean =
     let dates = once (codes "calculationPeriodDates") d in
     let calc = member (codes "calculation") (once (codes "calculationPeriodAmount") d) in
     let s = stream_parts lists d dates (member (codes "calculationPeriodFrequency") dates) calc in
-    let (x, (e, inner)) = there 0 1 "calculationPeriodDates" refl refl refl d clean in
-    let (y, (f, middle)) = there 0 72 "calculationPeriodAmount" refl refl refl d clean in
-    let (z, (k, innermost)) = there 72 73 "calculation" refl refl refl y middle in
+    let (x, (e, inner)) = there [] "calculationPeriodDates" refl d clean in
+    let (y, (f, middle)) = there [] "calculationPeriodAmount" refl d clean in
+    let (z, (k, innermost)) = there ("calculationPeriodAmount" ∷ []) "calculation" refl y middle in
     let dated : DatesRead lists dates (member (codes "calculationPeriodFrequency") dates) s =
     record {
       effective = refl;

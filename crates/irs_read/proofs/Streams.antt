@@ -6,15 +6,17 @@ use Rattle.irs_elements.specs.Elements.{name_at}
 use Rattle.irs_elements.specs.Find.{member, once, values_in}
 use Rattle.irs_elements.specs.Numbers.{multiplier_at, observation_days_at, offset_at, precision_at, rate_at}
 use Rattle.irs_elements.specs.Words.{currency_at}
-use Rattle.irs_elements.specs.declared.table.Leaf.TheVariants.{CenterName, IndexName}
+use Prim.Native.String.{String}
+use Rattle.irs_elements.specs.declared.table.Leaf.TheVariants.{CenterName, Convention, IndexName}
 use Rattle.irs_read.proofs.CenterLists.{names_reads}
-use Rattle.irs_read.proofs.Clean.{clean_leaf, clean_member, clean_once, clean_there, fine_values, is_child}
-use Rattle.irs_read.proofs.Clean.{leaf_at, most_at, required_at, some_value}
-use Rattle.irs_read.proofs.Fills.{At, AtMost}
+use Rattle.irs_read.proofs.Clean.{Clean, clean_leaf, fine_values, leaf_at, most_at, some_value}
+use Rattle.irs_read.proofs.Fills.{below, perhaps, there}
 use Rattle.irs_read.proofs.Ranges.{InScale, capitals, currency_range, day_range, first_is_day, multiplier_range}
 use Rattle.irs_read.proofs.Ranges.{observation_days_range, offset_range, or_in, precision_range, rate_range}
 use Rattle.irs_read.proofs.Ranges.{roll_range, said_in, scale_range}
 use Rattle.irs_read.proofs.Ranges.{tenor_unit_range, zero_range}
+use Rattle.irs_read.proofs.Rows.{At, AtMost, LeafRow, May, Must, Path, RowIs, facts, is_leaf, is_member, is_named}
+use Rattle.irs_read.proofs.Rows.{is_needed, most_of, row_of}
 use Rattle.irs_read.proofs.Words.{center_lawful, index_word}
 use Rattle.irs_read.specs.Private.Meaning.{adjustments_in, centers_by, dated_in, day_in, fix_in, float_in}
 use Rattle.irs_read.specs.Private.Meaning.{frequency_in, leg_by}
@@ -140,14 +142,13 @@ abbrev pub GoodLists : List (Option Data) → Type 0
 GoodLists [] = Unit {0}
 GoodLists (o ∷ os) = GoodList o × GoodLists os
 
--- c is the row of the names of the list at row r
-abbrev pub CenterRows : ℕ → ℕ → Type 0
-CenterRows r c =
-    (is_child ROWS r c ≡ true) × (required_at (slice_get ROWS c) ≡ true) × (most_at (slice_get ROWS c) ≡ most_centers)
-    × (leaf_at (slice_get ROWS c) ≡ Some CenterName) × (name_at row_names c ≡ codes "businessCenter")
+-- what the table says of a list of centres at the end of a path
+abbrev pub CenterRows : Path → Type 0
+CenterRows p = LeafRow p "businessCenter" CenterName × (most_of ("businessCenter" ∷ p) ≡ most_centers)
 
 each_name : (c : ℕ) (ds : List Data) → leaf_at (slice_get ROWS c) ≡ Some CenterName
-    → ((j : ℕ) (x : Data) → slice_get ds j ≡ Some x → At c x) → All IsLawfulName (map (λ x. word_in (Some x)) ds)
+    → ((j : ℕ) (x : Data) → slice_get ds j ≡ Some x → Clean ROWS row_names c x)
+    → All IsLawfulName (map (λ x. word_in (Some x)) ds)
 each_name c ds leaf clean =
     All-map IsLawfulName (λ x. word_in (Some x)) ds
     (λ k d lt. center_lawful (get_or ds k d)
@@ -159,58 +160,34 @@ few_names : (ds : List Data) (m : ℕ) → 0 < length ds → length ds ≤ m →
 few_names ds m some few most all =
     (omega (arith, length-map ds (λ x. word_in (Some x))), omega (arith, length-map ds (λ x. word_in (Some x))), all)
 
-list_lawful : (r c : ℕ) → CenterRows r c → (d : Data) → At r d → IsLawfulNames (names_in d)
-list_lawful r c at d clean =
-    let fine = fine_values ROWS row_names r c (Some d) at.0 clean in
-    let some = some_value ROWS row_names r c d at.0 at.1 clean in
-    subst (λ (n : List ℕ). IsLawfulNames (map (λ x. word_in (Some x)) (values_in n (Some d)))) at.4
-    (few_names (values_in (name_at row_names c) (Some d)) (most_at (slice_get ROWS c)) some fine.0 at.2
-    (each_name c (values_in (name_at row_names c) (Some d)) at.3 fine.1))
+list_lawful : (p : Path) → CenterRows p → (d : Data) → At p d → IsLawfulNames (names_in d)
+unfolding most_of
+list_lawful p at d clean =
+    let r = row_of p in
+    let c = row_of ("businessCenter" ∷ p) in
+    let child = is_member p "businessCenter" at.0 in
+    let fine = fine_values ROWS row_names r c (Some d) child clean.clean in
+    let some = some_value ROWS row_names r c d child (is_needed p "businessCenter" at.0) clean.clean in
+    subst (λ (n : List ℕ). IsLawfulNames (map (λ x. word_in (Some x)) (values_in n (Some d))))
+    (is_named p "businessCenter" at.0)
+    (few_names (values_in (name_at row_names c) (Some d)) (most_at (slice_get ROWS c)) some fine.0 at.1
+    (each_name c (values_in (name_at row_names c) (Some d)) (is_leaf p "businessCenter" at.0) fine.1))
 
-good_list : (r c : ℕ) → CenterRows r c → (o : Option Data) → AtMost r o → GoodList o
-good_list r c at None clean = tt
-good_list r c at (Some d) clean =
-    (list_lawful r c at d clean, (names_reads r c at.0 at.4 at.3).gives d clean)
+good_list : (p : Path) → CenterRows p → (o : Option Data) → AtMost p o → GoodList o
+good_list p at None clean = tt
+good_list p at (Some d) clean = (list_lawful p at d clean, (names_reads p at.0).gives d clean)
 
--- r is the row of adjustments, b that of their list of centres, and c that of its names
-abbrev pub AdjustmentRows : ℕ → ℕ → ℕ → Type 0
-AdjustmentRows r b c =
-    (is_child ROWS r b ≡ true) × (name_at row_names b ≡ codes "businessCenters") × CenterRows b c
+-- what the table says of adjustments at the end of a path
+abbrev pub AdjustingRows : Path → Type 0
+AdjustingRows p =
+    LeafRow p "businessDayConvention" Convention × May p "businessCenters" × CenterRows ("businessCenters" ∷ p)
 
 -- the list below clean adjustments
-pub good_below : (r b c : ℕ) → AdjustmentRows r b c → (o : Option Data) → AtMost r o
+pub good_below : (p : Path) → AdjustingRows p → (o : Option Data) → AtMost p o
     → GoodList (member (codes "businessCenters") o)
-good_below r b c at o clean =
-    good_list b c at.2 (member (codes "businessCenters") o)
-    (subst (λ (n : List ℕ). AtMost b (member n o)) at.1 (clean_member ROWS row_names r b o at.0 clean))
-
--- the rows of the adjustments of the effective date
-pub effective_rows : AdjustmentRows 4 7 8
-effective_rows = (refl, refl, (refl, refl, refl, refl, refl))
-
--- the rows of the adjustments of the termination date
-pub termination_rows : AdjustmentRows 11 14 15
-termination_rows = (refl, refl, (refl, refl, refl, refl, refl))
-
--- the rows of the adjustments of the ends of periods
-pub period_rows : AdjustmentRows 16 19 20
-period_rows = (refl, refl, (refl, refl, refl, refl, refl))
-
--- the rows of the adjustments of the start of the first period
-pub first_rows : AdjustmentRows 23 26 27
-first_rows = (refl, refl, (refl, refl, refl, refl, refl))
-
--- the rows of the adjustments of payments
-pub payment_rows : AdjustmentRows 47 50 51
-payment_rows = (refl, refl, (refl, refl, refl, refl, refl))
-
--- the rows of the adjustments of fixing dates
-pub fixing_rows : AdjustmentRows 55 61 62
-fixing_rows = (refl, refl, (refl, refl, refl, refl, refl))
-
--- the rows of the adjustments of resets
-pub reset_rows : AdjustmentRows 67 70 71
-reset_rows = (refl, refl, (refl, refl, refl, refl, refl))
+good_below p at o clean =
+    good_list ("businessCenters" ∷ p) at.2 (member (codes "businessCenters") o)
+    (below p "businessCenters" at.1 o clean)
 
 -- ---- the parts of a stream
 
@@ -222,61 +199,78 @@ Dates d = once (codes "calculationPeriodDates") d
 abbrev Centers : Option Data → Option Data
 Centers o = member (codes "businessCenters") o
 
-dates_clean : (d : Data) → At 0 d → AtMost 1 (Dates d)
-dates_clean d clean = clean_once ROWS row_names 0 1 d refl clean
+-- `calculationPeriodDates`
+abbrev pub dates_path : Path
+dates_path = "calculationPeriodDates" ∷ []
 
-effective_good : (dates : Option Data) → AtMost 1 dates
+-- `paymentDates`
+abbrev pub payments_path : Path
+payments_path = "paymentDates" ∷ []
+
+-- `resetDates`
+abbrev pub resets_path : Path
+resets_path = "resetDates" ∷ []
+
+-- the list in the adjustments with this name, below what is clean
+adjusted_good : {must : Bool} (p : Path) (name : String) → RowIs p name must None → AdjustingRows (name ∷ p)
+    → (o : Option Data) → AtMost p o → GoodList (Centers (member (codes name) o))
+adjusted_good p name row at o clean = good_below (name ∷ p) at (member (codes name) o) (below p name row o clean)
+
+-- the list in the adjustments of the date with this name
+dated_good : {must : Bool} (name : String) → RowIs dates_path name must None → Must (name ∷ dates_path) "dateAdjustments"
+    → AdjustingRows ("dateAdjustments" ∷ name ∷ dates_path) → (dates : Option Data) → AtMost dates_path dates
+    → GoodList (Centers (member (codes "dateAdjustments") (member (codes name) dates)))
+dated_good name row adj at dates clean =
+    adjusted_good (name ∷ dates_path) "dateAdjustments" adj at (member (codes name) dates)
+    (below dates_path name row dates clean)
+
+effective_good : (dates : Option Data) → AtMost dates_path dates
     → GoodList (Centers (member (codes "dateAdjustments") (member (codes "effectiveDate") dates)))
-effective_good dates clean =
-    good_below 4 7 8 effective_rows _
-    (clean_member ROWS row_names 2 4 (member (codes "effectiveDate") dates) refl
-    (clean_member ROWS row_names 1 2 dates refl clean))
+unfolding facts row_of most_of
+effective_good = dated_good "effectiveDate" refl refl (refl, refl, (refl, refl))
 
-termination_good : (dates : Option Data) → AtMost 1 dates
+termination_good : (dates : Option Data) → AtMost dates_path dates
     → GoodList (Centers (member (codes "dateAdjustments") (member (codes "terminationDate") dates)))
-termination_good dates clean =
-    good_below 11 14 15 termination_rows _
-    (clean_member ROWS row_names 9 11 (member (codes "terminationDate") dates) refl
-    (clean_member ROWS row_names 1 9 dates refl clean))
+unfolding facts row_of most_of
+termination_good = dated_good "terminationDate" refl refl (refl, refl, (refl, refl))
 
-period_good : (dates : Option Data) → AtMost 1 dates
-    → GoodList (Centers (member (codes "calculationPeriodDatesAdjustments") dates))
-period_good dates clean = good_below 16 19 20 period_rows _ (clean_member ROWS row_names 1 16 dates refl clean)
-
-first_good : (dates : Option Data) → AtMost 1 dates
+first_good : (dates : Option Data) → AtMost dates_path dates
     → GoodList (Centers (member (codes "dateAdjustments") (member (codes "firstPeriodStartDate") dates)))
-first_good dates clean =
-    good_below 23 26 27 first_rows _
-    (clean_member ROWS row_names 21 23 (member (codes "firstPeriodStartDate") dates) refl
-    (clean_member ROWS row_names 1 21 dates refl clean))
+unfolding facts row_of most_of
+first_good = dated_good "firstPeriodStartDate" refl refl (refl, refl, (refl, refl))
 
-payment_good : (pay : Option Data) → AtMost 35 pay → GoodList (Centers (member (codes "paymentDatesAdjustments") pay))
-payment_good pay clean = good_below 47 50 51 payment_rows _ (clean_member ROWS row_names 35 47 pay refl clean)
+period_good : (dates : Option Data) → AtMost dates_path dates
+    → GoodList (Centers (member (codes "calculationPeriodDatesAdjustments") dates))
+unfolding facts row_of most_of
+period_good = adjusted_good dates_path "calculationPeriodDatesAdjustments" refl (refl, refl, (refl, refl))
 
-fixing_good : (resets : Option Data) → AtMost 52 resets → GoodList (Centers (member (codes "fixingDates") resets))
-fixing_good resets clean = good_below 55 61 62 fixing_rows _ (clean_member ROWS row_names 52 55 resets refl clean)
+payment_good : (pay : Option Data) → AtMost payments_path pay
+    → GoodList (Centers (member (codes "paymentDatesAdjustments") pay))
+unfolding facts row_of most_of
+payment_good = adjusted_good payments_path "paymentDatesAdjustments" refl (refl, refl, (refl, refl))
 
-reset_good : (resets : Option Data) → AtMost 52 resets
+fixing_good : (resets : Option Data) → AtMost resets_path resets
+    → GoodList (Centers (member (codes "fixingDates") resets))
+unfolding facts row_of most_of
+fixing_good = adjusted_good resets_path "fixingDates" refl (refl, refl, (refl, refl))
+
+reset_good : (resets : Option Data) → AtMost resets_path resets
     → GoodList (Centers (member (codes "resetDatesAdjustments") resets))
-reset_good resets clean = good_below 67 70 71 reset_rows _ (clean_member ROWS row_names 52 67 resets refl clean)
+unfolding facts row_of most_of
+reset_good = adjusted_good resets_path "resetDatesAdjustments" refl (refl, refl, (refl, refl))
 
-lists_good : (d : Data) → At 0 d → GoodLists (lists_in d)
+lists_good : (d : Data) → At [] d → GoodLists (lists_in d)
+unfolding facts row_of
 lists_good d clean =
-    let dates = dates_clean d clean in
-    let pay : AtMost 35 (once (codes "paymentDates") d) = clean_once ROWS row_names 0 35 d refl clean in
-    let resets : AtMost 52 (once (codes "resetDates") d) = clean_once ROWS row_names 0 52 d refl clean in (
-      effective_good (Dates d) dates,
+    let dates : AtMost dates_path (Dates d) = perhaps [] "calculationPeriodDates" refl d clean in
+    let pay : AtMost payments_path (once (codes "paymentDates") d) = perhaps [] "paymentDates" refl d clean in
+    let resets : AtMost resets_path (once (codes "resetDates") d) = perhaps [] "resetDates" refl d clean in (
+      effective_good _ dates,
       (
-        termination_good (Dates d) dates,
+        termination_good _ dates,
         (
-          period_good (Dates d) dates,
-          (
-            first_good (Dates d) dates,
-            (
-              payment_good (once (codes "paymentDates") d) pay,
-              (fixing_good (once (codes "resetDates") d) resets, (reset_good (once (codes "resetDates") d) resets, tt)),
-            ),
-          ),
+          period_good _ dates,
+          (first_good _ dates, (payment_good _ pay, (fixing_good _ resets, (reset_good _ resets, tt)))),
         ),
       ),
     )
@@ -286,7 +280,7 @@ good_append [] ps g h = h
 good_append (o ∷ os) ps g h = (g.0, good_append os ps g.1 h)
 
 -- the lists of centres of clean streams have lawful names
-pub all_good : (ds : List Data) → ((j : ℕ) (x : Data) → slice_get ds j ≡ Some x → At 0 x) → GoodLists (lists_of ds)
+pub all_good : (ds : List Data) → ((j : ℕ) (x : Data) → slice_get ds j ≡ Some x → At [] x) → GoodLists (lists_of ds)
 all_good [] clean = tt
 all_good (d ∷ ds) clean =
     good_append (lists_in d) (lists_of ds) (lists_good d (clean 0 d refl)) (all_good ds (λ j x e. clean (suc j) x e))
@@ -338,7 +332,7 @@ maybe_dated_lawful : (lists : List (Option Data)) (o : Option Data) → GoodList
 maybe_dated_lawful lists None g h = tt
 maybe_dated_lawful lists (Some d) g h = dated_lawful lists (Some d) g h
 
-pay_lawful : (lists : List (Option Data)) (dates o : Option Data) → GoodLists lists → AtMost 35 o
+pay_lawful : (lists : List (Option Data)) (dates o : Option Data) → GoodLists lists → AtMost payments_path o
     → IsLawfulPay (pay_in lists dates o)
 pay_lawful lists dates o g clean = record {
   freq = frequency_lawful (member (codes "paymentFrequency") o);
@@ -353,7 +347,7 @@ maybe_fix : (lists : List (Option Data)) (o : Option Data) → GoodLists lists �
 maybe_fix lists None g h = tt
 maybe_fix lists (Some d) g h = (offset_lawful (Some d), centers_lawful lists (Some d) g h)
 
-maybe_reset : (lists : List (Option Data)) (dates o : Option Data) → GoodLists lists → AtMost 52 o
+maybe_reset : (lists : List (Option Data)) (dates o : Option Data) → GoodLists lists → AtMost resets_path o
     → IfSome (option_map (reset_in lists dates) o) IsLawfulReset
 maybe_reset lists dates None g clean = tt
 maybe_reset lists dates (Some d) g clean = record {
@@ -364,17 +358,18 @@ maybe_reset lists dates (Some d) g clean = record {
 
 -- ---- schedules
 
--- c is the row of the steps of the schedule at row r
-record StepRows (r c : ℕ) : Type 0 where
-  child : is_child ROWS r c ≡ true
-  most : most_at (slice_get ROWS c) ≡ most_steps
-  named : name_at row_names c ≡ codes "step"
+-- what the table says of the steps of a schedule at the end of a path
+abbrev StepRows : Path → Type 0
+StepRows p = May p "step" × (most_of ("step" ∷ p) ≡ most_steps)
 
-few_steps : (r c : ℕ) → StepRows r c → (o : Option Data) → AtMost r o → length (values_in (codes "step") o) ≤ most_steps
-few_steps r c at o clean =
-    subst (λ (n : List ℕ). length (values_in n o) ≤ most_steps) at.named
-    (subst (λ (m : ℕ). length (values_in (name_at row_names c) o) ≤ m) at.most
-    (fine_values ROWS row_names r c o at.child clean).0)
+few_steps : (p : Path) → StepRows p → (o : Option Data) → AtMost p o → length (values_in (codes "step") o) ≤ most_steps
+unfolding most_of
+few_steps p at None clean = omega arith
+few_steps p at (Some d) clean =
+    let c = row_of ("step" ∷ p) in
+    subst (λ (n : List ℕ). length (values_in n (Some d)) ≤ most_steps) (is_named p "step" at.0)
+    (subst (λ (m : ℕ). length (values_in (name_at row_names c) (Some d)) ≤ m) at.1
+    (fine_values ROWS row_names (row_of p) c (Some d) (is_member p "step" at.0) clean.clean).0)
 
 -- a step with a day in range and a value in the range of its scale
 abbrev StepIn : Scale → Step → Type 0
@@ -383,44 +378,56 @@ StepIn scale s = IsDay s.day × InScale scale s.value
 step_lawful : (scale : Scale) (d : Data) → StepIn scale (step_in scale d)
 step_lawful scale d = (day_lawful (once (codes "stepDate") d), number_lawful scale (once (codes "stepValue") d))
 
-schedule_lawful : (scale : Scale) (r c : ℕ) → StepRows r c → (o : Option Data) → AtMost r o
+schedule_lawful : (scale : Scale) (p : Path) → StepRows p → (o : Option Data) → AtMost p o
     → IsLawfulValues (InScale scale) (schedule_in scale o)
-schedule_lawful scale r c at o clean =
+schedule_lawful scale p at o clean =
     let ds = values_in (codes "step") o in (
       number_lawful scale (member (codes "initialValue") o),
-      omega (arith, length-map ds (step_in scale), few_steps r c at o clean),
+      omega (arith, length-map ds (step_in scale), few_steps p at o clean),
       All-map (StepIn scale) (step_in scale) ds (λ k d lt. step_lawful scale (slice_index_or ds k d)),
     )
 
-or_lawful : (v : ℤ) → IsRate v → (r c : ℕ) → StepRows r c → (o : Option Data) → AtMost r o
+or_lawful : (v : ℤ) → IsRate v → (p : Path) → StepRows p → (o : Option Data) → AtMost p o
     → IsLawfulValues IsRate (schedule_or v o)
-or_lawful v h r c at None clean = (h, omega arith, λ k d lt. absurd (omega (arith, lt)))
-or_lawful v h r c at (Some d) clean = schedule_lawful Rates r c at (Some d) clean
+or_lawful v h p at None clean = (h, omega arith, λ k d lt. absurd (omega (arith, lt)))
+or_lawful v h p at (Some d) clean = schedule_lawful Rates p at (Some d) clean
 
 -- ---- rates
 
--- c is the row of the index of the floating rate at row r
-record IndexRows (r c : ℕ) : Type 0 where
-  child : is_child ROWS r c ≡ true
-  required : required_at (slice_get ROWS c) ≡ true
-  leaf : leaf_at (slice_get ROWS c) ≡ Some IndexName
-  named : name_at row_names c ≡ codes "floatingRateIndex"
-
-index_at : (r c : ℕ) → IndexRows r c → (d : Data) → At r d
+index_at : (p : Path) → LeafRow p "floatingRateIndex" IndexName → (d : Data) → At p d
     → IsLawfulIndex (word_in (once (codes "floatingRateIndex") d))
-index_at r c at d clean =
-    let (x, (e, inner)) = clean_there ROWS row_names r c d at.child at.required clean in
-    subst (λ (n : List ℕ). IsLawfulIndex (word_in (once n d))) at.named
-    (subst (λ (o : Option Data). IsLawfulIndex (word_in o)) (sym e)
-    (index_word x (clean_leaf ROWS row_names c IndexName x at.leaf inner)))
+index_at p row d clean =
+    let (x, (e, inner)) = there p "floatingRateIndex" row d clean in
+    subst (λ (o : Option Data). IsLawfulIndex (word_in o)) (sym e)
+    (index_word x
+    (clean_leaf ROWS row_names (row_of ("floatingRateIndex" ∷ p)) IndexName x (is_leaf p "floatingRateIndex" row)
+    inner.clean))
 
-applicable_lawful : (d : Data) → At 106 d → IsLawfulNames (applicable_in (once (codes "applicableBusinessDays") d))
+-- `calculation`
+abbrev pub calculation_path : Path
+calculation_path = "calculation" ∷ "calculationPeriodAmount" ∷ []
+
+-- `floatingRateCalculation`
+abbrev pub floating_path : Path
+floating_path = "floatingRateCalculation" ∷ calculation_path
+
+-- `calculationParameters`
+abbrev pub parameters_path : Path
+parameters_path = "calculationParameters" ∷ floating_path
+
+-- `stubCalculationPeriodAmount`
+abbrev pub stubs_path : Path
+stubs_path = "stubCalculationPeriodAmount" ∷ []
+
+applicable_lawful : (d : Data) → At parameters_path d
+    → IsLawfulNames (applicable_in (once (codes "applicableBusinessDays") d))
+unfolding facts row_of most_of
 applicable_lawful d clean =
-    let (list, (e, inner)) = clean_there ROWS row_names 106 114 d refl refl clean in
-    let rows : CenterRows 114 115 = (refl, refl, refl, refl, refl) in
-    subst (λ (o : Option Data). IsLawfulNames (applicable_in o)) (sym e) (list_lawful 114 115 rows list inner)
+    let (list, (e, inner)) = there parameters_path "applicableBusinessDays" refl d clean in
+    subst (λ (o : Option Data). IsLawfulNames (applicable_in o)) (sym e)
+    (list_lawful ("applicableBusinessDays" ∷ parameters_path) (refl, refl) list inner)
 
-maybe_parameters : (o : Option Data) → AtMost 106 o → IfSome (option_map parameters_in o) IsLawfulParameters
+maybe_parameters : (o : Option Data) → AtMost parameters_path o → IfSome (option_map parameters_in o) IsLawfulParameters
 maybe_parameters None clean = tt
 maybe_parameters (Some d) clean = record {
   offset = observation_offset_lawful (once (codes "observationShift") d) (once (codes "lookback") d)
@@ -428,60 +435,61 @@ maybe_parameters (Some d) clean = record {
   centers = applicable_lawful d clean;
 }
 
-float_lawful : (d : Data) → At 86 d → IsLawfulFloat (float_in d)
+float_lawful : (d : Data) → At floating_path d → IsLawfulFloat (float_in d)
+unfolding facts row_of most_of
 float_lawful d clean = record {
-  index = index_at 86 87 (record { child = refl; required = refl; leaf = refl; named = refl }) d clean;
+  index = index_at floating_path refl d clean;
   tenor = maybe_tenor (once (codes "indexTenor") d);
   multiplier =
-      or_lawful (pos 1_000_000_000) (omega arith) 91 93 (record { child = refl; most = refl; named = refl })
-      (once (codes "floatingRateMultiplierSchedule") d) (clean_once ROWS row_names 86 91 d refl clean);
-  spread = or_lawful (pos 0) (omega arith) 96 98 (record { child = refl; most = refl; named = refl })
-      (once (codes "spreadSchedule") d) (clean_once ROWS row_names 86 96 d refl clean);
+      or_lawful (pos 1_000_000_000) (omega arith) ("floatingRateMultiplierSchedule" ∷ floating_path) (refl, refl)
+      (once (codes "floatingRateMultiplierSchedule") d)
+      (perhaps floating_path "floatingRateMultiplierSchedule" refl d clean);
+  spread = or_lawful (pos 0) (omega arith) ("spreadSchedule" ∷ floating_path) (refl, refl)
+      (once (codes "spreadSchedule") d) (perhaps floating_path "spreadSchedule" refl d clean);
   initial_rate = said_in IsRate rate_at rate_range (once (codes "initialRate") d);
   rounding = places_lawful (places_by (once (codes "calculationParameters") d))
       (few_places (once (codes "calculationParameters") d))
       (member (codes "precision") (once (codes "finalRateRounding") d));
   parameters = maybe_parameters (once (codes "calculationParameters") d)
-      (clean_once ROWS row_names 86 106 d refl clean);
+      (perhaps floating_path "calculationParameters" refl d clean);
 }
 
-leg_lawful : (float fixed : Option Data) → AtMost 86 float → AtMost 81 fixed → IsLawfulLeg (leg_by float fixed)
+leg_lawful : (float fixed : Option Data) → AtMost floating_path float
+    → AtMost ("fixedRateSchedule" ∷ calculation_path) fixed → IsLawfulLeg (leg_by float fixed)
+unfolding facts row_of most_of
 leg_lawful (Some d) fixed clean other = float_lawful d clean
 leg_lawful None fixed clean other =
-    schedule_lawful Rates 81 83 (record { child = refl; most = refl; named = refl }) fixed other
+    schedule_lawful Rates ("fixedRateSchedule" ∷ calculation_path) (refl, refl) fixed other
 
-stub_by_lawful : (f c : ℕ) → IndexRows f c → (float rate : Option Data) → AtMost f float
+stub_by_lawful : (p : Path) → LeafRow p "floatingRateIndex" IndexName → (float rate : Option Data) → AtMost p float
     → IsLawfulStubRate (stub_by float rate)
-stub_by_lawful f c at None rate clean = number_lawful Rates rate
-stub_by_lawful f c at (Some d) rate clean = (index_at f c at d clean, maybe_tenor (once (codes "indexTenor") d))
+stub_by_lawful p row None rate clean = number_lawful Rates rate
+stub_by_lawful p row (Some d) rate clean = (index_at p row d clean, maybe_tenor (once (codes "indexTenor") d))
 
-maybe_initial : (o : Option Data) → AtMost 120 o → IfSome (option_map stub_in o) IsLawfulStubRate
-maybe_initial None clean = tt
-maybe_initial (Some d) clean =
-    stub_by_lawful 121 122 (record { child = refl; required = refl; leaf = refl; named = refl })
-    (once (codes "floatingRate") d) (once (codes "stubRate") d) (clean_once ROWS row_names 120 121 d refl clean)
+maybe_stub : (p : Path) → May p "floatingRate" → LeafRow ("floatingRate" ∷ p) "floatingRateIndex" IndexName
+    → (o : Option Data) → AtMost p o → IfSome (option_map stub_in o) IsLawfulStubRate
+maybe_stub p row index None clean = tt
+maybe_stub p row index (Some d) clean =
+    stub_by_lawful ("floatingRate" ∷ p) index (once (codes "floatingRate") d) (once (codes "stubRate") d)
+    (perhaps p "floatingRate" row d clean)
 
-maybe_last : (o : Option Data) → AtMost 127 o → IfSome (option_map stub_in o) IsLawfulStubRate
-maybe_last None clean = tt
-maybe_last (Some d) clean =
-    stub_by_lawful 128 129 (record { child = refl; required = refl; leaf = refl; named = refl })
-    (once (codes "floatingRate") d) (once (codes "stubRate") d) (clean_once ROWS row_names 127 128 d refl clean)
-
-maybe_stubs : (dates o : Option Data) → AtMost 118 o → IfSome (option_map (stubs_in dates) o) IsLawfulStubs
+maybe_stubs : (dates o : Option Data) → AtMost stubs_path o → IfSome (option_map (stubs_in dates) o) IsLawfulStubs
+unfolding facts row_of
 maybe_stubs dates None clean = tt
 maybe_stubs dates (Some d) clean = (
-  maybe_initial (once (codes "initialStub") d) (clean_once ROWS row_names 118 120 d refl clean),
-  maybe_last (once (codes "finalStub") d) (clean_once ROWS row_names 118 127 d refl clean),
+  maybe_stub ("initialStub" ∷ stubs_path) refl refl (once (codes "initialStub") d)
+      (perhaps stubs_path "initialStub" refl d clean),
+  maybe_stub ("finalStub" ∷ stubs_path) refl refl (once (codes "finalStub") d)
+      (perhaps stubs_path "finalStub" refl d clean),
 )
 
 -- ---- streams
 
-parts_lawful : (lists : List (Option Data)) (d : Data) (dates freq calc : Option Data) → GoodLists lists → At 0 d
-    → AtMost 1 dates → AtMost 73 calc → IsLawfulStream (stream_parts lists d dates freq calc)
+parts_lawful : (lists : List (Option Data)) (d : Data) (dates freq calc : Option Data) → GoodLists lists → At [] d
+    → AtMost dates_path dates → AtMost calculation_path calc → IsLawfulStream (stream_parts lists d dates freq calc)
+unfolding facts row_of most_of
 parts_lawful lists d dates freq calc g clean dated rates =
-    let notionals : AtMost 75 (member (codes "notionalStepSchedule") (member (codes "notionalSchedule") calc)) =
-    clean_member ROWS row_names 74 75 (member (codes "notionalSchedule") calc) refl
-    (clean_member ROWS row_names 73 74 calc refl rates) in
+    let notionals = "notionalSchedule" ∷ calculation_path in
     record {
       effective = dated_lawful lists (member (codes "effectiveDate") dates) g (effective_good dates dated);
       first_start = maybe_dated_lawful lists (member (codes "firstPeriodStartDate") dates) g (first_good dates dated);
@@ -492,24 +500,28 @@ parts_lawful lists d dates freq calc g clean dated rates =
       last_regular = maybe_day (member (codes "lastRegularPeriodEndDate") dates);
       freq = frequency_lawful freq;
       roll = roll_lawful (member (codes "rollConvention") freq);
-      pay = pay_lawful lists dates (once (codes "paymentDates") d) g (clean_once ROWS row_names 0 35 d refl clean);
-      reset = maybe_reset lists dates (once (codes "resetDates") d) g (clean_once ROWS row_names 0 52 d refl clean);
-      notional = schedule_lawful Notionals 75 77 (record { child = refl; most = refl; named = refl })
-          (member (codes "notionalStepSchedule") (member (codes "notionalSchedule") calc)) notionals;
+      pay = pay_lawful lists dates (once (codes "paymentDates") d) g (perhaps [] "paymentDates" refl d clean);
+      reset = maybe_reset lists dates (once (codes "resetDates") d) g (perhaps [] "resetDates" refl d clean);
+      notional = schedule_lawful Notionals ("notionalStepSchedule" ∷ notionals) (refl, refl)
+          (member (codes "notionalStepSchedule") (member (codes "notionalSchedule") calc))
+          (below notionals "notionalStepSchedule" refl (member (codes "notionalSchedule") calc)
+          (below calculation_path "notionalSchedule" refl calc rates));
       currency = currency_lawful
           (member (codes "currency") (member (codes "notionalStepSchedule") (member (codes "notionalSchedule") calc)));
       leg = leg_lawful (member (codes "floatingRateCalculation") calc) (member (codes "fixedRateSchedule") calc)
-          (clean_member ROWS row_names 73 86 calc refl rates) (clean_member ROWS row_names 73 81 calc refl rates);
+          (below calculation_path "floatingRateCalculation" refl calc rates)
+          (below calculation_path "fixedRateSchedule" refl calc rates);
       stubs = maybe_stubs dates (once (codes "stubCalculationPeriodAmount") d)
-          (clean_once ROWS row_names 0 118 d refl clean);
+          (perhaps [] "stubCalculationPeriodAmount" refl d clean);
     }
 
 -- the stream of a clean value is lawful
-pub stream_lawful : (lists : List (Option Data)) (d : Data) → GoodLists lists → At 0 d
+pub stream_lawful : (lists : List (Option Data)) (d : Data) → GoodLists lists → At [] d
     → IsLawfulStream (stream_in lists d)
-unfolding stream_in
+unfolding stream_in facts row_of
 stream_lawful lists d g clean =
     parts_lawful lists d (Dates d) (member (codes "calculationPeriodFrequency") (Dates d))
-    (member (codes "calculation") (once (codes "calculationPeriodAmount") d)) g clean (dates_clean d clean)
-    (clean_member ROWS row_names 72 73 (once (codes "calculationPeriodAmount") d) refl
-    (clean_once ROWS row_names 0 72 d refl clean))
+    (member (codes "calculation") (once (codes "calculationPeriodAmount") d)) g clean
+    (perhaps [] "calculationPeriodDates" refl d clean)
+    (below ("calculationPeriodAmount" ∷ []) "calculation" refl (once (codes "calculationPeriodAmount") d)
+    (perhaps [] "calculationPeriodAmount" refl d clean))
