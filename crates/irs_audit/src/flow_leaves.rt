@@ -12,6 +12,7 @@ use crate::StatedFraction;
 use irs_base::{Day, Dec};
 use irs_elements::{fractions, leaf_text, numbers, words};
 use irs_json::Value;
+use irs_read::leaf_value;
 use irs_terms::Currency;
 use itoa::Buffer;
 
@@ -19,55 +20,35 @@ use itoa::Buffer;
 pub fn day(v: Option<&Value>) -> Option<Day>
     ensures { result ≡ said day_at (seen v.entry) }
 {
-    let mut digits = Buffer::new();
-    match leaf_text(v, &mut digits) {
-        None => None,
-        Some(text) => numbers::day(text.as_bytes()),
-    }
+    leaf_value!(v, text => numbers::day(text.as_bytes()))
 }
 
 /// An amount or a rate, in units of 10^-12.
 pub fn amount(v: Option<&Value>) -> Option<i128>
     ensures { result ≡ said amount_at (seen v.entry) }
 {
-    let mut digits = Buffer::new();
-    match leaf_text(v, &mut digits) {
-        None => None,
-        Some(text) => numbers::amount(text.as_bytes()),
-    }
+    leaf_value!(v, text => numbers::amount(text.as_bytes()))
 }
 
 /// A currency.
 pub fn currency(v: Option<&Value>) -> Option<Currency>
     ensures { result ≡ said currency_at (seen v.entry) }
 {
-    let mut digits = Buffer::new();
-    match leaf_text(v, &mut digits) {
-        None => None,
-        Some(text) => words::currency(text.as_bytes()),
-    }
+    leaf_value!(v, text => words::currency(text.as_bytes()))
 }
 
 /// A number of days.
 pub fn days(v: Option<&Value>) -> Option<i64>
     ensures { result ≡ said whole_at (seen v.entry) }
 {
-    let mut digits = Buffer::new();
-    match leaf_text(v, &mut digits) {
-        None => None,
-        Some(text) => numbers::small_whole(text.as_bytes()),
-    }
+    leaf_value!(v, text => numbers::small_whole(text.as_bytes()))
 }
 
 // A fraction as a decimal.
 fn decimal(v: Option<&Value>) -> Option<Dec>
     ensures { result ≡ said fraction_at (seen v.entry) }
 {
-    let mut digits = Buffer::new();
-    match leaf_text(v, &mut digits) {
-        None => None,
-        Some(text) => fractions::fraction(text.as_bytes()),
-    }
+    leaf_value!(v, text => fractions::fraction(text.as_bytes()))
 }
 
 /// A day count fraction.

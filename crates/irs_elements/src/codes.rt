@@ -12,205 +12,171 @@ use irs_terms::{
     Treatment, Unit,
 };
 
+// The value beside the text in a list of codes; `None` where the text is none of them.
+macro_rules! among {
+    ($text:expr, $($code:literal => $value:expr),*) => {
+        $(if $text == $code { Some($value) } else)* { None }
+    };
+}
+
 /// A truth value: `true` or `1`, `false` or `0`.
 pub fn truth(text: &str) -> Option<bool>
     ensures { result ≡ truth_at text.now }
 {
-    if text == "true" || text == "1" {
-        Some(true)
-    } else if text == "false" || text == "0" {
-        Some(false)
-    } else {
-        None
-    }
+    among!(
+        text,
+        "true" => true,
+        "1" => true,
+        "false" => false,
+        "0" => false
+    )
 }
 
 /// `businessDayConvention`.
 pub fn convention(text: &str) -> Option<ConvCode>
     ensures { result ≡ convention_at text.now }
 {
-    if text == "FOLLOWING" {
-        Some(ConvCode::Following)
-    } else if text == "MODFOLLOWING" {
-        Some(ConvCode::ModFollowing)
-    } else if text == "PRECEDING" {
-        Some(ConvCode::Preceding)
-    } else if text == "MODPRECEDING" {
-        Some(ConvCode::ModPreceding)
-    } else if text == "NEAREST" {
-        Some(ConvCode::Nearest)
-    } else if text == "NONE" {
-        Some(ConvCode::Unadjusted)
-    } else {
-        None
-    }
+    among!(
+        text,
+        "FOLLOWING" => ConvCode::Following,
+        "MODFOLLOWING" => ConvCode::ModFollowing,
+        "PRECEDING" => ConvCode::Preceding,
+        "MODPRECEDING" => ConvCode::ModPreceding,
+        "NEAREST" => ConvCode::Nearest,
+        "NONE" => ConvCode::Unadjusted
+    )
 }
 
 /// `period` of a frequency.
 pub fn unit(text: &str) -> Option<Unit>
     ensures { result ≡ unit_at text.now }
 {
-    if text == "D" {
-        Some(Unit::D)
-    } else if text == "W" {
-        Some(Unit::W)
-    } else if text == "M" {
-        Some(Unit::M)
-    } else if text == "Y" {
-        Some(Unit::Y)
-    } else if text == "T" {
-        Some(Unit::T)
-    } else {
-        None
-    }
+    among!(
+        text,
+        "D" => Unit::D,
+        "W" => Unit::W,
+        "M" => Unit::M,
+        "Y" => Unit::Y,
+        "T" => Unit::T
+    )
 }
 
 /// `period` of a tenor, which is never the term.
 pub fn tenor_unit(text: &str) -> Option<Unit>
     ensures { result ≡ tenor_unit_at text.now }
 {
-    if text == "D" {
-        Some(Unit::D)
-    } else if text == "W" {
-        Some(Unit::W)
-    } else if text == "M" {
-        Some(Unit::M)
-    } else if text == "Y" {
-        Some(Unit::Y)
-    } else {
-        None
-    }
+    among!(
+        text,
+        "D" => Unit::D,
+        "W" => Unit::W,
+        "M" => Unit::M,
+        "Y" => Unit::Y
+    )
 }
 
 /// `period` of an offset, which is in days.
 pub fn offset_unit(text: &str) -> Option<Unit>
     ensures { result ≡ offset_unit_at text.now }
 {
-    if text == "D" { Some(Unit::D) } else { None }
+    among!(text, "D" => Unit::D)
 }
 
 /// `dayType`.
 pub fn day_kind(text: &str) -> Option<DayKind>
     ensures { result ≡ day_kind_at text.now }
 {
-    if text == "Business" {
-        Some(DayKind::Business)
-    } else if text == "Calendar" {
-        Some(DayKind::Calendar)
-    } else {
-        None
-    }
+    among!(
+        text,
+        "Business" => DayKind::Business,
+        "Calendar" => DayKind::Calendar
+    )
 }
 
 /// `stubPeriodType`.
 pub fn stub_kind(text: &str) -> Option<StubKind>
     ensures { result ≡ stub_kind_at text.now }
 {
-    if text == "ShortInitial" {
-        Some(StubKind::ShortInitial)
-    } else if text == "LongInitial" {
-        Some(StubKind::LongInitial)
-    } else if text == "ShortFinal" {
-        Some(StubKind::ShortFinal)
-    } else if text == "LongFinal" {
-        Some(StubKind::LongFinal)
-    } else {
-        None
-    }
+    among!(
+        text,
+        "ShortInitial" => StubKind::ShortInitial,
+        "LongInitial" => StubKind::LongInitial,
+        "ShortFinal" => StubKind::ShortFinal,
+        "LongFinal" => StubKind::LongFinal
+    )
 }
 
 /// `payRelativeTo` and `resetRelativeTo`.
 pub fn relative(text: &str) -> Option<Relative>
     ensures { result ≡ relative_at text.now }
 {
-    if text == "CalculationPeriodStartDate" {
-        Some(Relative::Start)
-    } else if text == "CalculationPeriodEndDate" {
-        Some(Relative::End)
-    } else {
-        None
-    }
+    among!(
+        text,
+        "CalculationPeriodStartDate" => Relative::Start,
+        "CalculationPeriodEndDate" => Relative::End
+    )
 }
 
 /// `dayCountFraction`.
 pub fn day_count(text: &str) -> Option<DayCountCode>
     ensures { result ≡ day_count_at text.now }
 {
-    if text == "1/1" {
-        Some(DayCountCode::OneOne)
-    } else if text == "ACT/ACT.ISDA" {
-        Some(DayCountCode::ActActIsda)
-    } else if text == "ACT/365.FIXED" {
-        Some(DayCountCode::Act365Fixed)
-    } else if text == "ACT/360" {
-        Some(DayCountCode::Act360)
-    } else if text == "30/360" {
-        Some(DayCountCode::Thirty360)
-    } else if text == "30E/360" {
-        Some(DayCountCode::ThirtyE360)
-    } else if text == "30E/360.ISDA" {
-        Some(DayCountCode::ThirtyE360Isda)
-    } else {
-        None
-    }
+    among!(
+        text,
+        "1/1" => DayCountCode::OneOne,
+        "ACT/ACT.ISDA" => DayCountCode::ActActIsda,
+        "ACT/365.FIXED" => DayCountCode::Act365Fixed,
+        "ACT/360" => DayCountCode::Act360,
+        "30/360" => DayCountCode::Thirty360,
+        "30E/360" => DayCountCode::ThirtyE360,
+        "30E/360.ISDA" => DayCountCode::ThirtyE360Isda
+    )
 }
 
 /// `compoundingMethod`.
 pub fn compounding(text: &str) -> Option<CompCode>
     ensures { result ≡ compounding_at text.now }
 {
-    if text == "None" {
-        Some(CompCode::Simple)
-    } else if text == "Straight" {
-        Some(CompCode::Straight)
-    } else if text == "Flat" {
-        Some(CompCode::Flat)
-    } else if text == "SpreadExclusive" {
-        Some(CompCode::SpreadExclusive)
-    } else {
-        None
-    }
+    among!(
+        text,
+        "None" => CompCode::Simple,
+        "Straight" => CompCode::Straight,
+        "Flat" => CompCode::Flat,
+        "SpreadExclusive" => CompCode::SpreadExclusive
+    )
 }
 
 /// `calculationMethod`.
 pub fn calculation_method(text: &str) -> Option<CalculationMethod>
     ensures { result ≡ calculation_method_at text.now }
 {
-    if text == "Compounding" {
-        Some(CalculationMethod::Compounding)
-    } else if text == "Averaging" {
-        Some(CalculationMethod::Averaging)
-    } else {
-        None
-    }
+    among!(
+        text,
+        "Compounding" => CalculationMethod::Compounding,
+        "Averaging" => CalculationMethod::Averaging
+    )
 }
 
 /// `negativeInterestRateTreatment`.
 pub fn treatment(text: &str) -> Option<Treatment>
     ensures { result ≡ treatment_at text.now }
 {
-    if text == "NegativeInterestRateMethod" {
-        Some(Treatment::AsIs)
-    } else if text == "ZeroInterestRateMethod" {
-        Some(Treatment::ZeroFloor)
-    } else {
-        None
-    }
+    among!(
+        text,
+        "NegativeInterestRateMethod" => Treatment::AsIs,
+        "ZeroInterestRateMethod" => Treatment::ZeroFloor
+    )
 }
 
 /// `roundingDirection`.
 pub fn direction(text: &str) -> Option<Direction>
     ensures { result ≡ direction_at text.now }
 {
-    if text == "Up" {
-        Some(Direction::Up)
-    } else if text == "Down" {
-        Some(Direction::Down)
-    } else if text == "Nearest" {
-        Some(Direction::Nearest)
-    } else {
-        None
-    }
+    among!(
+        text,
+        "Up" => Direction::Up,
+        "Down" => Direction::Down,
+        "Nearest" => Direction::Nearest
+    )
 }
 
 /// `rollConvention`.
@@ -226,29 +192,19 @@ pub fn roll(text: &str) -> Option<RollCode>
 fn named_roll(text: &str) -> Option<RollCode>
     ensures { result ≡ named_roll_at text.now }
 {
-    if text == "EOM" {
-        Some(RollCode::Eom)
-    } else if text == "IMM" {
-        Some(RollCode::Imm)
-    } else if text == "NONE" {
-        Some(RollCode::NoRoll)
-    } else if text == "MON" {
-        Some(RollCode::OnWeekday(DayName::Mon))
-    } else if text == "TUE" {
-        Some(RollCode::OnWeekday(DayName::Tue))
-    } else if text == "WED" {
-        Some(RollCode::OnWeekday(DayName::Wed))
-    } else if text == "THU" {
-        Some(RollCode::OnWeekday(DayName::Thu))
-    } else if text == "FRI" {
-        Some(RollCode::OnWeekday(DayName::Fri))
-    } else if text == "SAT" {
-        Some(RollCode::OnWeekday(DayName::Sat))
-    } else if text == "SUN" {
-        Some(RollCode::OnWeekday(DayName::Sun))
-    } else {
-        None
-    }
+    among!(
+        text,
+        "EOM" => RollCode::Eom,
+        "IMM" => RollCode::Imm,
+        "NONE" => RollCode::NoRoll,
+        "MON" => RollCode::OnWeekday(DayName::Mon),
+        "TUE" => RollCode::OnWeekday(DayName::Tue),
+        "WED" => RollCode::OnWeekday(DayName::Wed),
+        "THU" => RollCode::OnWeekday(DayName::Thu),
+        "FRI" => RollCode::OnWeekday(DayName::Fri),
+        "SAT" => RollCode::OnWeekday(DayName::Sat),
+        "SUN" => RollCode::OnWeekday(DayName::Sun)
+    )
 }
 
 // A day number from 1 to 30 in one or two digits, the first of them no zero.

@@ -22,6 +22,18 @@ use irs_terms::{
 use itoa::Buffer;
 use std::alloc::Global;
 
+/// The value of the text of a leaf; `None` where there is no leaf, or its text has no value.
+#[macro_export]
+macro_rules! leaf_value {
+    ($v:expr, $text:ident => $value:expr) => {{
+        let mut digits = Buffer::new();
+        match leaf_text($v, &mut digits) {
+            None => None,
+            Some($text) => $value,
+        }
+    }};
+}
+
 /// What the values of a schedule are.
 #[derive(Clone, Copy)]
 pub enum Scale {
@@ -35,220 +47,140 @@ pub enum Scale {
 pub fn maybe_day(v: Option<&Value>) -> Option<Day>
     ensures { result ≡ said day_at (seen v.entry) }
 {
-    let mut digits = Buffer::new();
-    match leaf_text(v, &mut digits) {
-        None => None,
-        Some(text) => numbers::day(text.as_bytes()),
-    }
+    leaf_value!(v, text => numbers::day(text.as_bytes()))
 }
 
 /// `periodMultiplier` of a frequency.
 pub fn multiplier(v: Option<&Value>) -> Option<u16>
     ensures { result ≡ said multiplier_at (seen v.entry) }
 {
-    let mut digits = Buffer::new();
-    match leaf_text(v, &mut digits) {
-        None => None,
-        Some(text) => numbers::multiplier(text.as_bytes()),
-    }
+    leaf_value!(v, text => numbers::multiplier(text.as_bytes()))
 }
 
 /// `periodMultiplier` of an offset.
 pub fn offset_days(v: Option<&Value>) -> Option<i16>
     ensures { result ≡ said offset_at (seen v.entry) }
 {
-    let mut digits = Buffer::new();
-    match leaf_text(v, &mut digits) {
-        None => None,
-        Some(text) => numbers::offset(text.as_bytes()),
-    }
+    leaf_value!(v, text => numbers::offset(text.as_bytes()))
 }
 
 /// `offsetDays` of an observation shift, a lookback or a lockout.
 pub fn observation_days(v: Option<&Value>) -> Option<u8>
     ensures { result ≡ said observation_days_at (seen v.entry) }
 {
-    let mut digits = Buffer::new();
-    match leaf_text(v, &mut digits) {
-        None => None,
-        Some(text) => numbers::observation_days(text.as_bytes()),
-    }
+    leaf_value!(v, text => numbers::observation_days(text.as_bytes()))
 }
 
 /// `precision`.
 pub fn precision(v: Option<&Value>) -> Option<u8>
     ensures { result ≡ said precision_at (seen v.entry) }
 {
-    let mut digits = Buffer::new();
-    match leaf_text(v, &mut digits) {
-        None => None,
-        Some(text) => numbers::precision(text.as_bytes()),
-    }
+    leaf_value!(v, text => numbers::precision(text.as_bytes()))
 }
 
 /// A rate.
 pub fn small_rate(v: Option<&Value>) -> Option<i64>
     ensures { result ≡ said rate_at (seen v.entry) }
 {
-    let mut digits = Buffer::new();
-    match leaf_text(v, &mut digits) {
-        None => None,
-        Some(text) => numbers::small_rate(text.as_bytes()),
-    }
+    leaf_value!(v, text => numbers::small_rate(text.as_bytes()))
 }
 
 /// A truth value.
 pub fn maybe_truth(v: Option<&Value>) -> Option<bool>
     ensures { result ≡ said truth_at (seen v.entry) }
 {
-    let mut digits = Buffer::new();
-    match leaf_text(v, &mut digits) {
-        None => None,
-        Some(text) => codes::truth(text),
-    }
+    leaf_value!(v, text => codes::truth(text))
 }
 
 /// `businessDayConvention`.
 pub fn convention(v: Option<&Value>) -> Option<ConvCode>
     ensures { result ≡ said convention_at (seen v.entry) }
 {
-    let mut digits = Buffer::new();
-    match leaf_text(v, &mut digits) {
-        None => None,
-        Some(text) => codes::convention(text),
-    }
+    leaf_value!(v, text => codes::convention(text))
 }
 
 /// `period` of a frequency.
 pub fn unit(v: Option<&Value>) -> Option<Unit>
     ensures { result ≡ said unit_at (seen v.entry) }
 {
-    let mut digits = Buffer::new();
-    match leaf_text(v, &mut digits) {
-        None => None,
-        Some(text) => codes::unit(text),
-    }
+    leaf_value!(v, text => codes::unit(text))
 }
 
 /// `period` of a tenor.
 pub fn tenor_unit(v: Option<&Value>) -> Option<Unit>
     ensures { result ≡ said tenor_unit_at (seen v.entry) }
 {
-    let mut digits = Buffer::new();
-    match leaf_text(v, &mut digits) {
-        None => None,
-        Some(text) => codes::tenor_unit(text),
-    }
+    leaf_value!(v, text => codes::tenor_unit(text))
 }
 
 /// `dayType`.
 pub fn day_kind(v: Option<&Value>) -> Option<DayKind>
     ensures { result ≡ said day_kind_at (seen v.entry) }
 {
-    let mut digits = Buffer::new();
-    match leaf_text(v, &mut digits) {
-        None => None,
-        Some(text) => codes::day_kind(text),
-    }
+    leaf_value!(v, text => codes::day_kind(text))
 }
 
 /// `stubPeriodType`.
 pub fn stub_kind(v: Option<&Value>) -> Option<StubKind>
     ensures { result ≡ said stub_kind_at (seen v.entry) }
 {
-    let mut digits = Buffer::new();
-    match leaf_text(v, &mut digits) {
-        None => None,
-        Some(text) => codes::stub_kind(text),
-    }
+    leaf_value!(v, text => codes::stub_kind(text))
 }
 
 /// `rollConvention`.
 pub fn roll(v: Option<&Value>) -> Option<RollCode>
     ensures { result ≡ said roll_at (seen v.entry) }
 {
-    let mut digits = Buffer::new();
-    match leaf_text(v, &mut digits) {
-        None => None,
-        Some(text) => codes::roll(text),
-    }
+    leaf_value!(v, text => codes::roll(text))
 }
 
 /// `payRelativeTo` and `resetRelativeTo`.
 pub fn maybe_relative(v: Option<&Value>) -> Option<Relative>
     ensures { result ≡ said relative_at (seen v.entry) }
 {
-    let mut digits = Buffer::new();
-    match leaf_text(v, &mut digits) {
-        None => None,
-        Some(text) => codes::relative(text),
-    }
+    leaf_value!(v, text => codes::relative(text))
 }
 
 /// `dayCountFraction`.
 pub fn day_count(v: Option<&Value>) -> Option<DayCountCode>
     ensures { result ≡ said day_count_at (seen v.entry) }
 {
-    let mut digits = Buffer::new();
-    match leaf_text(v, &mut digits) {
-        None => None,
-        Some(text) => codes::day_count(text),
-    }
+    leaf_value!(v, text => codes::day_count(text))
 }
 
 /// `compoundingMethod`.
 pub fn compounding(v: Option<&Value>) -> Option<CompCode>
     ensures { result ≡ said compounding_at (seen v.entry) }
 {
-    let mut digits = Buffer::new();
-    match leaf_text(v, &mut digits) {
-        None => None,
-        Some(text) => codes::compounding(text),
-    }
+    leaf_value!(v, text => codes::compounding(text))
 }
 
 /// `calculationMethod`.
 pub fn calculation_method(v: Option<&Value>) -> Option<CalculationMethod>
     ensures { result ≡ said calculation_method_at (seen v.entry) }
 {
-    let mut digits = Buffer::new();
-    match leaf_text(v, &mut digits) {
-        None => None,
-        Some(text) => codes::calculation_method(text),
-    }
+    leaf_value!(v, text => codes::calculation_method(text))
 }
 
 /// `negativeInterestRateTreatment`.
 pub fn maybe_treatment(v: Option<&Value>) -> Option<Treatment>
     ensures { result ≡ said treatment_at (seen v.entry) }
 {
-    let mut digits = Buffer::new();
-    match leaf_text(v, &mut digits) {
-        None => None,
-        Some(text) => codes::treatment(text),
-    }
+    leaf_value!(v, text => codes::treatment(text))
 }
 
 /// `roundingDirection`.
 pub fn direction(v: Option<&Value>) -> Option<Direction>
     ensures { result ≡ said direction_at (seen v.entry) }
 {
-    let mut digits = Buffer::new();
-    match leaf_text(v, &mut digits) {
-        None => None,
-        Some(text) => codes::direction(text),
-    }
+    leaf_value!(v, text => codes::direction(text))
 }
 
 /// `currency`.
 pub fn currency(v: Option<&Value>) -> Option<Currency>
     ensures { result ≡ said currency_at (seen v.entry) }
 {
-    let mut digits = Buffer::new();
-    match leaf_text(v, &mut digits) {
-        None => None,
-        Some(text) => words::currency(text.as_bytes()),
-    }
+    leaf_value!(v, text => words::currency(text.as_bytes()))
 }
 
 /// A required date.
@@ -304,11 +236,7 @@ fn number_of(scale: Scale, text: &[u8]) -> Option<i128>
 fn maybe_number(scale: Scale, v: Option<&Value>) -> Option<i128>
     ensures { result ≡ said (scale_at scale) (seen v.entry) }
 {
-    let mut digits = Buffer::new();
-    match leaf_text(v, &mut digits) {
-        None => None,
-        Some(text) => number_of(scale, text.as_bytes()),
-    }
+    leaf_value!(v, text => number_of(scale, text.as_bytes()))
 }
 
 /// A required number of a schedule.
