@@ -52,7 +52,7 @@ use Rattle.irs_read.specs.Private.References.{reference_in}
 use Rattle.irs_read.specs.StreamElements.{StreamSays, adjustable, adjusting, adjustments, always, calculation}
 use Rattle.irs_read.specs.StreamElements.{stream_by}
 use Rattle.irs_read.specs.StreamElements.{center_list, date, exchanges, fixing_dates, floating, frequency, index_name}
-use Rattle.irs_read.specs.StreamElements.{indexed, leg, notional, observed, offset, parameters, payment_dates}
+use Rattle.irs_read.specs.StreamElements.{indexed, notional, observed, offset, parameters, payment_dates}
 use Rattle.irs_read.specs.StreamElements.{period_dates, rate, reference, reset_dates, rounded, schedule, step, stub}
 use Rattle.irs_read.specs.StreamElements.{stubs, tenor, unadjusted}
 use Rattle.irs_read.specs.declared.leaf_values.Scale.{Scale}
@@ -657,29 +657,6 @@ exchanges_reads =
 
 -- ---- the parts of a stream
 
--- what is read of `calculationPeriodDates`
-record DatesRead (lists : List (Option Data)) (dates times : Option Data) (s : Stream) : Type 0 where
-  effective : s.effective ≡ dated_in lists (member (codes "effectiveDate") dates)
-  first_start : s.first_start ≡ maybe_dated_in lists (member (codes "firstPeriodStartDate") dates)
-  termination : s.termination ≡ dated_in lists (member (codes "terminationDate") dates)
-  period_adj : s.period_adj ≡ adjustments_in lists (member (codes "calculationPeriodDatesAdjustments") dates)
-  first_regular : s.first_regular ≡ said day_at (member (codes "firstRegularPeriodStartDate") dates)
-  last_regular : s.last_regular ≡ said day_at (member (codes "lastRegularPeriodEndDate") dates)
-  stub : s.stub ≡ said stub_kind_at (member (codes "stubPeriodType") dates)
-  freq : s.freq ≡ frequency_in times
-  roll : s.roll ≡ unwrap_or (said roll_at (member (codes "rollConvention") times)) NoRoll
-
--- what is read of `calculation`
-record CalculationRead (calc : Option Data) (s : Stream) : Type 0 where
-  notional : s.notional
-      ≡ schedule_in Notionals (member (codes "notionalStepSchedule") (member (codes "notionalSchedule") calc))
-  currency : s.currency
-      ≡ unwrap_or (said currency_at (member (codes "currency")
-      (member (codes "notionalStepSchedule") (member (codes "notionalSchedule") calc)))) no_currency
-  leg : s.leg ≡ leg_by (member (codes "floatingRateCalculation") calc) (member (codes "fixedRateSchedule") calc)
-  day_count : s.day_count ≡ unwrap_or (said day_count_at (member (codes "dayCountFraction") calc)) OneOne
-  compounding : s.compounding ≡ unwrap_or (said compounding_at (member (codes "compoundingMethod") calc)) Simple
-
 effective_fills : (lists : List (Option Data)) → GoodLists lists
     → Fills dates_path (one "effectiveDate" (adjustable lists)) (λ d. dated_in lists (once (codes "effectiveDate") d))
 unfolding facts row_of most_of
@@ -739,43 +716,30 @@ roll_fills : Fills times_path (one "rollConvention" (text Roll roll_at))
 unfolding facts row_of
 roll_fills = leaf_one times_path "rollConvention" Roll roll_at NoRoll (λ s. refl) refl
 
--- `calculationPeriodDates` says what is read of it
-dates_give : (lists : List (Option Data)) → GoodLists lists → (x : Data) → At dates_path x → (s : Stream)
-    → DatesRead lists (Some x) (once (codes "calculationPeriodFrequency") x) s → (period_dates lists).says x s
-unfolding facts row_of
-dates_give lists g x clean s r =
-    let (y, (e, inner)) = there dates_path "calculationPeriodFrequency" refl x clean in
-    let at : DatesRead lists (Some x) (Some y) s = subst (λ o. DatesRead lists (Some x) o s) e r in
-    let times = same_says times_fills y inner s.freq at.freq & same_says roll_fills y inner s.roll at.roll in
-    same_says (effective_fills lists g) x clean s.effective r.effective
-    & same_says (termination_fills lists g) x clean s.termination r.termination
-    & same_says (period_fills lists g) x clean s.period_adj r.period_adj
-    & same_says (start_fills lists g) x clean s.first_start r.first_start
-    & same_says first_fills x clean s.first_regular r.first_regular
-    & same_says last_fills x clean s.last_regular r.last_regular
-    & same_says stub_fills x clean s.stub r.stub
-    & rw e (s, (refl, times))
-
 -- what `calculationPeriodFrequency` says
 abbrev FrequencySaid : Data → Stream → Type 0
 FrequencySaid y s = frequency.says y s.freq × (one "rollConvention" (text Roll roll_at)).says y s.roll
 
--- and nothing else
-dates_only : (lists : List (Option Data)) → GoodLists lists → (x : Data) (s : Stream) → (period_dates lists).says x s
-    → DatesRead lists (Some x) (once (codes "calculationPeriodFrequency") x) s
-dates_only lists g x s (effective, (termination, (period, (start, (first, (last, (stub, times))))))) =
-    let (y, (e, (freq, roll))) = one_is (once (codes "calculationPeriodFrequency") x) FrequencySaid s times in
-    record {
-      effective = (effective_fills lists g).only x s.effective effective;
-      first_start = (start_fills lists g).only x s.first_start start;
-      termination = (termination_fills lists g).only x s.termination termination;
-      period_adj = (period_fills lists g).only x s.period_adj period;
-      first_regular = first_fills.only x s.first_regular first;
-      last_regular = last_fills.only x s.last_regular last;
-      stub = stub_fills.only x s.stub stub;
-      freq = rw e (times_fills.only y s.freq freq);
-      roll = rw e (roll_fills.only y s.roll roll);
-    }
+-- `calculationPeriodDates` says what is read of it
+dates_give : (lists : List (Option Data)) → GoodLists lists → (d x : Data) → At dates_path x → (calc : Option Data)
+    → (period_dates lists).says x (stream_parts lists d (Some x) (once (codes "calculationPeriodFrequency") x) calc)
+unfolding facts row_of
+dates_give lists g d x clean calc =
+    let times = once (codes "calculationPeriodFrequency") x in
+    let s = stream_parts lists d (Some x) times calc in
+    let (y, (e, inner)) = there dates_path "calculationPeriodFrequency" refl x clean in
+    let said_times : FrequencySaid y s =
+    same_says times_fills y inner s.freq (ap frequency_in e)
+    & same_says roll_fills y inner s.roll
+    (ap (λ o. unwrap_or (said roll_at (member (codes "rollConvention") o)) NoRoll) e) in
+    (effective_fills lists g).gives x clean
+    & (termination_fills lists g).gives x clean
+    & (period_fills lists g).gives x clean
+    & (start_fills lists g).gives x clean
+    & first_fills.gives x clean
+    & last_fills.gives x clean
+    & stub_fills.gives x clean
+    & subst (λ o. Says o FrequencySaid (λ a. a) (λ _. ⊥) s) (sym e) (s, (refl, said_times))
 
 -- `notionalStepSchedule`
 abbrev notionals_path : Path
@@ -800,31 +764,6 @@ method_fills : Fills calculation_path (or_by "compoundingMethod" (text Compoundi
 unfolding facts row_of
 method_fills = leaf_or calculation_path "compoundingMethod" Compounding compounding_at Simple (λ s. refl) refl
 
--- `calculation` says what is read of it
-calculation_gives : (x : Data) → At calculation_path x → (s : Stream) → CalculationRead (Some x) s
-    → calculation.says x s
-unfolding facts row_of
-calculation_gives x clean s r =
-    let (y, (e, inner)) = there calculation_path "notionalSchedule" refl x clean in
-    let (z, (f, innermost)) = there ("notionalSchedule" ∷ calculation_path) "notionalStepSchedule" refl y inner in
-    let path = ap (member (codes "notionalStepSchedule")) e ∙ f in
-    let notionals : s.notional ≡ schedule_in Notionals (Some z) = r.notional ∙ ap (schedule_in Notionals) path in
-    let currency : s.currency ≡ unwrap_or (said currency_at (once (codes "currency") z)) no_currency =
-    r.currency ∙ ap (λ o. unwrap_or (said currency_at (member (codes "currency") o)) no_currency) path in
-    let values =
-    same_says notional_fills z innermost s.notional notionals
-    & same_says currency_fills z innermost s.currency currency in
-    let legs : leg.says x (leg_by (once (codes "floatingRateCalculation") x) (once (codes "fixedRateSchedule") x)) =
-    leg_gives (once (codes "floatingRateCalculation") x) (once (codes "fixedRateSchedule") x)
-    (perhaps calculation_path "floatingRateCalculation" refl x clean)
-    (perhaps calculation_path "fixedRateSchedule" refl x clean)
-    (first_of_two (once (codes "fixedRateSchedule") x) (once (codes "floatingRateCalculation") x)
-    (one_there calculation_path "fixedRateSchedule" "floatingRateCalculation" refl refl refl x clean)) in
-    rw e (s, (refl, rw f (s, (refl, values))))
-    & subst (leg.says x) (sym r.leg) legs
-    & same_says count_fills x clean s.day_count r.day_count
-    & same_says method_fills x clean s.compounding r.compounding
-
 -- what `notionalStepSchedule` says
 abbrev NotionalSaid : Data → Stream → Type 0
 NotionalSaid z s =
@@ -834,20 +773,28 @@ NotionalSaid z s =
 abbrev StepsSaid : Data → Stream → Type 0
 StepsSaid y = Says (once (codes "notionalStepSchedule") y) NotionalSaid (λ a. a) (λ _. ⊥)
 
--- and nothing else
-calculation_only : (x : Data) (s : Stream) → calculation.says x s → CalculationRead (Some x) s
-calculation_only x s (notionals, (legs, (count, method))) =
-    let (y, (e, h)) = one_is (once (codes "notionalSchedule") x) StepsSaid s notionals in
-    let (z, (f, (values, currency))) = one_is (once (codes "notionalStepSchedule") y) NotionalSaid s h in
+-- `calculation` says what is read of it
+calculation_gives : (lists : List (Option Data)) (d x : Data) → At calculation_path x → (dates times : Option Data)
+    → calculation.says x (stream_parts lists d dates times (Some x))
+unfolding facts row_of
+calculation_gives lists d x clean dates times =
+    let s = stream_parts lists d dates times (Some x) in
+    let (y, (e, inner)) = there calculation_path "notionalSchedule" refl x clean in
+    let (z, (f, innermost)) = there ("notionalSchedule" ∷ calculation_path) "notionalStepSchedule" refl y inner in
     let path = ap (member (codes "notionalStepSchedule")) e ∙ f in
-    record {
-      notional = notional_fills.only z s.notional values ∙ ap (schedule_in Notionals) (sym path);
-      currency = currency_fills.only z s.currency currency
-          ∙ ap (λ o. unwrap_or (said currency_at (member (codes "currency") o)) no_currency) (sym path);
-      leg = leg_only (once (codes "floatingRateCalculation") x) (once (codes "fixedRateSchedule") x) s.leg legs;
-      day_count = count_fills.only x s.day_count count;
-      compounding = method_fills.only x s.compounding method;
-    }
+    let values : NotionalSaid z s =
+    same_says notional_fills z innermost s.notional (ap (schedule_in Notionals) path)
+    & same_says currency_fills z innermost s.currency
+    (ap (λ o. unwrap_or (said currency_at (member (codes "currency") o)) no_currency) path) in
+    subst (λ o. Says o StepsSaid (λ a. a) (λ _. ⊥) s) (sym e)
+    (s, (refl, subst (λ o. Says o NotionalSaid (λ a. a) (λ _. ⊥) s) (sym f) (s, (refl, values))))
+    & leg_gives (once (codes "floatingRateCalculation") x) (once (codes "fixedRateSchedule") x)
+    (perhaps calculation_path "floatingRateCalculation" refl x clean)
+    (perhaps calculation_path "fixedRateSchedule" refl x clean)
+    (first_of_two (once (codes "fixedRateSchedule") x) (once (codes "floatingRateCalculation") x)
+    (one_there calculation_path "fixedRateSchedule" "floatingRateCalculation" refl refl refl x clean))
+    & count_fills.gives x clean
+    & method_fills.gives x clean
 
 -- ---- streams
 
@@ -892,29 +839,18 @@ pub stream_gives : (lists : List (Option Data)) → GoodLists lists → (d : Dat
 unfolding StreamSays stream_in facts row_of
 stream_gives lists g d clean =
     let dates = once (codes "calculationPeriodDates") d in
+    let times = member (codes "calculationPeriodFrequency") dates in
     let calc = member (codes "calculation") (once (codes "calculationPeriodAmount") d) in
-    let s = stream_parts lists d dates (member (codes "calculationPeriodFrequency") dates) calc in
+    let s = stream_parts lists d dates times calc in
     let (x, (e, inner)) = there [] "calculationPeriodDates" refl d clean in
     let (y, (f, middle)) = there [] "calculationPeriodAmount" refl d clean in
     let (z, (k, innermost)) = there ("calculationPeriodAmount" ∷ []) "calculation" refl y middle in
-    let dated : DatesRead lists dates (member (codes "calculationPeriodFrequency") dates) s =
-    record {
-      effective = refl;
-      first_start = refl;
-      termination = refl;
-      period_adj = refl;
-      first_regular = refl;
-      last_regular = refl;
-      stub = refl;
-      freq = refl;
-      roll = refl;
-    } in
-    let calculated : CalculationRead calc s =
-    record { notional = refl; currency = refl; leg = refl; day_count = refl; compounding = refl } in
-    let parts = dates_give lists g x inner s
-    (subst (λ o. DatesRead lists o (member (codes "calculationPeriodFrequency") o) s) e dated) in
-    let amounts = calculation_gives z innermost s
-    (subst (λ o. CalculationRead o s) (ap (member (codes "calculation")) f ∙ k) calculated) in
+    let parts : (period_dates lists).says x s =
+    subst (λ o. (period_dates lists).says x (stream_parts lists d o (member (codes "calculationPeriodFrequency") o) calc))
+    (sym e) (dates_give lists g d x inner calc) in
+    let amounts : calculation.says z s =
+    subst (λ o. calculation.says z (stream_parts lists d dates times o)) (sym (ap (member (codes "calculation")) f ∙ k))
+    (calculation_gives lists d z innermost dates times) in
     subst (λ o. Says o (period_dates lists).says (λ a. a) (λ _. ⊥) s) (sym e) (s, (refl, parts))
     & (pay_fills lists g dates).gives d clean
     & (resets_fills lists g dates).gives d clean
@@ -930,35 +866,48 @@ unfolding StreamSays stream_in
 stream_only lists g d s says =
     let dates = once (codes "calculationPeriodDates") d in
     let q : (stream_by lists dates).says d s = says in
-    let (x, (e, of_dates)) = one_is dates (period_dates lists).says s q.0 in
-    let (y, (f, h)) = one_is (once (codes "calculationPeriodAmount") d) AmountSaid s q.1.1.1.0 in
-    let (z, (k, of_calc)) = one_is (once (codes "calculation") y) calculation.says s h in
-    let r : DatesRead lists dates (member (codes "calculationPeriodFrequency") dates) s =
-    subst (λ o. DatesRead lists o (member (codes "calculationPeriodFrequency") o) s) (sym e)
-    (dates_only lists g x s of_dates) in
-    let c : CalculationRead (member (codes "calculation") (once (codes "calculationPeriodAmount") d)) s =
-    subst (λ o. CalculationRead o s) (sym (ap (member (codes "calculation")) f ∙ k)) (calculation_only z s of_calc) in
-    let pay = (pay_fills lists g dates).only d s.pay q.1.0 in
-    let reset = (resets_fills lists g dates).only d s.reset q.1.1.0 in
-    let stub_terms = (stubs_fills dates).only d s.stubs q.1.1.1.1.0 in
-    let exchange = exchanges_fills.only d s.exchanges q.1.1.1.1.1 in
+    let (x, (e, (effective, (termination, (period, (start, (first, (last, (stub, times))))))))) =
+    one_is dates (period_dates lists).says s q.0 in
+    let (t, (f, (freq, roll))) = one_is (once (codes "calculationPeriodFrequency") x) FrequencySaid s times in
+    let (y, (k, amount)) = one_is (once (codes "calculationPeriodAmount") d) AmountSaid s q.1.1.1.0 in
+    let (z, (l, (notionals, (legs, (count, method))))) = one_is (once (codes "calculation") y) calculation.says s amount in
+    let (n, (m, values)) = one_is (once (codes "notionalSchedule") z) StepsSaid s notionals in
+    let (v, (o, (value, currency))) = one_is (once (codes "notionalStepSchedule") n) NotionalSaid s values in
+    let dates_is = sym e in
+    let times_is = sym f ∙ ap (member (codes "calculationPeriodFrequency")) (sym e) in
+    let calc_is = sym (ap (member (codes "calculation")) k ∙ l) in
+    let notionals_is =
+    sym (ap (member (codes "notionalStepSchedule")) m ∙ o)
+    ∙ ap (λ c. member (codes "notionalStepSchedule") (member (codes "notionalSchedule") c)) calc_is in
+    let at = (λ (name : List ℕ). ap (member name) dates_is) in
     λ i. record {
-      effective = r.effective i;
-      first_start = r.first_start i;
-      termination = r.termination i;
-      period_adj = r.period_adj i;
-      first_regular = r.first_regular i;
-      last_regular = r.last_regular i;
-      stub = r.stub i;
-      freq = r.freq i;
-      roll = r.roll i;
-      pay = pay i;
-      reset = reset i;
-      notional = c.notional i;
-      currency = c.currency i;
-      leg = c.leg i;
-      day_count = c.day_count i;
-      compounding = c.compounding i;
-      stubs = stub_terms i;
-      exchanges = exchange i;
+      effective = ((effective_fills lists g).only x s.effective effective
+          ∙ ap (dated_in lists) (at (codes "effectiveDate"))) i;
+      first_start = ((start_fills lists g).only x s.first_start start
+          ∙ ap (maybe_dated_in lists) (at (codes "firstPeriodStartDate"))) i;
+      termination = ((termination_fills lists g).only x s.termination termination
+          ∙ ap (dated_in lists) (at (codes "terminationDate"))) i;
+      period_adj = ((period_fills lists g).only x s.period_adj period
+          ∙ ap (adjustments_in lists) (at (codes "calculationPeriodDatesAdjustments"))) i;
+      first_regular = (first_fills.only x s.first_regular first
+          ∙ ap (said day_at) (at (codes "firstRegularPeriodStartDate"))) i;
+      last_regular = (last_fills.only x s.last_regular last
+          ∙ ap (said day_at) (at (codes "lastRegularPeriodEndDate"))) i;
+      stub = (stub_fills.only x s.stub stub ∙ ap (said stub_kind_at) (at (codes "stubPeriodType"))) i;
+      freq = (times_fills.only t s.freq freq ∙ ap frequency_in times_is) i;
+      roll = (roll_fills.only t s.roll roll
+          ∙ ap (λ r. unwrap_or (said roll_at (member (codes "rollConvention") r)) NoRoll) times_is) i;
+      pay = (pay_fills lists g dates).only d s.pay q.1.0 i;
+      reset = (resets_fills lists g dates).only d s.reset q.1.1.0 i;
+      notional = (notional_fills.only v s.notional value ∙ ap (schedule_in Notionals) notionals_is) i;
+      currency = (currency_fills.only v s.currency currency
+          ∙ ap (λ c. unwrap_or (said currency_at (member (codes "currency") c)) no_currency) notionals_is) i;
+      leg = (leg_only (once (codes "floatingRateCalculation") z) (once (codes "fixedRateSchedule") z) s.leg legs
+          ∙ ap (λ c. leg_by (member (codes "floatingRateCalculation") c) (member (codes "fixedRateSchedule") c)) calc_is) i;
+      day_count = (count_fills.only z s.day_count count
+          ∙ ap (λ c. unwrap_or (said day_count_at (member (codes "dayCountFraction") c)) OneOne) calc_is) i;
+      compounding = (method_fills.only z s.compounding method
+          ∙ ap (λ c. unwrap_or (said compounding_at (member (codes "compoundingMethod") c)) Simple) calc_is) i;
+      stubs = (stubs_fills dates).only d s.stubs q.1.1.1.1.0 i;
+      exchanges = exchanges_fills.only d s.exchanges q.1.1.1.1.1 i;
     }
