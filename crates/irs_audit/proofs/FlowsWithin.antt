@@ -1,15 +1,13 @@
 -- The flows that are read of a document keep the bounds of flows.
-use Rattle.std.proofs.Common.{◌≡◌, Bool, true, false, ◌&&◌, List, [], ◌∷◌, length, map, ℤ, ◌≤ℤ◌, int_le}
-use Rattle.std.proofs.Common.{Option, Some, None, IfSome, arith, refl, subst, sym, if◌then◌else◌}
+use Rattle.std.proofs.Common.{◌≡◌, List, [], ◌∷◌, length, map}
+use Rattle.std.proofs.Common.{Option, Some, None, IfSome, arith, refl, subst, sym}
 use Rattle.std.specs.Prelude.{ℕ, option_and_then, sum_by, codes}
-use Rattle.std.proofs.lemmas.Int.{ints}
 use Rattle.std.proofs.lemmas.List.{length-append, length-map}
 use Rattle.std.proofs.lemmas.List.Sums.{sum_by-cons}
-use Rattle.irs_base.specs.Days.{IsDay, first_day, last_day}
+use Rattle.irs_base.specs.Days.{IsDay}
 use Rattle.irs_base.specs.Members.{Every}
-use Rattle.irs_base.specs.Texts.{day_text}
-use Rattle.irs_elements.proofs.Exact.{both_true}
-use Rattle.irs_elements.specs.Dates.{day_at, is_text_of, named_day, plain_day_at, without_z}
+use Rattle.irs_elements.proofs.DatesAt.{day_range}
+use Rattle.irs_elements.specs.Dates.{day_at}
 use Rattle.irs_elements.specs.Find.{once, text_in, values_in}
 use Rattle.irs_read.specs.Readings.{said}
 use Rattle.irs_audit.specs.FlowBounds.{FlowsAreWithin, KeepsFlowBounds}
@@ -21,40 +19,13 @@ use Rattle.irs_audit.specs.declared.flows.FlowExchange.{FlowExchange}
 use Rattle.irs_audit.specs.declared.flows.FlowPayment.{FlowPayment}
 use Rattle.irs_audit.specs.declared.flows.FlowPeriod.{FlowPeriod}
 use Rattle.serde_json.specs.Data.{Data}
-use Rattle.std.specs.Str.{bytes_eq}
 
 -- ---- the days that texts name
 
--- the test of at most finds it
-at_most : (a b : ℤ) → int_le a b ≡ true → a ≤ℤ b
-at_most a b e = grind (arith, ints)
-
--- a day whose text is tested is in range
-tested_day : (s : List ℕ) (d : ℤ) → is_text_of s d ≡ true → IsDay d
-tested_day s d e =
-    let a = both_true (int_le first_day d) (int_le d last_day && bytes_eq s (day_text d)) e in
-    let b = both_true (int_le d last_day) (bytes_eq s (day_text d)) a.1 in
-    (at_most first_day d a.0, at_most d last_day b.0)
-
--- so is the day that a text names, by the outcome of its test
-named_in : (s : List ℕ) (b : Bool) → is_text_of s (named_day s) ≡ b → IfSome (if b then Some (named_day s) else None) IsDay
-named_in s true e = tested_day s (named_day s) e
-named_in s false e = tt
-
--- a plain date is in range
-plain_in : (s : List ℕ) → IfSome (plain_day_at s) IsDay
-unfolding plain_day_at
-plain_in s = named_in s (is_text_of s (named_day s)) refl
-
--- a date is in range, with or without a last `Z`
-day_in : (s : List ℕ) → IfSome (day_at s) IsDay
-unfolding day_at
-day_in s = plain_in (without_z s)
-
--- so is that of a text that may be absent
+-- a day of a text that may be absent is in range
 text_day_in : (o : Option (List ℕ)) → IfSome (option_and_then day_at o) IsDay
 text_day_in None = tt
-text_day_in (Some s) = day_in s
+text_day_in (Some s) = day_range s
 
 -- the day of a leaf is in range
 said_in : (o : Option Data) → IfSome (said day_at o) IsDay

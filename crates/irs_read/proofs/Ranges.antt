@@ -1,9 +1,8 @@
 -- The values of leaves lie in their ranges, their defaults too.
-use Rattle.irs_base.specs.Days.{IsDay, first_day, last_day}
+use Rattle.irs_base.specs.Days.{IsDay, first_day}
 use Rattle.irs_elements.proofs.Exact.{both_true}
 use Rattle.irs_elements.specs.Codes.{among, day_number_at, day_roll_at, either, is_first_digit, named_roll_at, roll_at}
 use Rattle.irs_elements.specs.Codes.{tenor_unit_at}
-use Rattle.irs_elements.specs.Dates.{day_at, is_text_of, named_day, plain_day_at, without_z}
 use Rattle.irs_elements.specs.Decimals.{dec_at}
 use Rattle.irs_elements.specs.Find.{text_in}
 use Rattle.irs_elements.specs.Numbers.{multiplier_at, notional_at, observation_days_at, offset_at, precision_at}
@@ -13,7 +12,6 @@ use Rattle.irs_read.specs.Readings.{said}
 use Rattle.irs_read.specs.Private.Meaning.{scale_at}
 use Rattle.irs_read.specs.declared.leaf_values.Scale.{Scale}
 use Rattle.irs_read.specs.declared.leaf_values.Scale.TheVariants.{Notionals, Rates}
-use Rattle.irs_base.specs.Texts.{day_text}
 use Rattle.irs_terms.specs.Lawful.{IsLawfulCurrency, IsLawfulRoll, IsNotional, IsObservationDays, IsRate}
 use Rattle.irs_base.specs.Limits.{most_multiplier, most_notional, most_observation_offset, most_offset, most_rate}
 use Rattle.irs_terms.specs.declared.codes.RollCode.TheVariants.{Dom, Eom, Imm, NoRoll, OnWeekday}
@@ -49,18 +47,6 @@ or_in P (Some x) a h p = h
 
 int_le_is : (a b : ℤ) → int_le a b ≡ true → a ≤ℤ b
 int_le_is a b e = grind (arith, ints)
-
-day_by : (s : List ℕ) (d : ℤ) (b : Bool) → is_text_of s d ≡ b → IfSome (if b then Some d else None) IsDay
-day_by s d false e = tt
-day_by s d true e =
-    let a = both_true (int_le first_day d) (int_le d last_day && bytes_eq s (day_text d)) e in
-    let b = both_true (int_le d last_day) (bytes_eq s (day_text d)) a.1 in
-    (int_le_is first_day d a.0, int_le_is d last_day b.0)
-
--- a date that is read is a day
-pub day_range : (s : List ℕ) → IfSome (day_at s) IsDay
-unfolding day_at plain_day_at
-day_range s = day_by (without_z s) (named_day (without_z s)) (is_text_of (without_z s) (named_day (without_z s))) refl
 
 -- the first day of the range is a day
 pub first_is_day : IsDay first_day

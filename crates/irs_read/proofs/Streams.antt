@@ -11,7 +11,8 @@ use Rattle.irs_elements.specs.declared.table.Leaf.TheVariants.{CenterName, Conve
 use Rattle.irs_read.proofs.CenterLists.{names_reads}
 use Rattle.irs_read.proofs.Clean.{Clean, clean_leaf, fine_values, leaf_at, most_at, some_value}
 use Rattle.irs_read.proofs.Fills.{below, perhaps, there}
-use Rattle.irs_read.proofs.Ranges.{InScale, capitals, currency_range, day_range, first_is_day, multiplier_range}
+use Rattle.irs_elements.proofs.DatesAt.{day_range}
+use Rattle.irs_read.proofs.Ranges.{InScale, capitals, currency_range, first_is_day, multiplier_range}
 use Rattle.irs_read.proofs.Ranges.{observation_days_range, offset_range, or_in, precision_range, rate_range}
 use Rattle.irs_read.proofs.Ranges.{roll_range, said_in, scale_range}
 use Rattle.irs_read.proofs.Ranges.{tenor_unit_range, zero_range}
