@@ -609,6 +609,11 @@ kept n = IsSet n
         said = "tools/reading: no public call with a contract: low::helped"
         self.assertEqual(self.found("low::helped"), (2, [said]))
 
+    def test_a_function_of_a_public_module(self) -> None:
+        (self.top / "crates/low/src/lib.rt").write_text("pub mod days;\n")
+        lines = ["low::first: 3 definitions, 8 lines, 2 files", "low::helped: 0 definitions, 0 lines, 0 files"]
+        self.assertEqual(self.found()[1][1:], lines)
+
     def test_what_no_contract_reaches(self) -> None:
         lines = ["low Days: last", "low Other: day", "6 definitions, 2 of them reached from no public contract"]
         self.assertEqual(self.found("--unreached"), (0, lines))

@@ -10,8 +10,7 @@ use Rattle.irs_base.specs.declared.rounding.Direction.TheVariants.{Nearest}
 use Rattle.irs_elements.proofs.DecimalsAt.{cut_is, from_parts, to_parts}
 use Rattle.irs_elements.proofs.Exact.{Exact}
 use Rattle.irs_elements.specs.Decimals.{are_parts, before_point, behind_point}
-use Rattle.irs_elements.specs.Fractions.{carried, fraction_at, fraction_of}
-use Rattle.irs_elements.specs.Private.Fractions.{IsFraction}
+use Rattle.irs_elements.specs.Fractions.{IsFraction, carried, fraction_at, fraction_of}
 use Rattle.jiff_core.proofs.SignedLemmas.{signed_arith}
 use Rattle.std.proofs.Common.{◌≡◌, ◌⊎◌, ℕ, zero, suc, ◌+◌, ◌-◌, ◌*◌, ◌^◌, ◌<◌, ◌≤◌, nat_le, Bool, true, false}
 use Rattle.std.proofs.Common.{true≢false, List, [], ◌∷◌, ◌++◌, length, take, drop, ℤ, pos, ◌<ℤ◌, Some, None}

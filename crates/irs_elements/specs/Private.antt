@@ -1,4 +1,3 @@
 pub mod Decimals
-pub mod Fractions
 pub mod Elements
 pub mod Walk

@@ -10,8 +10,7 @@ use Rattle.irs_elements.proofs.DatesAt.{day_is}
 use Rattle.irs_elements.proofs.DecimalsAt.{dec_is}
 use Rattle.irs_elements.proofs.Exact.{both_true, exact_same, true_both}
 use Rattle.irs_elements.proofs.FractionsAt.{fraction_exact, one_fraction}
-use Rattle.irs_elements.specs.Fractions.{fraction_at}
-use Rattle.irs_elements.specs.Private.Fractions.{IsFraction}
+use Rattle.irs_elements.specs.Fractions.{IsFraction, fraction_at}
 use Rattle.irs_elements.specs.Words.{currency_at, is_capital, is_currency}
 use Rattle.irs_base.specs.Rounding.{Rounded}
 use Rattle.irs_base.specs.declared.rounding.Direction.TheVariants.{Nearest}
