@@ -10,6 +10,7 @@ pub mod VisibleTexts
 pub mod LinesRead
 pub mod FileRead
 pub mod KeptRows
+pub mod SmallRates
 pub mod RatesAlone
 pub mod TwoProducts
 pub mod PrecisionLemmas
