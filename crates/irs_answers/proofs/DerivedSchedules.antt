@@ -60,7 +60,7 @@ gives_stub Initial (Some stubs) index tenor h = inl (refl, h)
 gives_stub Last (Some stubs) index tenor h = inr (refl, h)
 
 -- the period of a stub is one of the stream
-stub_period : (side : Side) (s : Stream) (span : Span) (a : List ℤ) (i : ℕ) → 2 ≤ length a
+pub stub_period : (side : Side) (s : Stream) (span : Span) (a : List ℤ) (i : ℕ) → 2 ≤ length a
     → IsStubOn side s span (length a - 1) i → IsPeriod a i
 stub_period Initial s span a i some h = let one = h.1 in (omega (arith, one), omega (arith, one, some))
 stub_period Last s span a i some h = let one = h.1 in (omega (arith, one, some), omega (arith, one, some))
@@ -83,7 +83,7 @@ stub_kind cal fix Last s p facts span regular i h =
 module _ (swap : Swap) (cal : List Section) (parts : List Part) (h : IsKeptSchedule swap cal [] parts) (number : ℕ)
     (x : FloatingStream) (at : IsFloatingAt swap number x) where
   -- its part has its resets on days of the range
-  own_part : (p : Part) → slice_get parts (number - 1) ≡ Some p → HasResetDays cal [] x.stream p
+  pub own_part : (p : Part) → slice_get parts (number - 1) ≡ Some p → HasResetDays cal [] x.stream p
   own_part p there =
       let one = staged_at swap cal [] parts h (number - 1) p there in
       let same : one.stream ≡ x.stream = same_Some one.stream x.stream (sym one.at ∙ at.at) in
@@ -94,7 +94,8 @@ module _ (swap : Swap) (cal : List Section) (parts : List Part) (h : IsKeptSched
   -- in a schedule made with the file of these rows, a period that takes its rate from a line of the file has the rate
   -- of the row with its fixing date
   rate_from_row : (rows : List DerivedRow) (index : List ℕ) (tenor : Option Frequency) → EachDateOnce rows
-      → AreFixings rows tenor index → (table : RateTable) → IsFixingFile (file_text rows tenor index) table → (p q : Part) → HasResetDays cal [] x.stream p
+      → AreFixings rows tenor index → (table : RateTable) → IsFixingFile (file_text rows tenor index) table
+      → (p q : Part) → HasResetDays cal [] x.stream p
       → IsPart (stream_sets cal x.stream) table x.stream q → (i : ℕ) → IsPeriod q.adjusted i
       → ComesFromLine x (length q.adjusted - 1) i index tenor → (k : ℕ) (row : DerivedRow)
       → slice_get rows k ≡ Some row → row.period ≡ i → row.fixing ≡ fixing_at p.resets i → HasRateOf row q

@@ -22,6 +22,8 @@ pub mod PastTen
 pub mod UnfixedParts
 pub mod DerivedFiles
 pub mod DerivedSchedules
+pub mod KeptDerived
+pub mod PrintedRates
 pub mod NetLemmas
 pub mod DerivedLemmas
 pub mod StubLemmas

@@ -78,7 +78,8 @@ stubs_apart s span b dates regular kept listed some before after = elim (cases_l
   | inl more ↦ more
   | inr two ↦
       let starts : day_at b 1 ≡ span.first = (regular_start s span dates regular kept b listed).behind_stub before in
-      let ends : day_at b (length b - 2) ≡ span.last = (regular_end s span dates regular kept b listed).before_stub after in
+      let ends : day_at b (length b - 2) ≡ span.last =
+      (regular_end s span dates regular kept b listed).before_stub after in
       let none : length b - 2 ≡ 0 = omega (arith, two) in
       let first : day_at b 0 ≡ span.last = ap (day_at b) (sym none) ∙ ends in
       let order = (lies_in_term s span dates regular kept.fits).order in
@@ -230,7 +231,8 @@ module _ (cal : List Section) (t u : RateTable) (stream : FloatingStream)
       subst (λ (span : Span). IsKind s span n i takes.kind) spans takes.is_kind in
       let kinds : takes.kind ≡ other.kind = one_kind s k.layout.span n i takes.kind other.kind is_kind other.is_kind in
       let comes : ComesFrom other.kind float s.stubs (Line index tenor) =
-      subst (λ (kind : PeriodKind). ComesFrom kind float s.stubs (Line index tenor)) kinds takes.comes_from in
+      subst (λ (kind : PeriodKind). ComesFrom kind float s.stubs (Line index tenor)) {y = other.kind} kinds
+      takes.comes_from in
       let line : Option ℤ = rate_at u index (record { date = y.0.fixing; tenor = tenor }) in
       let by_line : IsObserved other.kind float s.stubs u y.0.fixing line =
       record { source = Line index tenor; comes_from = comes; is = refl } in

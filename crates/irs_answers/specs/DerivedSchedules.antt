@@ -72,8 +72,8 @@ pub record IsMadeWith (swap : Swap) (cal : List Section) (text : List ℕ) (part
 abbrev pub HoldsWith : Swap → List Section → ℕ → List ℕ → (Part → Type 0) → Type 0
 HoldsWith swap cal number text P = (parts : List Part) → IsMadeWith swap cal text parts → HoldsOf P parts number
 
--- The rates that daily rates give for the stream with that number are used. That is so if no rule is broken, and if they
--- print a fixing file that has exactly their rates.
+-- The rates that daily rates give for the stream with that number are used. That is so if no rule is broken, and if
+-- they print a fixing file that has exactly their rates.
 abbrev pub OvernightIsUsed : Swap → List Section → List Part → ℕ → FloatingStream → RateTable → Type 0
 OvernightIsUsed swap cal parts number x rates =
     let a : Asked = asked swap number parts (reset_days cal x.stream) rates in

@@ -14,6 +14,7 @@ pub mod DerivedSchedules
 pub mod PastTen
 pub mod CashFlows
 pub mod Due
+pub mod PrintedRates
 pub mod Replying
 pub mod Causes
 pub mod Outcomes

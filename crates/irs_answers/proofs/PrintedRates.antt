@@ -1,0 +1,313 @@
+-- What `overnight`, `average` and `interpolate` print is used by `schedule`.
+use Rattle.std.proofs.Common.{◌≡◌, inl, inr, ℕ, ◌+◌, ◌-◌, ◌^◌, ◌<◌, ◌≤◌, List, [], ◌∷◌, length, Option, Some, None, IfSome}
+use Rattle.std.proofs.Common.{ℤ, refl, sym, ap, subst, ◌∙◌, arith}
+use Rattle.std.specs.Prelude.{slice_get}
+use Rattle.std.proofs.lemmas.Option.{same_Some}
+use Rattle.irs_base.specs.Days.{IsDay}
+use Rattle.irs_base.specs.Members.{HoldsOf}
+use Rattle.irs_base.specs.Order.{Only}
+use Rattle.irs_base.specs.declared.places.Broken.{Broken}
+use Rattle.irs_base.specs.declared.places.Fault.{Fault}
+use Rattle.irs_base.proofs.MemberLemmas.{numbered_get}
+use Rattle.serde_json.specs.Data.{Data}
+use Rattle.irs_terms.specs.Lawful.{IsLawful, IsLawfulFloat, IsLawfulLeg, IsLawfulStubRate, IsLawfulStubs, IsRate}
+use Rattle.irs_terms.specs.declared.amounts.FloatTerms.{FloatTerms}
+use Rattle.irs_terms.specs.declared.amounts.StubRate.{StubRate}
+use Rattle.irs_terms.specs.declared.amounts.StubRate.TheVariants.{Index}
+use Rattle.irs_terms.specs.declared.amounts.StubTerms.{StubTerms}
+use Rattle.irs_terms.specs.declared.frequency.Frequency.{Frequency}
+use Rattle.irs_terms.specs.declared.stream.Stream.{Stream}
+use Rattle.irs_terms.specs.declared.stream_list.Swap.{Swap}
+use Rattle.irs_calendar.specs.declared.sections.Section.{Section}
+use Rattle.irs_read.specs.Reading.{Means}
+use Rattle.irs_read.proofs.LawfulSwaps.{document_lawful, means_read}
+use Rattle.irs_resets.specs.FixingFiles.{IsFixingFile}
+use Rattle.irs_resets.specs.Rates.{AreSmall, RateTable, rate_at}
+use Rattle.irs_resets.specs.ResetDates.{IsPeriod}
+use Rattle.irs_resets.specs.declared.store.Slot.{Slot}
+use Rattle.irs_rules.proofs.Kept.{lawful_stream}
+use Rattle.irs_schedule.specs.DaySets.{reset_days}
+use Rattle.irs_schedule.specs.Parts.{Part}
+use Rattle.irs_schedule.specs.Schedules.{IsSchedule}
+use Rattle.irs_overnight.specs.DailySources.{DailySource, daily_source, fixing_at}
+use Rattle.irs_overnight.specs.DerivedRows.{AreDerived}
+use Rattle.irs_overnight.specs.DerivedRules.{BreaksDerived}
+use Rattle.irs_overnight.specs.FileLaw.{AreFixings, file_text}
+use Rattle.irs_overnight.specs.Overnight.{Asked, HasSource, IsFirstDerived, IsOvernight, OvernightKept}
+use Rattle.irs_overnight.specs.Reading.{IsLawfulLine}
+use Rattle.irs_overnight.specs.declared.derived.DerivedRow.{DerivedRow}
+use Rattle.irs_overnight.proofs.FileRead.{are_fixings}
+use Rattle.irs_average.specs.Averages.{AverageAsked, AverageKept, HasMeanSource, IsAverage, IsFirstOfAverage, averaged}
+use Rattle.irs_average.specs.Interpolations.{IsInterpolated, IsStubBroken, StubKept}
+use Rattle.irs_average.specs.MeanRows.{AreMeans}
+use Rattle.irs_average.specs.MeanRules.{BreaksMeans}
+use Rattle.irs_average.specs.MeanSources.{MeanSource, averaging_by, mean_source, own_lines}
+use Rattle.irs_average.specs.StubRates.{IsStubRow, StubSource}
+use Rattle.irs_average.specs.Stubs.{GivesIndex, GivesOn, HasStub, IsStubOn, Stub, StubAsked, stub_asked}
+use Rattle.irs_average.specs.declared.means.Mean.{Mean}
+use Rattle.irs_average.specs.declared.stubs.Side.{Side}
+use Rattle.irs_average.specs.declared.stubs.Side.TheVariants.{Initial, Last}
+use Rattle.irs_answers.specs.Derived.{DueAveraged, DueCompounded, DueStub, FloatingStream, IsFloatingAt, NotFloating, PrintsOne}
+use Rattle.irs_answers.specs.Derived.{PrintsStub}
+use Rattle.irs_answers.specs.DerivedSchedules.{HasRateOf, HasRowRates, IsMadeWith}
+use Rattle.irs_answers.specs.Due.{Answered, AreFixings as FixingsGive, DueFor, Facts, Passes, Spells, facts, rates_for}
+use Rattle.irs_answers.specs.Given.{Given}
+use Rattle.irs_answers.specs.KeptSchedules.{IsKeptSchedule}
+use Rattle.irs_answers.specs.PrintedRates.{AveragePrints, InterpolatePrints, OvernightPrints, PrintsRate, PrintsRates, asked_of}
+use Rattle.irs_answers.specs.PrintedRates.{with_fixings}
+use Rattle.irs_answers.specs.Steps.{Refuses, Rules, Step}
+use Rattle.irs_answers.specs.declared.tasks.Task.{Task}
+use Rattle.irs_answers.specs.declared.tasks.Task.TheVariants.{Schedule, Overnight, Average, Interpolate}
+use Rattle.irs_answers.proofs.DerivedSchedules.{average_used, overnight_used, own_part, stub_period, stub_used}
+use Rattle.irs_answers.proofs.DueLemmas.{one_calendars, one_meaning, one_reading}
+use Rattle.irs_answers.proofs.KeptDerived.{derived_kept, fixing_is_day, means_kept, stub_kept}
+use Rattle.irs_answers.proofs.StubLemmas.{one_index}
+
+-- ---- what the files say
+
+-- a document means a lawful swap
+means_lawful : (d : Data) (s : Swap) → Means d s → IsLawful s
+means_lawful d s m = document_lawful d m.at s m.clean m.found (means_read d s m)
+
+-- a document spells one swap, whatever the task needs
+one_swap : (t r : Task) (g h : Given) (f u : Facts) → g.document ≡ h.document → Spells t g.document f.swap f.sides
+    → Spells r h.document u.swap u.sides → u.swap ≡ f.swap
+one_swap t r g h f u e p q =
+    let again : Spells r g.document u.swap u.sides = subst (λ w. Spells r w u.swap u.sides) (sym e) q in
+    let same : again.value ≡ p.value = one_reading g.document p.value again.value p.reads again.reads in
+    one_meaning p.value f.swap u.swap p.means (subst (λ (v : Data). Means v u.swap) same again.means)
+
+-- the rates of a file of fixings are at most 10 in size
+small_option : (o : Option ℤ) → ((x : ℤ) → o ≡ Some x → IsRate x) → IfSome o IsRate
+small_option None h = tt
+small_option (Some x) h = h x refl
+
+file_small : (bytes : List ℕ) (table : RateTable) → IsFixingFile bytes table → AreSmall table
+file_small bytes table is index slot =
+    small_option (rate_at table index slot) (λ x e. ((is.holds index slot x).0 e).1.spelt.rate_text.small)
+
+fixings_small : (o : Option (List ℕ)) (table : RateTable) → FixingsGive o table → AreSmall table
+fixings_small None table h index slot = rw h tt
+fixings_small (Some bytes) table h index slot = file_small bytes table h index slot
+
+-- with a text as the file of fixings, `schedule` makes a schedule with the rates of that file
+made_with : (t : Task) (g : Given) (f u : Facts) (text other : List ℕ) → Passes t g f
+    → Passes Schedule (with_fixings g text) u → text ≡ other → IsMadeWith f.swap f.cal other u.parts
+made_with t g f u text other p q same =
+    let swap = one_swap t Schedule g (with_fixings g text) f u refl p.document q.document in
+    let cal = one_calendars g.calendars f.cal u.cal p.calendars q.calendars in
+    let by_swap : IsSchedule f.swap u.cal u.table u.parts =
+    subst (λ (s : Swap). IsSchedule s u.cal u.table u.parts) swap q.schedule.is in
+    record {
+      table = u.table;
+      file = subst (λ (bytes : List ℕ). IsFixingFile bytes u.table) same q.fixings;
+      schedule = subst (λ (c : List Section). IsSchedule f.swap c u.table u.parts) cal by_swap;
+    }
+
+-- what is due for files that pass is the answer over their schedule
+answered_for : (t : Task) (g : Given) (f : Facts) (status : ℕ) (text : List ℕ) → Passes t g f → DueFor t g status text
+    → Answered t g (facts f.swap f.sides f.cal f.table f.parts) status text
+answered_for t g f status text p h =
+    let d = p.document in
+    let last = (((((((h.next d.value d.reads).next f.swap d.means).next f.sides d.has_sides).next f.cal
+    p.calendars).next f.table p.fixings).next p.terms).next p.dated) in
+    subst (λ (s : List Part). Answered t g (facts f.swap f.sides f.cal f.table s) status text)
+    (sym (last.1.only f.parts p.schedule.is)) last.2
+
+-- ---- the stream and its lines
+
+own_line : (swap : Swap) (number : ℕ) (x : FloatingStream) → IsLawful swap → IsFloatingAt swap number x
+    → IsLawfulLine x.float.index x.float.tenor
+own_line swap number x lawful at =
+    let stream = lawful_stream swap lawful (number - 1) x.stream at.at in
+    let float : IsLawfulFloat x.float = subst IsLawfulLeg at.pays stream.leg in
+    record { named = float.index; lasting = float.tenor }
+
+lawful_given : (given : Option StubRate) (index : List ℕ) (tenor : Option Frequency) → IfSome given IsLawfulStubRate
+    → given ≡ Some (Index index tenor) → IsLawfulLine index tenor
+lawful_given given index tenor lawful is =
+    let both : IsLawfulStubRate (Index index tenor) =
+    subst (λ (o : Option StubRate). IfSome o IsLawfulStubRate) is lawful in
+    record { named = both.0; lasting = both.1 }
+
+lawful_on : (side : Side) (stubs : Option StubTerms) (index : List ℕ) (tenor : Option Frequency)
+    → IfSome stubs IsLawfulStubs → GivesOn side stubs index tenor → IsLawfulLine index tenor
+lawful_on side None index tenor lawful gives = absurd gives
+lawful_on Initial (Some stubs) index tenor lawful gives = lawful_given stubs.initial index tenor lawful.0 gives
+lawful_on Last (Some stubs) index tenor lawful gives = lawful_given stubs.last index tenor lawful.1 gives
+
+-- ---- what is printed with status 0
+
+not_two : (status : ℕ) → status ≡ 0 → status ≡ 2 → ⊥
+not_two status a b = omega (arith, a, b)
+
+-- the floating stream is there, and what is due for it is due
+record Floated (swap : Swap) (number : ℕ) (Next : FloatingStream → Type 0) : Type 0 where
+  stream : FloatingStream
+  floats : IsFloatingAt swap number stream
+  next : Next stream
+
+floated : (swap : Swap) (number : ℕ) (text : List ℕ) (Next : FloatingStream → Type 0)
+    → Step (IsFloatingAt swap number) (NotFloating number 0 text) Next → Floated swap number Next
+floated swap number text Next h = elim h.case [
+  | inl none ↦ absurd (not_two 0 refl (h.fails none).0)
+  | inr there ↦ record { stream = there.0; floats = there.1; next = h.next there.0 there.1 }
+]
+
+kept_next : (Keeps : Type 0) (P : Broken → Type 0) (text : List ℕ) (Next : Type 0)
+    → Rules Keeps (Refuses P 0 text) Next → Keeps × ((_ : Keeps) → Next)
+kept_next Keeps P text Next h = elim h.case [
+  | inl broken ↦ absurd (not_two 0 refl (h.fails broken).2.0)
+  | inr keeps ↦ (keeps, h.next)
+]
+
+module _ (t : Task) (g : Given) (f : Facts) (p : Passes t g f) (kept : IsKeptSchedule f.swap f.cal [] f.parts)
+    (number : ℕ) (x : FloatingStream) (at : IsFloatingAt f.swap number x) where
+  -- rows of daily rates print a fixing file
+  overnight_file : (rows : List DerivedRow) → OvernightKept (asked_of f number x)
+      → IsOvernight (asked_of f number x) rows → AreFixings rows x.float.tenor x.float.index
+  overnight_file rows keeps over =
+      let a : Asked = asked_of f number x in
+      let has = over.has in
+      let facts = own_part f.swap f.cal f.parts kept number x at has.part has.at in
+      let source : DailySource = daily_source has.part has.float.index a.days a.rates in
+      let own : HasSource a source =
+      record { float = has.float; pays = has.pays; part = has.part; at = has.at; is = refl } in
+      let derived : AreDerived source rows = subst (λ (z : DailySource). AreDerived z rows) has.is over.derived in
+      let unbroken : (b : Fault) → BreaksDerived source b → ⊥ =
+      λ b breaks. keeps b (record { source = source; has = own; breaks = breaks }) in
+      are_fixings x.float.tenor x.float.index rows (own_line f.swap number x kept.lawful at)
+      (derived_kept source rows derived unbroken facts.many facts.few facts.days)
+
+  -- so do averages
+  average_file : (mean : Mean) (step : ℕ) (rows : List DerivedRow) → AreSmall f.table
+      → AverageKept (averaged (asked_of f number x) mean step)
+      → IsAverage (averaged (asked_of f number x) mean step) rows → AreFixings rows x.float.tenor x.float.index
+  average_file mean step rows small keeps average =
+      let a : AverageAsked = averaged (asked_of f number x) mean step in
+      let has = average.has in
+      let facts = own_part f.swap f.cal f.parts kept number x at has.part has.at in
+      let source : MeanSource =
+      mean_source has.part (averaging_by mean step a.of.days (own_lines f.table has.float)) in
+      let own : HasMeanSource a source =
+      record { float = has.float; pays = has.pays; part = has.part; at = has.at; is = refl } in
+      let means : AreMeans source rows = subst (λ (z : MeanSource). AreMeans z rows) has.is average.are in
+      let unbroken : (b : Fault) → BreaksMeans source b → ⊥ =
+      λ b breaks. keeps b (record { source = source; has = own; breaks = breaks }) in
+      are_fixings x.float.tenor x.float.index rows (own_line f.swap number x kept.lawful at)
+      (means_kept source rows means unbroken facts.many facts.few facts.days facts.rises
+      (λ d. small has.float.index (record { date = d; tenor = has.float.tenor })))
+
+  -- and so does the row of a stub
+  stub_file : (side : Side) (low high : Frequency) (row : DerivedRow) (stub : Stub) → AreSmall f.table
+      → HasStub (stub_asked f.swap number side low high f.parts f.table) stub
+      → IsStubRow stub.source stub.period row → AreFixings (row ∷ []) stub.tenor stub.source.index
+  stub_file side low high row stub small has own =
+      let q = has.part in
+      let facts = own_part f.swap f.cal f.parts kept number x at q has.at in
+      let i = stub.period in
+      let gives = has.gives in
+      let same : gives.stream ≡ x.stream = same_Some gives.stream x.stream (sym gives.at ∙ at.at) in
+      let is_stub : IsStubOn side x.stream has.span (length q.adjusted - 1) i =
+      subst (λ (s : Stream). IsStubOn side s has.span (length q.adjusted - 1) i) same has.is_stub in
+      let period : IsPeriod q.adjusted i = stub_period side x.stream has.span q.adjusted i facts.some is_stub in
+      let fixing : stub.source.fixing ≡ fixing_at q.resets i = ap (λ (z : StubSource). z.fixing) has.is in
+      let table : stub.source.rates ≡ f.table = ap (λ (z : StubSource). z.rates) has.is in
+      let few = facts.few in
+      let day : IsDay stub.source.fixing =
+      subst IsDay (sym fixing) (fixing_is_day q.adjusted q.resets facts.many facts.days i period) in
+      let short : i < 2 ^ 32 = omega (arith, period.1, few) in
+      let stream = lawful_stream f.swap kept.lawful (number - 1) gives.stream gives.at in
+      are_fixings stub.tenor stub.source.index (row ∷ [])
+      (lawful_on side gives.stream.stubs stub.source.index stub.tenor stream.stubs gives.gives)
+      (stub_kept stub.source i row (subst AreSmall (sym table) small) day short own)
+
+-- ---- the tasks
+
+pub overnight_prints : (number : ℕ) (g : Given) (f : Facts) (text : List ℕ) → OvernightPrints number g f text
+overnight_prints number g f text p due =
+    let t = Overnight number in
+    let kept : IsKeptSchedule f.swap f.cal [] f.parts = record {
+      lawful = means_lawful p.document.value f.swap p.document.means;
+      terms = p.terms;
+      dated = p.dated;
+      schedule = p.schedule.is;
+    } in
+    let x = floated f.swap number text
+    (λ y. DueCompounded (asked_of f number y) y.float 0 text) (answered_for t g f 0 text p due) in
+    let a = asked_of f number x.stream in
+    let rules = kept_next (OvernightKept a) (IsFirstDerived a) text (PrintsOne (IsOvernight a) x.stream.float 0 text)
+    x.next in
+    let rows = rules.1 rules.0 in
+    let file = overnight_file t g f p kept number x.stream x.floats rows.0 rules.0 rows.1.is in
+    record {
+      stream = x.stream;
+      floats = x.floats;
+      rows = rows.0;
+      only = rows.1;
+      printed = rows.2.1;
+      file = file;
+      used = λ u q. overnight_used f.swap f.cal f.parts kept number x.stream x.floats f.table rows.0 rules.0 rows.1.is
+          file u.parts (made_with t g f u text (file_text rows.0 x.stream.float.tenor x.stream.float.index) p q rows.2.1);
+    }
+
+pub average_prints : (number : ℕ) (mean : Mean) (step : ℕ) (g : Given) (f : Facts) (text : List ℕ)
+    → AveragePrints number mean step g f text
+average_prints number mean step g f text p due =
+    let t = Average number mean step in
+    let kept : IsKeptSchedule f.swap f.cal [] f.parts = record {
+      lawful = means_lawful p.document.value f.swap p.document.means;
+      terms = p.terms;
+      dated = p.dated;
+      schedule = p.schedule.is;
+    } in
+    let x = floated f.swap number text
+    (λ y. DueAveraged (averaged (asked_of f number y) mean step) y.float 0 text) (answered_for t g f 0 text p due) in
+    let a = averaged (asked_of f number x.stream) mean step in
+    let rules = kept_next (AverageKept a) (IsFirstOfAverage a) text (PrintsOne (IsAverage a) x.stream.float 0 text)
+    x.next in
+    let rows = rules.1 rules.0 in
+    let small = fixings_small g.fixings f.table p.fixings in
+    let file = average_file t g f p kept number x.stream x.floats mean step rows.0 small rules.0 rows.1.is in
+    record {
+      stream = x.stream;
+      floats = x.floats;
+      rows = rows.0;
+      only = rows.1;
+      printed = rows.2.1;
+      file = file;
+      used = λ u q. average_used f.swap f.cal f.parts kept number x.stream x.floats f.table mean step rows.0 rules.0
+          rows.1.is file u.parts (made_with t g f u text (file_text rows.0 x.stream.float.tenor x.stream.float.index) p q rows.2.1);
+    }
+
+pub interpolate_prints : (number : ℕ) (side : Side) (low high : Frequency) (g : Given) (f : Facts) (text : List ℕ)
+    → InterpolatePrints number side low high g f text
+interpolate_prints number side low high g f text p due =
+    let t = Interpolate number side low high in
+    let kept : IsKeptSchedule f.swap f.cal [] f.parts = record {
+      lawful = means_lawful p.document.value f.swap p.document.means;
+      terms = p.terms;
+      dated = p.dated;
+      schedule = p.schedule.is;
+    } in
+    let a : StubAsked = stub_asked f.swap number side low high f.parts f.table in
+    let x = floated f.swap number text (λ y. DueStub a 0 text) (answered_for t g f 0 text p due) in
+    let rules = kept_next (StubKept a) (IsStubBroken a) text (PrintsStub a 0 text) x.next in
+    let row = rules.1 rules.0 in
+    let is : IsInterpolated a row.0 = row.1.is in
+    let stub = is.stub in
+    let said = one_index f.swap number side row.2.0 stub.source.index row.2.1.0 stub.tenor row.2.1.1 is.has.gives in
+    let printed : text ≡ file_text (row.0 ∷ []) stub.tenor stub.source.index =
+    row.2.1.2.1 ∙ (λ i. file_text (row.0 ∷ []) (sym said.1 i) (sym said.0 i)) in
+    let small = fixings_small g.fixings f.table p.fixings in
+    let file = stub_file t g f p kept number x.stream x.floats side low high row.0 stub small is.has is.is in
+    record {
+      row = row.0;
+      only = row.1;
+      stub = stub;
+      has = is.has;
+      printed = printed;
+      file = file;
+      used = λ u q. stub_used f.swap f.cal f.parts kept number x.stream x.floats f.table side low high row.0 stub is
+          is.has file u.parts (made_with t g f u text (file_text (row.0 ∷ []) stub.tenor stub.source.index) p q printed);
+    }
