@@ -1,5 +1,5 @@
 -- The centres that the calendar files have, as a sentence lists them.
-use Rattle.std.specs.Prelude.{◌≡◌, ℕ, ◌-◌, List, [], ◌∷◌, length, take}
+use Rattle.std.specs.Prelude.{◌≡◌, ℕ, ◌-◌, List, [], ◌∷◌, length, take, Option, Some, IfSome}
 use Rattle.irs_calendar.specs.Grammar.{CalFiles}
 use Rattle.irs_calendar.specs.Sections.{center_names}
 use Rattle.irs_calendar.specs.declared.sections.Section.{Section}
@@ -18,3 +18,8 @@ listed cal = Named (take most_listed (center_names cal)) (length cal - most_list
 abbrev pub IsListOf : List (List ℕ) → Listed → Type 0
 IsListOf [] list = list ≡ NoFile
 IsListOf (f ∷ fs) list = (cal : List Section) × CalFiles (f ∷ fs) cal × (list ≡ listed cal)
+
+-- the list, where memory sufficed for it; that there is no file is always said
+abbrev pub IsMaybeListOf : List (List ℕ) → Option Listed → Type 0
+IsMaybeListOf [] list = list ≡ Some NoFile
+IsMaybeListOf (f ∷ fs) list = IfSome list (IsListOf (f ∷ fs))

@@ -13,7 +13,7 @@ use Rattle.irs_locate.specs.Texts.{IsTextOf}
 use Rattle.irs_locate.specs.declared.kinds.Shape.{Shape}
 use Rattle.irs_answers.specs.Centers.{IsCenterIn}
 use Rattle.irs_answers.specs.Forms.{SourceText, TextReads}
-use Rattle.irs_answers.specs.Listed.{IsListOf}
+use Rattle.irs_answers.specs.Listed.{IsMaybeListOf}
 use Rattle.irs_answers.specs.Misfits.{IsMisfitIn}
 use Rattle.irs_answers.specs.declared.forms.Form.{Form}
 use Rattle.irs_answers.specs.declared.forms.Form.TheVariants.{Json, Xml}
@@ -105,9 +105,9 @@ abbrev pub IsCenterIf : Bool → SourceText → Place → Option (List ℕ) → 
 IsCenterIf true w place center = IfSome center (IsCenterIn w place)
 IsCenterIf false w place center = center ≡ None
 
--- the centres that the calendar files have, for a rule that is about the name of a centre; none where memory ran out
+-- the centres that the calendar files have, for a rule that is about the name of a centre
 abbrev pub IsListIf : Bool → List (List ℕ) → Option Listed → Type 0
-IsListIf true files list = IfSome list (IsListOf files)
+IsListIf true files list = IsMaybeListOf files list
 IsListIf false files list = list ≡ None
 
 -- ---- all of them

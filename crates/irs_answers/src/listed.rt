@@ -3,7 +3,7 @@ ghost use Rattle.std.specs.Prelude.{◌≡◌, IfOk, IfSome, take};
 ghost use Rattle.irs_calendar.specs.Sections.{center_names};
 ghost use Rattle.irs_answers.specs.Common.{AreRead};
 ghost use Rattle.irs_answers.specs.Given.{given_by};
-ghost use Rattle.irs_answers.specs.Listed.{IsListOf, listed, most_listed};
+ghost use Rattle.irs_answers.specs.Listed.{IsMaybeListOf, listed, most_listed};
 
 use crate::common::Common;
 use irs_base::{Memory, Names};
@@ -22,10 +22,10 @@ pub enum Listed {
     Named(Names, usize),
 }
 
-/// The centres that the calendar files have. None where memory ran out.
+/// The centres that the calendar files have. None where there is a file and memory ran out.
 pub(crate) fn listed_centers(alloc: Global, common: &Common) -> Option<Listed>
     requires { AreRead common.now }
-    ensures { IfSome result (IsListOf (given_by common.now.files).calendars) }
+    ensures { IsMaybeListOf (given_by common.now.files).calendars result }
 {
     if common.files.calendars.is_empty() {
         return Some(Listed::NoFile);
