@@ -8,8 +8,8 @@ count = 167
 
 -- a name, where there is one
 abbrev pub name_in : Option (List ℕ) → List ℕ
-name_in (Some p) = p
 name_in None = []
+name_in (Some name) = name
 
 -- the places of the elements that rules and readers name
 abbrev pub document : ℕ

@@ -25,6 +25,10 @@ pub record AreAdjusted (s : Stream) (sets : BoundaryDays) (b a : List ℤ) : Typ
 abbrev pub regular_span_of : Stream → Spec Span Fault
 regular_span_of s = unless_broken comes_before (BreaksSpan s) (IsRegularSpan s)
 
+-- the stream has a regular span, which breaks neither K30 nor K31
+abbrev pub HasSpan : Stream → Type 0
+HasSpan s = (span : Span) × (regular_span_of s).Answers span
+
 -- the boundaries over a span, or K32
 abbrev pub boundaries_of : Stream → Span → Spec (List ℤ) Fault
 boundaries_of s span = unless_broken comes_before (BreaksPeriods s span) (Boundaries s span)
