@@ -899,6 +899,177 @@ fact : private_days.last ≡ days.start
         self.assertIn("0 files changed", self.moved()[-1])
 
 
+class RenameDefinitions(InRoom):
+    """What is renamed and what isn't, in a repository of two crates."""
+
+    FILES = {
+        "irs_low/specs/Days.antt": """-- Days.
+use Rattle.std.specs.Prelude.{◌≡◌, ℕ, ◌+◌}
+
+-- the first day
+abbrev pub start : ℕ
+start = 1
+
+-- the day after a day
+abbrev pub after : ℕ → ℕ
+after n = n + start
+
+-- what comes after a day
+pub record Next (n : ℕ) : Type 0 where
+  pub day : ℕ
+  pub after : day ≡ after n
+  pub same : after ≡ after
+""",
+        "irs_low/specs/Other.antt": """-- The same again.
+use Rattle.std.specs.Prelude.{ℕ, ◌+◌}
+use Rattle.irs_low.specs.Days.{start}
+
+-- the day that follows
+abbrev pub following : ℕ → ℕ
+following day = day + start
+
+-- two days on
+abbrev pub second : ℕ → ℕ
+second n = following (following n)
+""",
+        "irs_low/src/days.rt": """ghost use Rattle.irs_low.specs.Days.{after, start};
+
+// `after` of the code stays.
+#[tactic(auto, unfolding(crate::specs::Days::after, crate::specs::Days::start))]
+fn after(n: u8) -> u8
+    ensures { result ≡ after n }
+{
+    after(n) + 1
+}
+
+fn both(after: u8) -> u8
+    ensures { result ≡ after }
+{
+    after
+}
+""",
+        "irs_low/must-fail/a_day_less.edit": """file: src/days.rt
+old:     ensures { result ≡ after n }
+new:     ensures { result ≡ after n + after n }
+""",
+        "irs_high/proofs/Facts.antt": """use Rattle.irs_low.specs.Days.{Next, after, start as front}
+use Rattle.irs_low.specs.Days as days
+use Rattle.irs_low.specs.Other.{following}
+
+-- a `let`, a λ and a pattern have names of their own
+fact : after front ≡ days.after days.start
+fact = let after = 1 in λ x. x after
+
+other : (after : ℕ) → front ≡ after
+other after = record { after = after }
+
+third : Next front → ℕ
+third h = after h.after + following 1 -- not this after
+""",
+    }
+
+    def setUp(self) -> None:
+        super().setUp()
+        self.top = self.copy("tools/reading", "tools/move_private", "tools/rename_definitions")
+        for name, text in self.FILES.items():
+            self.write(f"crates/{name}", text)
+        self.write("crates.txt", "irs_low:\nirs_high: irs_low\n")
+
+    def write(self, name: str, text: str) -> None:
+        path = self.top / name
+        path.parent.mkdir(parents=True, exist_ok=True)
+        path.write_text(text)
+
+    def text(self, name: str) -> str:
+        return (self.top / "crates" / name).read_text()
+
+    def renamed(self, *words: str) -> Tuple[int, str, str]:
+        return self.run_tool(["tools/rename_definitions", *words], self.top)
+
+    def test_each_place_that_means_it(self) -> None:
+        self.assertEqual(self.renamed("irs_low/specs/Days", "after", "next_day")[0], 0)
+        days = self.text("irs_low/specs/Days.antt")
+        self.assertIn("abbrev pub next_day : ℕ → ℕ\nnext_day n = n + start\n", days)
+        self.assertIn("  pub after : day ≡ next_day n\n  pub same : after ≡ after\n", days)
+        facts = self.text("irs_high/proofs/Facts.antt")
+        self.assertIn("Days.{Next, next_day, start as front}\n", facts)
+        self.assertIn("fact : next_day front ≡ days.next_day days.start\n", facts)
+        self.assertIn("third h = next_day h.after + following 1 -- not this after\n", facts)
+
+    def test_what_is_local_stays(self) -> None:
+        status, out, _ = self.renamed("irs_low/specs/Days", "after", "next_day")
+        facts = self.text("irs_high/proofs/Facts.antt")
+        self.assertIn("fact = let after = 1 in λ x. x after\n", facts)
+        self.assertIn("other : (after : ℕ) → front ≡ after\nother after = record { after = after }\n", facts)
+        self.assertIn("to be looked at: crates/irs_high/proofs/Facts.antt:9: after is local here, and stays\n", out)
+        self.assertEqual(status, 0)
+
+    def test_a_source(self) -> None:
+        self.renamed("irs_low/specs/Days", "after", "next_day")
+        source = self.text("irs_low/src/days.rt")
+        self.assertIn("specs.Days.{next_day, start};\n", source)
+        self.assertIn("unfolding(crate::specs::Days::next_day, crate::specs::Days::start)", source)
+        self.assertIn("fn after(n: u8) -> u8\n    ensures { result ≡ next_day n }\n{\n    after(n) + 1\n", source)
+        self.assertIn("fn both(after: u8) -> u8\n    ensures { result ≡ after }\n", source)
+        self.assertEqual(
+            self.text("irs_low/must-fail/a_day_less.edit"),
+            "file: src/days.rt\nold:     ensures { result ≡ next_day n }\n"
+            "new:     ensures { result ≡ next_day n + next_day n }\n",
+        )
+
+    def test_other_names_of_an_import_stay(self) -> None:
+        self.assertEqual(self.renamed("irs_low/specs/Days", "start", "first_day")[0], 0)
+        facts = self.text("irs_high/proofs/Facts.antt")
+        self.assertIn("{Next, after, first_day as front}\n", facts)
+        self.assertIn("fact : after front ≡ days.after days.first_day\n", facts)
+        self.assertIn("following day = day + first_day\n", self.text("irs_low/specs/Other.antt"))
+
+    def test_two_meanings_of_one_name(self) -> None:
+        status, out, said = self.renamed("irs_low/specs/Days", "after", "following")
+        self.assertEqual((status, out), (1, ""))
+        self.assertEqual(said, "tools/rename_definitions: crates/irs_high/proofs/Facts.antt:13: "
+                               "following means something else here\n")
+        status, out, said = self.renamed("irs_low/specs/Days", "start", "n")
+        self.assertEqual((status, out), (1, ""))
+        self.assertEqual(said, "tools/rename_definitions: crates/irs_low/specs/Days.antt:10: "
+                               "n means something else here\n")
+        for name, text in self.FILES.items():
+            self.assertEqual(self.text(name), text)
+
+    def test_one_definition_for_two(self) -> None:
+        self.assertEqual(self.renamed("irs_low/specs/Other", "following", "=", "irs_low/specs/Days", "after")[0], 1)
+        facts = self.text("irs_high/proofs/Facts.antt")
+        self.write("crates/irs_high/proofs/Facts.antt", facts.replace("after, ", "").replace("after h.after + ", ""))
+        status, _, said = self.renamed("irs_low/specs/Other", "following", "=", "irs_low/specs/Days", "after")
+        self.assertEqual((status, said), (0, ""))
+        self.assertEqual(
+            self.text("irs_low/specs/Other.antt"),
+            """-- The same again.
+use Rattle.std.specs.Prelude.{ℕ}
+use Rattle.irs_low.specs.Days.{after}
+
+-- two days on
+abbrev pub second : ℕ → ℕ
+second n = after (after n)
+""",
+        )
+
+    def test_only_equal_ones(self) -> None:
+        self.write("crates/irs_low/specs/Other.antt", self.FILES["irs_low/specs/Other.antt"].replace("day +", "2 +"))
+        status, _, said = self.renamed("irs_low/specs/Other", "following", "=", "irs_low/specs/Days", "after")
+        self.assertEqual((status, said), (1, "tools/rename_definitions: crates/irs_low/specs/Other.antt:1: following "
+                                             "isn't written in the words of irs_low.specs.Days.after\n"))
+
+    def test_a_list_with_a_line_that_is_refused(self) -> None:
+        self.write("list", "# both\nirs_low/specs/Days gone away\nirs_low/specs/Days start first_day # later\n")
+        self.assertEqual(self.renamed("list"), (1, "", "tools/rename_definitions: crates/irs_low/specs/Days.antt:1: "
+                                                       "there is no definition gone\n"))
+        status, out, _ = self.renamed("--skip", "list")
+        self.assertEqual(status, 1)
+        self.assertIn("left: irs_low.specs.Days gone: ", out)
+        self.assertIn("abbrev pub first_day : ℕ\nfirst_day = 1\n", self.text("irs_low/specs/Days.antt"))
+
+
 class Shown(InRoom):
     """The commands of pages, and what they print there."""
 
