@@ -965,6 +965,11 @@ other after = record { after = after }
 
 third : Next front → ℕ
 third h = after h.after + following 1 -- not this after
+
+module _ (n : ℕ) (h : front ≡ after
+    n) where
+  fourth : after n ≡ front
+  fourth = h
 """,
     }
 
@@ -995,6 +1000,7 @@ third h = after h.after + following 1 -- not this after
         self.assertIn("Days.{Next, next_day, start as front}\n", facts)
         self.assertIn("fact : next_day front ≡ days.next_day days.start\n", facts)
         self.assertIn("third h = next_day h.after + following 1 -- not this after\n", facts)
+        self.assertIn("module _ (n : ℕ) (h : front ≡ next_day\n    n) where\n  fourth : next_day n ≡ front\n", facts)
 
     def test_what_is_local_stays(self) -> None:
         status, out, _ = self.renamed("irs_low/specs/Days", "after", "next_day")
@@ -1039,7 +1045,7 @@ third h = after h.after + following 1 -- not this after
     def test_one_definition_for_two(self) -> None:
         self.assertEqual(self.renamed("irs_low/specs/Other", "following", "=", "irs_low/specs/Days", "after")[0], 1)
         facts = self.text("irs_high/proofs/Facts.antt")
-        self.write("crates/irs_high/proofs/Facts.antt", facts.replace("after, ", "").replace("after h.after + ", ""))
+        self.write("crates/irs_high/proofs/Facts.antt", facts.replace("after, ", "").partition("module")[0].replace("after h.after + ", ""))
         status, _, said = self.renamed("irs_low/specs/Other", "following", "=", "irs_low/specs/Days", "after")
         self.assertEqual((status, said), (0, ""))
         self.assertEqual(
