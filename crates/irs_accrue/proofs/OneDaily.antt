@@ -17,7 +17,7 @@ use Rattle.irs_terms.specs.declared.stream.Stream.{Stream}
 use Rattle.irs_calendar.specs.GoodDays.{DaySet}
 use Rattle.irs_periods.proofs.OneSpan.{one_span}
 use Rattle.irs_resets.proofs.KindLaws.{one_kind}
-use Rattle.irs_resets.specs.ObservedRates.{IsKind}
+use Rattle.irs_resets.specs.ObservedRates.{IsPeriodKind}
 use Rattle.irs_resets.specs.Rates.{RateTable}
 use Rattle.irs_resets.specs.declared.observed.PeriodKind.{PeriodKind}
 use Rattle.irs_observed.proofs.PeriodLemmas.{one_end, one_start}
@@ -33,7 +33,8 @@ use Rattle.irs_schedule.specs.declared.views.CalculationPeriod.{CalculationPerio
 use Rattle.irs_accrue.specs.Accruals.{IsAccrued}
 use Rattle.irs_accrue.specs.DailyAccruals.{AccruesAs, AccruesBy, AccruesDaily, DailyTerms, EarnsBefore, GivesRate}
 use Rattle.irs_accrue.specs.DailyAccruals.{IsAccrualBy, IsAccrualOf, IsAccrualWith, IsDailyAccrual, before_first, daily_terms}
-use Rattle.irs_accrue.specs.DailyAccruals.{method_of, observing, on_first, rates_of, run_of, unobserved, whole_of}
+use Rattle.irs_accrue.specs.DailyAccruals.{method_of, observing, on_first, daily_rates_of, run_of, unobserved}
+use Rattle.irs_accrue.specs.DailyAccruals.{whole_period}
 use Rattle.irs_accrue.specs.Shares.{HasRun}
 use Rattle.irs_accrue.specs.declared.accruals.Accrual.{Accrual}
 use Rattle.irs_accrue.specs.declared.accruals.Accrual.TheVariants.{Outside, Inside}
@@ -44,10 +45,10 @@ use Rattle.irs_accrue.proofs.Periods.{one_number, runs_from_to}
 
 module _ (t : DailyTerms) (places : ℕ) (x : CalculationPeriod) (frac : Frac) (den : IsAbove frac.den)
     (rise : LegStepsRise t.leg) where
-  has_denominator : (b : ℤ) (r : OvernightRate) → IsRateBefore (method_of t) (rates_of t) (whole_of t x) b r
+  has_denominator : (b : ℤ) (r : OvernightRate) → IsRateBefore (method_of t) (daily_rates_of t) (whole_period t x) b r
       → HasDenominator r
   has_denominator b (Stated rate) h = tt
-  has_denominator b (Known y) h = before_above (method_of t) (rates_of t) (whole_of t x) b y h
+  has_denominator b (Known y) h = before_above (method_of t) (daily_rates_of t) (whole_period t x) b y h
   has_denominator b Absent h = tt
   has_denominator b OutOfRange h = tt
 
@@ -59,7 +60,7 @@ module _ (t : DailyTerms) (places : ℕ) (x : CalculationPeriod) (frac : Frac) (
 
   both_earn : (b : ℤ) (v w : Option Dec) → EarnsBefore t places x b frac v → EarnsBefore t places x b frac w → v ≡ w
   both_earn b v w h k =
-      let rate = one_before (method_of t) (rates_of t) (whole_of t x) b h.observed k.observed h.is_observed
+      let rate = one_before (method_of t) (daily_rates_of t) (whole_period t x) b h.observed k.observed h.is_observed
       k.is_observed in
       let gives = subst (λ (r : OvernightRate). GivesRate t.leg x.start r h.known) rate h.gives in
       let known = both_given k.observed h.known k.known (has_denominator b k.observed k.is_observed) gives k.gives in
@@ -114,8 +115,8 @@ module _ (t : DailyTerms) (s : Stream) (p : Part) (d : ℤ) (kept : KeepsBounds 
       let den = den_above code k.period.adjusted_start d k.period.adjusted_end y g k.runs.started k.runs.not_ended
       k.has_run in
       let span = one_span s h.span k.span h.regular k.regular in
-      let is_kind : IsKind s k.span (length p.periods) n h.kind =
-      subst (λ (z : Span). IsKind s z (length p.periods) n h.kind) span h.is_kind in
+      let is_kind : IsPeriodKind s k.span (length p.periods) n h.kind =
+      subst (λ (z : Span). IsPeriodKind s z (length p.periods) n h.kind) span h.is_kind in
       let kind = one_kind s k.span (length p.periods) n h.kind k.kind is_kind k.is_kind in
       let of_kind : AccruesAs t s.stubs k.kind places h.period d f a =
       subst (λ (z : PeriodKind). AccruesAs t s.stubs z places h.period d f a) kind h.accrues in

@@ -13,7 +13,7 @@ use Rattle.irs_resets.specs.Rates.{RateTable}
 use Rattle.irs_resets.specs.declared.observed.PeriodKind.{PeriodKind}
 use Rattle.irs_schedule.specs.Parts.{Part}
 use Rattle.irs_schedule.specs.declared.views.CalculationPeriod.{CalculationPeriod}
-use Rattle.irs_accrue.specs.Accruals.{HasPlaces, IsAccrual, IsAccrued}
+use Rattle.irs_accrue.specs.Accruals.{AccrualHasPlaces, IsAccrual, IsAccrued}
 use Rattle.irs_accrue.specs.DailyAccruals.{AccruesAs, AccruesDaily, DailyTerms, IsAccrualWith, IsDailyAccrual}
 use Rattle.irs_accrue.specs.DailyAccruals.{before_first, daily_terms, observing, on_first, unobserved}
 use Rattle.irs_accrue.specs.declared.accruals.Accrual.{Accrual}
@@ -44,13 +44,13 @@ module _ (t : DailyTerms) (places : ℕ) (few : places ≤ 12) (x : CalculationP
   as_few stubs kind (inl h) = accrued_few places x.notional x.rate frac amount few h.1
   as_few stubs kind (inr h) = daily_few h.1
 
-plain_places : (p : Part) (d : ℤ) (a : Accrual) → IsAccrual p d a → HasPlaces a
+plain_places : (p : Part) (d : ℤ) (a : Accrual) → IsAccrual p d a → AccrualHasPlaces a
 plain_places p d Outside h = tt
 plain_places p d (Inside number days frac amount) h =
     accrued_few (decimals_of p.currency.letters) h.period.notional h.period.rate frac amount
     (few_decimals p.currency.letters) h.accrued
 
-daily_places : (t : DailyTerms) (s : Stream) (p : Part) (d : ℤ) (a : Accrual) → IsDailyAccrual t s p d a → HasPlaces a
+daily_places : (t : DailyTerms) (s : Stream) (p : Part) (d : ℤ) (a : Accrual) → IsDailyAccrual t s p d a → AccrualHasPlaces a
 daily_places t s p d Outside h = tt
 daily_places t s p d (Inside number days frac amount) h =
     as_few t (decimals_of p.currency.letters) (few_decimals p.currency.letters) h.period d frac amount s.stubs h.kind
@@ -59,7 +59,7 @@ daily_places t s p d (Inside number days frac amount) h =
 -- the amount of a floating stream has at most 12 decimals
 pub floating_places : (parameters : Option CalculationParameters) (float : FloatTerms) (s : Stream) (applicable : DaySet)
     (fixings : RateTable) (p : Part) (d : ℤ) (a : Accrual)
-    → IsAccrualWith parameters float s applicable fixings p d a → HasPlaces a
+    → IsAccrualWith parameters float s applicable fixings p d a → AccrualHasPlaces a
 floating_places None float s applicable fixings p d a h = plain_places p d a h
 floating_places (Some parameters) float s applicable fixings p d a h =
     daily_places (daily_terms s.leg s.day_count float parameters applicable fixings) s p d a h

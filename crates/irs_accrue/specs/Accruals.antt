@@ -61,6 +61,6 @@ abbrev pub Accrues : List Part → ℕ → ℤ → Accrual → Type 0
 Accrues parts stream d a = HoldsOf (λ p. IsAccrual p d a) parts stream
 
 -- an amount has at most 12 decimals
-abbrev pub HasPlaces : Accrual → Type 0
-HasPlaces Outside = Unit {0}
-HasPlaces (Inside number days frac amount) = IfSome amount (λ v. v.places ≤ 12)
+abbrev pub AccrualHasPlaces : Accrual → Type 0
+AccrualHasPlaces Outside = Unit {0}
+AccrualHasPlaces (Inside number days frac amount) = IfSome amount (λ v. v.places ≤ 12)

@@ -13,9 +13,8 @@ use Rattle.irs_terms.specs.declared.results.Frac.{Frac}
 use Rattle.irs_terms.specs.declared.results.Span.{Span}
 use Rattle.irs_terms.specs.declared.stream.Stream.{Stream}
 use Rattle.irs_calendar.specs.GoodDays.{DaySet}
-use Rattle.irs_periods.specs.Outcomes.{regular_span_of}
 use Rattle.irs_periods.specs.Spans.{Regular}
-use Rattle.irs_resets.specs.ObservedRates.{IsKind}
+use Rattle.irs_resets.specs.ObservedRates.{IsPeriodKind}
 use Rattle.irs_resets.specs.Rates.{RateTable}
 use Rattle.irs_resets.specs.declared.observed.PeriodKind.{PeriodKind}
 use Rattle.irs_observed.specs.DailyRates.{DailyRates, daily_rates}
@@ -59,20 +58,20 @@ abbrev pub method_of : DailyTerms → DailyRateMethod
 method_of t = method_by t.parameters.method t.day_count
 
 -- the daily rates of its index
-abbrev pub rates_of : DailyTerms → DailyRates
-rates_of t = daily_rates t.fixings t.float.index
+abbrev pub daily_rates_of : DailyTerms → DailyRates
+daily_rates_of t = daily_rates t.fixings t.float.index
 
 -- the calculation period x as its daily rates are observed, from its adjusted start to its adjusted end
-abbrev pub whole_of : DailyTerms → CalculationPeriod → ObservedPeriod
-whole_of t x = observed_period t.parameters.offset t.applicable x.adjusted_start x.adjusted_end
+abbrev pub whole_period : DailyTerms → CalculationPeriod → ObservedPeriod
+whole_period t x = observed_period t.parameters.offset t.applicable x.adjusted_start x.adjusted_end
 
 -- the part of x that has run before d: its observation period ends on d, moved back by an observation shift
 abbrev pub run_of : DailyTerms → CalculationPeriod → ℤ → ObservedPeriod
 run_of t x d = observed_period t.parameters.offset t.applicable x.adjusted_start d
 
 -- no amount yet, in this number of decimals
-abbrev pub nothing : ℕ → Dec
-nothing places = record { units = pos 0; places = places }
+abbrev pub no_amount_yet : ℕ → Dec
+no_amount_yet places = record { units = pos 0; places = places }
 
 -- known is the rate that an observed rate gives with the multiplier and the spread in force on `start`, rounded once
 pub record GivesRate (leg : Leg) (start : ℤ) (observed : OvernightRate) (known : Option ℤ) : Type 0 where
@@ -84,7 +83,7 @@ pub record GivesRate (leg : Leg) (start : ℤ) (observed : OvernightRate) (known
 pub record EarnsBefore (t : DailyTerms) (places : ℕ) (x : CalculationPeriod) (b : ℤ) (frac : Frac) (amount : Option Dec)
     : Type 0 where
   pub observed : OvernightRate
-  pub is_observed : IsRateBefore (method_of t) (rates_of t) (whole_of t x) b observed
+  pub is_observed : IsRateBefore (method_of t) (daily_rates_of t) (whole_period t x) b observed
   pub known : Option ℤ
   pub gives : GivesRate t.leg x.start observed known
   pub accrued : IsAccrued places x.notional known frac amount
@@ -93,10 +92,10 @@ pub record EarnsBefore (t : DailyTerms) (places : ℕ) (x : CalculationPeriod) (
 pub data AccruesDaily (t : DailyTerms) (places : ℕ) (x : CalculationPeriod) (d : ℤ) (frac : Frac) (amount : Option Dec)
     : Type 0 where
   -- nothing on its first day, whatever the fixings
-  on_first : d ≡ x.adjusted_start → amount ≡ Some (nothing places) → AccruesDaily t places x d frac amount
+  on_first : d ≡ x.adjusted_start → amount ≡ Some (no_amount_yet places) → AccruesDaily t places x d frac amount
   -- nothing, and no part of the spread, before its first day is observed
   before_first : x.adjusted_start <ℤ d → (a b : ℤ) → IsObservationPeriod (run_of t x d) a b → b ≤ℤ a
-      → amount ≡ Some (nothing places) → AccruesDaily t places x d frac amount
+      → amount ≡ Some (no_amount_yet places) → AccruesDaily t places x d frac amount
   -- then by the members before the end of what is observed
   observing : x.adjusted_start <ℤ d → (a b : ℤ) → IsObservationPeriod (run_of t x d) a b → a <ℤ b
       → EarnsBefore t places x b frac amount → AccruesDaily t places x d frac amount
@@ -120,7 +119,7 @@ pub record AccruesBy (t : DailyTerms) (s : Stream) (p : Part) (d : ℤ) (number 
   pub span : Span
   pub regular : Regular s span
   pub kind : PeriodKind
-  pub is_kind : IsKind s span (length p.periods) number kind
+  pub is_kind : IsPeriodKind s span (length p.periods) number kind
   pub accrues : AccruesAs t s.stubs kind (decimals_of p.currency.letters) period d frac amount
 
 -- what has accrued on d in a stream with calculation parameters
@@ -147,7 +146,3 @@ IsAccrualBy (Floating float) s applicable fixings p d a =
 -- by its daily rates, else by the rates of its periods.
 abbrev pub IsAccrualOf : Stream → DaySet → RateTable → Part → ℤ → Accrual → Type 0
 IsAccrualOf s applicable fixings p d a = IsAccrualBy s.leg s applicable fixings p d a
-
--- the stream has a regular span, which breaks neither K30 nor K31
-abbrev pub HasSpan : Stream → Type 0
-HasSpan s = (span : Span) × (regular_span_of s).Answers span

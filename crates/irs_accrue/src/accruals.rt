@@ -2,7 +2,7 @@
 //!
 //! Nothing but this period is looked at, and no earlier one compounds: our rule.
 ghost use Rattle.std.specs.Prelude.{◌≡◌, ◌≤◌, length};
-ghost use Rattle.irs_accrue.specs.Accruals.{Accrues, HasPlaces, IsAccrual, Runs};
+ghost use Rattle.irs_accrue.specs.Accruals.{Accrues, AccrualHasPlaces, IsAccrual, Runs};
 ghost use Rattle.irs_accrue.specs.declared.accruals.Accrual.{Accrual};
 
 use crate::interest::amount_of;
@@ -32,7 +32,7 @@ pub enum Accrual {
 fn inside(part: &StreamPart, running: &RunningPeriod, d: Day) -> Accrual
     requires { Runs part.now d running.now.number running.now.period }
     ensures accrual { IsAccrual part.now d result }
-    ensures places { HasPlaces result }
+    ensures places { AccrualHasPlaces result }
 {
     // Hands the prover what every part keeps.
     let _bounds = part.exchanges();
@@ -54,7 +54,7 @@ fn inside(part: &StreamPart, running: &RunningPeriod, d: Day) -> Accrual
 /// What has accrued on a day in a stream.
 pub(crate) fn accrued_in(part: &StreamPart, d: Day) -> Accrual
     ensures accrual { IsAccrual part.now d result }
-    ensures places { HasPlaces result }
+    ensures places { AccrualHasPlaces result }
 {
     match running_period(part, d) {
         Some(running) => inside(part, &running, d),
@@ -73,7 +73,7 @@ pub fn accrued(s: &Schedule, stream: u8, d: Day) -> Accrual
     ensures accrual { Accrues s.now stream d result }
     // Any two accruals of the stream on the day are equal.
     ensures one { (a b : Accrual) → Accrues s.now stream d a → Accrues s.now stream d b → a ≡ b }
-    ensures places { HasPlaces result }
+    ensures places { AccrualHasPlaces result }
 {
     accrued_in(&s.streams()[stream as usize - 1], d)
 }

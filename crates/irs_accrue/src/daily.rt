@@ -15,8 +15,9 @@ ghost use Rattle.irs_periods.specs.Spans.{Regular};
 ghost use Rattle.irs_observed.specs.ObservationPeriods.{Shifts};
 ghost use Rattle.irs_observed.specs.OvernightRates.{HasBounds};
 ghost use Rattle.irs_accrue.specs.Accruals.{Runs};
-ghost use Rattle.irs_accrue.specs.DailyAccruals.{AccruesAs, AccruesDaily, EarnsBefore, GivesRate, HasSpan, IsDailyAccrual};
-ghost use Rattle.irs_accrue.specs.DailyAccruals.{daily_terms, nothing};
+ghost use Rattle.irs_periods.specs.Outcomes.{HasSpan};
+ghost use Rattle.irs_accrue.specs.DailyAccruals.{AccruesAs, AccruesDaily, EarnsBefore, GivesRate, IsDailyAccrual};
+ghost use Rattle.irs_accrue.specs.DailyAccruals.{daily_terms, no_amount_yet};
 ghost use Rattle.irs_accrue.specs.Private.Sizes.{IsSmall};
 
 use crate::Accrual;
@@ -37,7 +38,7 @@ use std::alloc::Global;
 
 // No amount yet.
 fn nothing(currency: Currency) -> Dec
-    ensures { result ≡ nothing (decimals_of currency.letters) }
+    ensures { result ≡ no_amount_yet (decimals_of currency.letters) }
 {
     Dec {
         units: 0,

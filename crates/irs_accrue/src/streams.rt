@@ -5,8 +5,9 @@ ghost use Rattle.irs_terms.specs.Lawful.{IsLawfulStream};
 ghost use Rattle.irs_terms.specs.StepDates.{LegStepsRise};
 ghost use Rattle.irs_terms.specs.Suiting.{FrequencySuits};
 ghost use Rattle.irs_terms.specs.TermDates.{DatesInOrder};
-ghost use Rattle.irs_accrue.specs.Accruals.{HasPlaces};
-ghost use Rattle.irs_accrue.specs.DailyAccruals.{HasSpan, IsAccrualOf, IsAccrualWith};
+ghost use Rattle.irs_accrue.specs.Accruals.{AccrualHasPlaces};
+ghost use Rattle.irs_periods.specs.Outcomes.{HasSpan};
+ghost use Rattle.irs_accrue.specs.DailyAccruals.{IsAccrualOf, IsAccrualWith};
 ghost use Rattle.irs_accrue.specs.declared.accruals.Accrual.{Accrual as AnAccrual};
 
 use crate::Accrual;
@@ -72,7 +73,7 @@ pub fn accrued_of<G: GoodDays>(
     requires frequency { FrequencySuits s.now }
     requires span { HasSpan s.now }
     ensures accrual { IfOk result (IsAccrualOf s.now (G.days applicable.now) fixings.now part.now d) }
-    ensures places { IfOk result HasPlaces }
+    ensures places { IfOk result AccrualHasPlaces }
 {
     match &s.leg {
         Leg::Floating(float) => floating_accrued(alloc, s, float, applicable, fixings, part, d),

@@ -3,7 +3,7 @@
 //!
 //! The format is ours. Amounts have the decimals of their currency; what isn't known is `-`.
 ghost use Rattle.std.specs.Prelude.{◌≡◌, ◌+◌, ◌≤◌, ◌++◌, length};
-ghost use Rattle.irs_accrue.specs.Accruals.{HasPlaces};
+ghost use Rattle.irs_accrue.specs.Accruals.{AccrualHasPlaces};
 ghost use Rattle.irs_accrue.specs.AccrualTexts.{accrual_fields, accrual_text};
 
 use crate::Accrual;
@@ -12,7 +12,7 @@ use irs_schedule::{put_frac, put_optional};
 
 // The fields after the stream's number.
 fn put_fields(line: &mut Line, a: &Accrual)
-    requires places { HasPlaces a.now }
+    requires places { AccrualHasPlaces a.now }
     requires room { length line.old + 218 ≤ 512 }
     ensures text { line.new ≡ line.old ++ accrual_fields a.now }
     ensures grows { length line.new ≤ length line.old + 218 }
@@ -38,7 +38,7 @@ fn put_fields(line: &mut Line, a: &Accrual)
 /// It takes no memory.
 #[tactic(auto, unfolding(crate::specs::AccrualTexts::accrual_text))]
 pub fn accrued_text(stream: u8, a: &Accrual, line: &mut Line)
-    requires { HasPlaces a.now }
+    requires { AccrualHasPlaces a.now }
     ensures { line.new ≡ accrual_text stream a.now }
 {
     line.clear();

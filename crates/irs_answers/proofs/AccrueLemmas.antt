@@ -14,7 +14,8 @@ use Rattle.irs_schedule.specs.Outcomes.{schedule_of, stream_of}
 use Rattle.irs_schedule.specs.Parts.{Part}
 use Rattle.irs_schedule.proofs.OnePart.{schedule_determined}
 use Rattle.irs_accrue.specs.AccrualTexts.{accrual_text}
-use Rattle.irs_accrue.specs.DailyAccruals.{HasSpan, IsAccrualOf}
+use Rattle.irs_periods.specs.Outcomes.{HasSpan}
+use Rattle.irs_accrue.specs.DailyAccruals.{IsAccrualOf}
 use Rattle.irs_accrue.specs.declared.accruals.Accrual.{Accrual}
 use Rattle.irs_answers.specs.Accrued.{AccruesAt, Accruing, AreAccrued, TellsAccrued, accrued_page}
 use Rattle.irs_answers.specs.Private.Accrued.{IsAccruing}

@@ -22,7 +22,7 @@ use Rattle.irs_schedule.specs.Parts.{Part}
 use Rattle.irs_schedule.specs.declared.views.CalculationPeriod.{CalculationPeriod}
 use Rattle.irs_accrue.specs.DailyAccruals.{AccruesAs, AccruesDaily, DailyTerms, EarnsBefore, IsAccrualBy}
 use Rattle.irs_accrue.specs.DailyAccruals.{IsAccrualWith, IsDailyAccrual, before_first, daily_terms, method_of, observing}
-use Rattle.irs_accrue.specs.DailyAccruals.{on_first, unobserved, whole_of}
+use Rattle.irs_accrue.specs.DailyAccruals.{on_first, unobserved, whole_period}
 use Rattle.irs_accrue.specs.declared.accruals.Accrual.{Accrual}
 use Rattle.irs_accrue.specs.declared.accruals.Accrual.TheVariants.{Outside, Inside}
 use Rattle.irs_answers.specs.Accrued.{AccruesAt, AreAccrued, TellsAccrued, accruing}
@@ -40,7 +40,7 @@ module _ (t u : RateTable) (e : SameRates t u) (leg : Leg) (code : DayCountCode)
       record {
         observed = h.observed;
         is_observed =
-            subst (λ (rates : DailyRates). IsRateBefore (method_of (by t)) rates (whole_of (by t) x) b h.observed) daily
+            subst (λ (rates : DailyRates). IsRateBefore (method_of (by t)) rates (whole_period (by t) x) b h.observed) daily
             h.is_observed;
         known = h.known;
         gives = h.gives;

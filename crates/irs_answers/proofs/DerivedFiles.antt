@@ -12,7 +12,7 @@ use Rattle.irs_resets.specs.FixingFiles.{IsFixingFile}
 use Rattle.irs_resets.specs.Rates.{RateTable, rate_at}
 use Rattle.irs_resets.specs.declared.store.Slot.{Slot}
 use Rattle.irs_overnight.specs.DailySources.{fixing_at}
-use Rattle.irs_overnight.specs.DerivedRules.{NotAfter}
+use Rattle.irs_overnight.specs.DerivedRules.{FixingNotAfter}
 use Rattle.irs_overnight.specs.FileLaw.{AreFixings, HasRate, file_text}
 use Rattle.irs_overnight.specs.declared.derived.DerivedRow.{DerivedRow}
 use Rattle.irs_overnight.specs.declared.derived.Found.{Found}
@@ -29,7 +29,7 @@ EachDateOnce rows =
     → row.fixing ≡ other.fixing → j ≡ k
 
 -- where each fixing date is after the one before it, they rise
-module _ (resets : List Reset) (none : (n : ℕ) → NotAfter resets n → ⊥) where
+module _ (resets : List Reset) (none : (n : ℕ) → FixingNotAfter resets n → ⊥) where
   next_after : (i : ℕ) → 1 ≤ i → i + 1 ≤ length resets → fixing_at resets i <ℤ fixing_at resets (i + 1)
   next_after i low high =
       let before : i + 1 - 1 ≡ i = omega arith in

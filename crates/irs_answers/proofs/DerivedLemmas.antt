@@ -8,7 +8,7 @@ use Rattle.irs_base.specs.Limits.{most_index}
 use Rattle.irs_base.specs.declared.places.Broken.{Broken}
 use Rattle.irs_base.specs.declared.stopped.Stopped.{Stopped}
 use Rattle.irs_base.specs.declared.stopped.Stopped.TheVariants as stopped
-use Rattle.irs_terms.specs.Lawful.{IsLawful, IsLawfulFloat, IsLawfulIndex, IsLawfulLeg, IsLawfulStream}
+use Rattle.irs_terms.specs.Lawful.{IsLawfulSwap, IsLawfulFloat, IsLawfulIndex, IsLawfulLeg, IsLawfulStream}
 use Rattle.irs_terms.specs.Lawful.{IsLawfulStubRate, IsLawfulStubs, IsLawfulTenor}
 use Rattle.irs_terms.specs.declared.amounts.FloatTerms.{FloatTerms}
 use Rattle.irs_terms.specs.declared.amounts.Leg.{Leg}
@@ -25,7 +25,7 @@ use Rattle.irs_schedule.specs.DaySets.{reset_days}
 use Rattle.irs_schedule.specs.Parts.{Part}
 use Rattle.irs_overnight.specs.DerivedRules.{no_floating_stream}
 use Rattle.irs_overnight.specs.FileLaw.{file_text}
-use Rattle.irs_overnight.specs.Overnight.{Asked, IsAsked, IsFirstDerived, IsOvernight, OvernightKept, asked}
+use Rattle.irs_overnight.specs.Overnight.{OvernightAsked, IsAsked, IsFirstDerived, IsOvernight, OvernightKept, asked}
 use Rattle.irs_overnight.specs.Sources.{Floats}
 use Rattle.irs_overnight.specs.declared.derived.DerivedRow.{DerivedRow}
 use Rattle.irs_average.specs.Averages.{AverageAsked, AverageKept, IsAverage, IsFirstOfAverage}
@@ -37,11 +37,11 @@ use Rattle.irs_terms.specs.declared.amounts.StubRate.{StubRate}
 use Rattle.irs_terms.specs.declared.amounts.StubRate.TheVariants.{Index}
 use Rattle.irs_terms.specs.declared.amounts.StubTerms.{StubTerms}
 use Rattle.irs_answers.specs.Derived.{DueAveraged, DueCompounded, DueStub, FloatingStream, IsFloatingAt}
-use Rattle.irs_answers.specs.Private.Derived.{IsUnfixed}
+use Rattle.irs_answers.specs.Private.Derived.{IsUnfixedSchedule}
 use Rattle.irs_answers.specs.Derived.{NotFloating, PrintsOne, PrintsStub}
 use Rattle.irs_answers.specs.Messages.{refused}
 use Rattle.irs_answers.specs.Outcomes.{Ends, IfRefused, of_stopped}
-use Rattle.irs_answers.specs.Steps.{Refuses, Rules, Step}
+use Rattle.irs_answers.specs.Steps.{Refuses, Rules, ReadStep}
 use Rattle.irs_answers.specs.declared.refusals.Refusal.TheVariants.{Rule}
 use Rattle.irs_answers.proofs.StepLemmas.{broken, kept, read, unread}
 
@@ -63,7 +63,7 @@ pub floats_by : (swap : Swap) (n : ℕ) (x : FloatingStream) → IsFloatingAt sw
 floats_by swap n x k =
     (x.float, record { from_one = k.from_one; stream = x.stream; at = k.at; pays = k.pays; plain = k.plain })
 
-module _ (swap : Swap) (cal : List Section) (parts : List Part) (h : IsUnfixed swap cal parts) (n : ℕ)
+module _ (swap : Swap) (cal : List Section) (parts : List Part) (h : IsUnfixedSchedule swap cal parts) (n : ℕ)
     (x : FloatingStream) (k : IsFloatingAt swap n x) where
   -- the stream is lawful
   pub stream_lawful : IsLawfulStream x.stream
@@ -111,7 +111,7 @@ module _ (swap : Swap) (cal : List Section) (parts : List Part) (h : IsUnfixed s
 
 module _ (swap : Swap) (n : ℕ) (Next : FloatingStream → ℕ → List ℕ → Type 0) where
   abbrev Whole : ℕ → List ℕ → Type 0
-  Whole status text = Step (IsFloatingAt swap n) (NotFloating n status text) (λ y. Next y status text)
+  Whole status text = ReadStep (IsFloatingAt swap n) (NotFloating n status text) (λ y. Next y status text)
 
   -- K40 is refused where there is no such floating stream
   pub refuse_unfloating : (b : Broken) → ((x : FloatingStream) → IsFloatingAt swap n x → ⊥) → b ≡ no_floating_stream n
@@ -168,14 +168,14 @@ due_printed K F P float rows keeps are one =
     )
 
 -- the first broken rule of compounded rates is due
-pub compounded_first : (a : Asked) (float : FloatTerms) (b : Broken) → IsFirstDerived a b
+pub compounded_first : (a : OvernightAsked) (float : FloatTerms) (b : Broken) → IsFirstDerived a b
     → ((x y : Broken) → IsFirstDerived a x → IsFirstDerived a y → x ≡ y) → DueCompounded a float 2 (refused b)
 compounded_first a float b first one =
     due_first (OvernightKept a) (IsFirstDerived a) (PrintsOne (IsOvernight a) float 2 (refused b)) b
     (λ k f. k f.fault f.first.0) first one
 
 -- compounded rates are due
-pub compounded_rows : (a : Asked) (float : FloatTerms) (rows : List DerivedRow) → OvernightKept a → IsOvernight a rows
+pub compounded_rows : (a : OvernightAsked) (float : FloatTerms) (rows : List DerivedRow) → OvernightKept a → IsOvernight a rows
     → ((x y : List DerivedRow) → IsOvernight a x → IsOvernight a y → x ≡ y)
     → DueCompounded a float 0 (file_text rows float.tenor float.index)
 compounded_rows a float rows keeps are one =
@@ -225,7 +225,7 @@ stub_named (Some stubs) Last index tenor h k = let r : IfSome (Some (Index index
     subst (λ (z : Option StubRate). IfSome z IsLawfulStubRate) k h.1 in r.0
 
 -- the index of a stub is no longer than an index may be
-pub stub_short : (swap : Swap) (n : ℕ) (side : Side) (index : List ℕ) (tenor : Option Frequency) → IsLawful swap
+pub stub_short : (swap : Swap) (n : ℕ) (side : Side) (index : List ℕ) (tenor : Option Frequency) → IsLawfulSwap swap
     → GivesIndex swap n side index tenor → length index ≤ most_index
 stub_short swap n side index tenor lawful gives =
     let s = lawful_stream swap lawful _ gives.stream gives.at in

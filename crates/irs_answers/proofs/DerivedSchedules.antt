@@ -13,7 +13,7 @@ use Rattle.irs_terms.specs.declared.stream_list.Swap.{Swap}
 use Rattle.irs_calendar.specs.declared.sections.Section.{Section}
 use Rattle.irs_periods.specs.Spans.{Regular}
 use Rattle.irs_resets.specs.FixingFiles.{IsFixingFile}
-use Rattle.irs_resets.specs.ObservedRates.{GivesStub, IsInitial, IsKind, own_index}
+use Rattle.irs_resets.specs.ObservedRates.{GivesStub, IsInitialStub, IsPeriodKind, own_index}
 use Rattle.irs_resets.specs.Rates.{RateTable, rate_at}
 use Rattle.irs_resets.specs.ResetDates.{IsPeriod}
 use Rattle.irs_resets.specs.declared.observed.PeriodKind.{PeriodKind}
@@ -21,11 +21,11 @@ use Rattle.irs_resets.specs.declared.observed.PeriodKind.TheVariants.{InitialStu
 use Rattle.irs_schedule.specs.DaySets.{reset_days, stream_sets}
 use Rattle.irs_schedule.specs.Parts.{Part}
 use Rattle.irs_schedule.specs.Schedules.{IsPart}
-use Rattle.irs_overnight.specs.DailySources.{DailySource, daily_source, fixing_at}
+use Rattle.irs_overnight.specs.DailySources.{DerivedSource, derived_source, fixing_at}
 use Rattle.irs_overnight.specs.DerivedRows.{AreDerived, IsDerivedRow}
-use Rattle.irs_overnight.specs.DerivedRules.{NotAfter, not_after_at}
+use Rattle.irs_overnight.specs.DerivedRules.{FixingNotAfter, fixing_not_after_at}
 use Rattle.irs_overnight.specs.FileLaw.{AreFixings, file_text}
-use Rattle.irs_overnight.specs.Overnight.{Asked, HasSource, asked}
+use Rattle.irs_overnight.specs.Overnight.{OvernightAsked, HasSource, asked}
 use Rattle.irs_overnight.specs.declared.derived.DerivedRow.{DerivedRow}
 use Rattle.irs_overnight.proofs.KeptRows.{IsDated}
 use Rattle.irs_overnight.proofs.SourceLemmas.{partner}
@@ -68,10 +68,10 @@ stub_period Last s span a i some h = let one = h.1 in (omega (arith, one, some),
 -- and its kind is that of the side
 stub_kind : (cal : List Section) (fix : RateTable) (side : Side) (s : Stream) (p : Part) → HasResetDays cal fix s p
     → (span : Span) → Regular s span → (i : ℕ) → IsStubOn side s span (length p.adjusted - 1) i
-    → IsKind s span (length p.adjusted - 1) i (kind_on side)
+    → IsPeriodKind s span (length p.adjusted - 1) i (kind_on side)
 stub_kind cal fix Initial s p facts span regular i h = h
 stub_kind cal fix Last s p facts span regular i h =
-    let not_initial : IsInitial s span i → ⊥ = λ initial.
+    let not_initial : IsInitialStub s span i → ⊥ = λ initial.
     let three = facts.apart span regular initial.0 h.0 in
     let one = initial.1 in
     let last = h.1 in
@@ -114,7 +114,7 @@ module _ (swap : Swap) (cal : List Section) (parts : List Part) (h : IsKeptSched
   -- ---- rows for all periods
 
   rows_used : (rows : List DerivedRow) (p : Part) → slice_get parts (number - 1) ≡ Some p
-      → length rows + 1 ≡ length p.adjusted → ((n : ℕ) → NotAfter p.resets n → ⊥)
+      → length rows + 1 ≡ length p.adjusted → ((n : ℕ) → FixingNotAfter p.resets n → ⊥)
       → ((k : ℕ) (row : DerivedRow) → slice_get rows k ≡ Some row → IsDated p.adjusted p.resets (1 + k) row)
       → AreFixings rows x.float.tenor x.float.index
       → HoldsWith swap cal number (file_text rows x.float.tenor x.float.index) (HasRowRates x rows)
@@ -147,14 +147,14 @@ module _ (swap : Swap) (cal : List Section) (parts : List Part) (h : IsKeptSched
   -- compounded rates are used
   pub overnight_used : (rates : RateTable) → OvernightIsUsed swap cal parts number x rates
   overnight_used rates rows kept over file =
-      let a : Asked = asked swap number parts (reset_days cal x.stream) rates in
+      let a : OvernightAsked = asked swap number parts (reset_days cal x.stream) rates in
       let has = over.has in
       let p = has.part in
-      let source : DailySource = daily_source p has.float.index a.days a.rates in
+      let source : DerivedSource = derived_source p has.float.index a.days a.rates in
       let own : HasSource a source =
       record { float = has.float; pays = has.pays; part = p; at = has.at; is = refl } in
-      let derived : AreDerived source rows = subst (λ (z : DailySource). AreDerived z rows) has.is over.derived in
-      let none : (n : ℕ) → NotAfter p.resets n → ⊥ = λ n h. kept (not_after_at n) (record {
+      let derived : AreDerived source rows = subst (λ (z : DerivedSource). AreDerived z rows) has.is over.derived in
+      let none : (n : ℕ) → FixingNotAfter p.resets n → ⊥ = λ n h. kept (fixing_not_after_at n) (record {
         source = source;
         has = own;
         breaks = inr (inl (record { number = n; not_after = h; is = refl }));
@@ -174,7 +174,7 @@ module _ (swap : Swap) (cal : List Section) (parts : List Part) (h : IsKeptSched
       let own : HasMeanSource a source =
       record { float = has.float; pays = has.pays; part = p; at = has.at; is = refl } in
       let means : AreMeans source rows = subst (λ (z : MeanSource). AreMeans z rows) has.is average.are in
-      let none : (n : ℕ) → NotAfter p.resets n → ⊥ = λ n h. kept (not_after_at n) (record {
+      let none : (n : ℕ) → FixingNotAfter p.resets n → ⊥ = λ n h. kept (fixing_not_after_at n) (record {
         source = source;
         has = own;
         breaks = inl (record { number = n; not_after = h; is = refl });
@@ -214,7 +214,7 @@ module _ (swap : Swap) (cal : List Section) (parts : List Part) (h : IsKeptSched
         span = has.span;
         regular = regular;
         kind = kind_on side;
-        is_kind = subst (λ (b : List ℤ). IsKind x.stream has.span (length b - 1) i (kind_on side)) boundaries is_kind;
+        is_kind = subst (λ (b : List ℤ). IsPeriodKind x.stream has.span (length b - 1) i (kind_on side)) boundaries is_kind;
         comes_from = own_index stub.source.index stub.tenor
             (gives_stub side x.stream.stubs stub.source.index stub.tenor given);
       } in

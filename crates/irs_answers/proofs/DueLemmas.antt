@@ -19,11 +19,11 @@ use Rattle.irs_read.specs.Documents.{DocumentFault}
 use Rattle.irs_read.proofs.Outcomes.{one_meaning as meant_once}
 use Rattle.irs_read.specs.References.{streams_in}
 use Rattle.irs_read.specs.Reading.{Means}
-use Rattle.irs_terms.specs.Lawful.{IsLawful}
+use Rattle.irs_terms.specs.Lawful.{IsLawfulSwap}
 use Rattle.irs_terms.specs.declared.stream_list.Swap.{Swap}
 use Rattle.irs_calendar.specs.FirstFaults.{Spot}
 use Rattle.irs_calendar.specs.Calendars.{spot_of}
-use Rattle.irs_calendar.specs.FirstFaults.{IsFirstFault as IsFirstCalendarFault}
+use Rattle.irs_calendar.specs.FirstFaults.{IsFirstCalendarFault}
 use Rattle.irs_calendar.specs.Grammar.{CalFiles}
 use Rattle.irs_calendar.specs.declared.calendars.CalErr.{CalErr}
 use Rattle.irs_calendar.specs.declared.calendars.CalErr.TheVariants as calendar
@@ -33,7 +33,7 @@ use Rattle.irs_calendar.proofs.GrammarLemmas.{spelt_is_read}
 use Rattle.irs_resets.specs.Rates.{RateTable}
 use Rattle.irs_resets.specs.declared.fixings.FixErr.{FixErr}
 use Rattle.irs_resets.specs.declared.fixings.FixErr.TheVariants as fixing
-use Rattle.irs_rules.specs.TermsRules.{IsFirstBroken as IsFirstOfTerms}
+use Rattle.irs_rules.specs.TermsRules.{IsFirstBrokenRule as IsFirstOfTerms}
 use Rattle.irs_schedule.proofs.OnePart.{one_broken}
 use Rattle.irs_schedule.specs.DatedRules.{DatedKept, DatedBroken}
 use Rattle.irs_schedule.specs.Parts.{Part}
@@ -52,10 +52,10 @@ use Rattle.irs_answers.specs.Given.{Given}
 use Rattle.irs_answers.specs.Replying.{reply_status, reply_text}
 use Rattle.irs_answers.specs.Messages.{refused, unreadable, bad_calendar, bad_fixings}
 use Rattle.irs_answers.specs.Steps.{Is, Refuses}
-use Rattle.irs_answers.specs.Due.{Spells, AreFixings, BadCalendars, BadFixings, BreaksSides, BreaksSidesIf}
+use Rattle.irs_answers.specs.Due.{SpellsTask, AreGivenFixings, BadCalendars, BadFixings, BreaksSides, BreaksSidesIf}
 use Rattle.irs_answers.specs.Due.{HasSides, IsFixingsFault, KeepsTerms, SidesIf, Facts, facts, Answered, rates_for}
 use Rattle.irs_answers.specs.Due.{DueKept, DueDated, DueTerms, DueFixings, DueCalendars, DueSides, DueDocument, DueFor}
-use Rattle.irs_answers.specs.Due.{Passes}
+use Rattle.irs_answers.specs.Due.{PassesEachStep}
 use Rattle.irs_answers.specs.Outcomes.{Answer, answer_of, of_read, of_stopped, Ends, FixingsFail, IfRefused}
 use Rattle.irs_answers.specs.Private.Outcomes.{IfAnswered}
 use Rattle.irs_answers.specs.Outcomes.{IsRuleFirst, IsUnscheduled, IsScheduled, ReadFails}
@@ -124,7 +124,7 @@ pub one_calendars : (files : List (List ℕ)) (s t : List Section) → CalFiles 
 one_calendars files s t h k = same_ok t s (sym (spelt_is_read files t k) ∙ spelt_is_read files s h)
 
 -- a file gives one set of rates
-pub one_fixings : (o : Option (List ℕ)) (t u : RateTable) → AreFixings o t → AreFixings o u → SameRates t u
+pub one_fixings : (o : Option (List ℕ)) (t u : RateTable) → AreGivenFixings o t → AreGivenFixings o u → SameRates t u
 one_fixings None t u h k = λ index slot. rw (h, k) refl
 one_fixings (Some bytes) t u h k = same_file bytes t u h k
 
@@ -231,7 +231,7 @@ module _ (t : Task) (g : Given) (status : ℕ) (text : List ℕ) where
       (sym (one_sided t v sides o is other)) h)
 
   -- what is due after the document is due
-  pub in_document : (swap : Swap) (sides : Option Sides) → Spells t g.document swap sides
+  pub in_document : (swap : Swap) (sides : Option Sides) → SpellsTask t g.document swap sides
       → DueCalendars t g swap sides status text → DueFor t g status text
   in_document swap sides s h =
       in_text s.value s.reads (in_swap s.value swap s.means (in_sides s.value swap sides s.has_sides h))
@@ -246,10 +246,10 @@ module _ (t : Task) (g : Given) (status : ℕ) (text : List ℕ) where
 
   -- what is due after the file of fixings is due from it on
   pub in_fixings : (swap : Swap) (sides : Option Sides) (cal : List Section) (table : RateTable)
-      → AreFixings g.fixings table → DueTerms t g swap sides cal table status text
+      → AreGivenFixings g.fixings table → DueTerms t g swap sides cal table status text
       → DueFixings t g swap sides cal status text
   in_fixings swap sides cal table is h =
-      read (AreFixings g.fixings) (BadFixings g status text) (λ q. DueTerms t g swap sides cal q status text) table is
+      read (AreGivenFixings g.fixings) (BadFixings g status text) (λ q. DueTerms t g swap sides cal q status text) table is
       (λ q other. terms_same t g swap sides cal table q (one_fixings g.fixings table q is other) status text h)
 
   -- what is due after the rules of the terms is due where they are kept
@@ -268,7 +268,7 @@ module _ (t : Task) (g : Given) (status : ℕ) (text : List ℕ) where
       (DueKept t g swap sides cal table status text) is h
 
   -- what is due at the end is due where every step passes
-  pub passed : (f : Facts) → Passes t g f → Answered t g f status text → DueFor t g status text
+  pub passed : (f : Facts) → PassesEachStep t g f → Answered t g f status text → DueFor t g status text
   passed f p h =
       in_document f.swap f.sides p.document
       (in_calendars f.swap f.sides f.cal p.calendars
@@ -277,7 +277,7 @@ module _ (t : Task) (g : Given) (status : ℕ) (text : List ℕ) where
       (in_dated f.swap f.sides f.cal f.table p.dated (f.parts, p.schedule, h)))))
 
 -- an answer at the end is the answer where every step passes
-pub passed_answer : (t : Task) (g : Given) (f : Facts) (r : Result Reply Refusal) → Passes t g f
+pub passed_answer : (t : Task) (g : Given) (f : Facts) (r : Result Reply Refusal) → PassesEachStep t g f
     → IfAnswered r (Ends (Answered t g f)) → IfAnswered r (Ends (DueFor t g))
 passed_answer t g f r p h =
     answered_more r (Ends (Answered t g f)) (Ends (DueFor t g))
@@ -323,7 +323,7 @@ module _ (t : Task) (g : Given) where
   at_fixings : (swap : Swap) (sides : Option Sides) (cal : List Section) (f : FixErr) → IsFixingsFault g.fixings f
       → DueFixings t g swap sides cal 3 (bad_fixings f)
   at_fixings swap sides cal f fault =
-      unread (AreFixings g.fixings) (BadFixings g 3 (bad_fixings f))
+      unread (AreGivenFixings g.fixings) (BadFixings g 3 (bad_fixings f))
       (λ table. DueTerms t g swap sides cal table 3 (bad_fixings f))
       (λ table are. no_fixings g.fixings f table fault are) (
         f,
@@ -371,7 +371,7 @@ module _ (t : Task) (g : Given) where
             omega arith;
       }
 
-  calendar_due : (swap : Swap) (sides : Option Sides) (s : Spot) → Spells t g.document swap sides
+  calendar_due : (swap : Swap) (sides : Option Sides) (s : Spot) → SpellsTask t g.document swap sides
       → IsFirstCalendarFault g.calendars s → Ends (DueFor t g) 3 (bad_calendar s)
   calendar_due swap sides s spells first =
       record {
@@ -381,14 +381,14 @@ module _ (t : Task) (g : Given) where
       }
 
   -- a faulty calendar file is refused
-  pub refuse_calendars : (swap : Swap) (sides : Option Sides) (e : CalErr) → Spells t g.document swap sides
+  pub refuse_calendars : (swap : Swap) (sides : Option Sides) (e : CalErr) → SpellsTask t g.document swap sides
       → IfSome (spot_of e) (IsFirstCalendarFault g.calendars) → IfRefused (Calendars e) (Ends (DueFor t g))
   refuse_calendars swap sides (calendar.Syntax file line) spells h = calendar_due swap sides _ spells h
   refuse_calendars swap sides (calendar.Repeat file line) spells h = calendar_due swap sides _ spells h
   refuse_calendars swap sides (calendar.TooMany file line) spells h = calendar_due swap sides _ spells h
   refuse_calendars swap sides calendar.Memory spells h = tt
 
-  fixing_due : (swap : Swap) (sides : Option Sides) (cal : List Section) (f : FixErr) → Spells t g.document swap sides
+  fixing_due : (swap : Swap) (sides : Option Sides) (cal : List Section) (f : FixErr) → SpellsTask t g.document swap sides
       → CalFiles g.calendars cal → IsFixingsFault g.fixings f → Ends (DueFor t g) 3 (bad_fixings f)
   fixing_due swap sides cal f spells files fault =
       record {
@@ -401,7 +401,7 @@ module _ (t : Task) (g : Given) where
 
   -- a faulty file of fixings is refused
   pub refuse_fixings : (swap : Swap) (sides : Option Sides) (cal : List Section) (e : FixErr)
-      → Spells t g.document swap sides → CalFiles g.calendars cal → FixingsFail g.fixings e
+      → SpellsTask t g.document swap sides → CalFiles g.calendars cal → FixingsFail g.fixings e
       → IfRefused (Fixings e) (Ends (DueFor t g))
   refuse_fixings swap sides cal (fixing.Syntax line) spells files h =
       fixing_due swap sides cal (fixing.Syntax line) spells files h
@@ -410,7 +410,7 @@ module _ (t : Task) (g : Given) where
   refuse_fixings swap sides cal fixing.Memory spells files h = tt
 
   rule_due : (swap : Swap) (sides : Option Sides) (cal : List Section) (table : RateTable)
-      → Spells t g.document swap sides → CalFiles g.calendars cal → AreFixings g.fixings table
+      → SpellsTask t g.document swap sides → CalFiles g.calendars cal → AreGivenFixings g.fixings table
       → (status : ℕ) (text : List ℕ) → IsUnscheduled swap cal (rates_for t table) status text
       → Ends (DueFor t g) status text
   rule_due swap sides cal table spells files rates status text h =
@@ -425,14 +425,14 @@ module _ (t : Task) (g : Given) where
 
   -- a broken rule of the swap is refused
   pub refuse_rules : (swap : Swap) (sides : Option Sides) (cal : List Section) (table : RateTable) (r : Refusal)
-      → Spells t g.document swap sides → CalFiles g.calendars cal → AreFixings g.fixings table
+      → SpellsTask t g.document swap sides → CalFiles g.calendars cal → AreGivenFixings g.fixings table
       → IfRefused r (IsUnscheduled swap cal (rates_for t table)) → IfRefused r (Ends (DueFor t g))
   refuse_rules swap sides cal table r spells files rates h =
       refused_more r (IsUnscheduled swap cal (rates_for t table)) (Ends (DueFor t g))
       (rule_due swap sides cal table spells files rates) h
 
 -- a schedule that cannot be made is refused
-pub refuse_making : (swap : Swap) (cal : List Section) (table : RateTable) (e : Stopped Broken) → IsLawful swap
+pub refuse_making : (swap : Swap) (cal : List Section) (table : RateTable) (e : Stopped Broken) → IsLawfulSwap swap
     → KeepsTerms swap cal → IfStopped e (DatedBroken swap cal table)
     → IfRefused (of_stopped e) (IsUnscheduled swap cal table)
 refuse_making swap cal table (stopped.Broken b) lawful kept h =
@@ -442,8 +442,8 @@ refuse_making swap cal table (stopped.Broken b) lawful kept h =
 refuse_making swap cal table stopped.Memory lawful kept h = tt
 
 -- files that pass, from what was read and made
-pub passes_by : (t : Task) (g : Given) (f : Facts) → Spells t g.document f.swap f.sides → CalFiles g.calendars f.cal
-    → AreFixings g.fixings f.table → IsScheduled f.swap f.cal (rates_for t f.table) f.parts → Passes t g f
+pub passes_by : (t : Task) (g : Given) (f : Facts) → SpellsTask t g.document f.swap f.sides → CalFiles g.calendars f.cal
+    → AreGivenFixings g.fixings f.table → IsScheduled f.swap f.cal (rates_for t f.table) f.parts → PassesEachStep t g f
 passes_by t g f document calendars fixings made =
     record {
       document = document;

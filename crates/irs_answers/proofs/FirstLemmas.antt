@@ -9,7 +9,7 @@ use Rattle.irs_resets.specs.Rates.{RateTable}
 use Rattle.irs_resets.specs.declared.fixings.FixErr.{FixErr}
 use Rattle.irs_resets.specs.declared.fixings.FixErr.TheVariants.{Syntax, Repeat, Memory}
 use Rattle.irs_resets.proofs.FileOutcomes.{no_rates, one_fault}
-use Rattle.irs_answers.specs.Due.{IsFixingsFault, AreFixings}
+use Rattle.irs_answers.specs.Due.{IsFixingsFault, AreGivenFixings}
 use Rattle.irs_answers.specs.Common.{FixingsRead}
 
 -- ---- broken rules
@@ -26,7 +26,7 @@ one_fixings_fault None f g h k = absurd h
 one_fixings_fault (Some bytes) f g h k = one_fault bytes f g h k
 
 -- a file with a line at fault gives no rates
-pub no_fixings : (o : Option (List ℕ)) (f : FixErr) (t : RateTable) → IsFixingsFault o f → AreFixings o t → ⊥
+pub no_fixings : (o : Option (List ℕ)) (f : FixErr) (t : RateTable) → IsFixingsFault o f → AreGivenFixings o t → ⊥
 no_fixings None f t h k = h
 no_fixings (Some bytes) f t h k = no_rates bytes f t h k
 

@@ -8,9 +8,9 @@ use Rattle.irs_base.specs.declared.places.Place.{Place}
 use Rattle.irs_answers.specs.Forms.{IsReadable, TextReads, SourceText}
 use Rattle.irs_schedule.specs.Parts.{Part}
 use Rattle.irs_audit.specs.FlowFaults.{FlowFault}
-use Rattle.irs_audit.specs.FlowMeaning.{streams_in}
+use Rattle.irs_audit.specs.FlowMeaning.{flow_parts_in}
 use Rattle.irs_audit.specs.FlowParts.{FlowPart}
-use Rattle.irs_audit.specs.FlowReading.{FlowsOf, IsFirstShape, kind_of}
+use Rattle.irs_audit.specs.FlowReading.{FlowsOf, IsFirstShape, shape_kind_of}
 use Rattle.irs_audit.specs.Verdicts.{IsVerdict}
 use Rattle.irs_audit.specs.declared.departures.Verdict.{Verdict}
 use Rattle.irs_audit.specs.declared.departures.Verdict.TheVariants.{Yes, No}
@@ -28,7 +28,7 @@ use Rattle.irs_answers.specs.Steps.{Is}
 use Rattle.irs_answers.specs.FlowMessages.{bad_flows, whole_document, verdict_status, verdict_text}
 use Rattle.irs_answers.specs.Outcomes.{Ends, IfRefused}
 use Rattle.irs_answers.specs.Private.Outcomes.{FlowsRefused, SpellsFlows}
-use Rattle.irs_answers.specs.Unread.{IsPlaced}
+use Rattle.irs_answers.specs.Unread.{IsPlacedRefusal}
 use Rattle.irs_answers.proofs.DueLemmas.{one_reading}
 use Rattle.irs_answers.proofs.FirstLemmas.{one_first}
 use Rattle.irs_answers.proofs.StepLemmas.{read, unread}
@@ -48,9 +48,9 @@ module _ (Due : OfFlows) (file : SourceText) where
       reads (λ w other. subst (λ (x : Data). DueStated Due x status text) (sym (one_reading file v w reads other)) h)
 
   at_fault : (v : Data) (b : Broken) → First is_before (FlowFault v) b
-      → DueStated Due v 3 (bad_flows (kind_of b.rule) b.place)
+      → DueStated Due v 3 (bad_flows (shape_kind_of b.rule) b.place)
   at_fault v b first =
-      let text = bad_flows (kind_of b.rule) b.place in
+      let text = bad_flows (shape_kind_of b.rule) b.place in
       unread (FlowsOf v) (BadFlows v 3 text) (λ flows. Due flows 3 text) (λ flows of. of.clean b first.0) (
         b,
         record { is = first; only = λ c h. one_first (FlowFault v) b c first h },
@@ -61,7 +61,7 @@ module _ (Due : OfFlows) (file : SourceText) where
       → DueFlows Due file 3 (bad_flows how place)
   due_shape v how place reads h =
       rw (h.kind_is, h.place_is)
-      (in_text v 3 (bad_flows (kind_of h.fault.rule) h.fault.place) reads (at_fault v h.fault h.first))
+      (in_text v 3 (bad_flows (shape_kind_of h.fault.rule) h.fault.place) reads (at_fault v h.fault h.first))
 
   -- faulty cash flows are refused
   pub refuse_flows : (r : Refusal) → FlowsRefused file r → IfRefused r (Ends (DueFlows Due file))
@@ -77,7 +77,7 @@ module _ (Due : OfFlows) (file : SourceText) where
 
 -- a refusal of flows says how they have no reading, if they have none, and nothing of a document
 pub flows_placed : (file : SourceText) (r : Refusal) → FlowsRefused file r → (document : SourceText)
-    → IsPlaced document file r
+    → IsPlacedRefusal document file r
 flows_placed file (Unreadable u) h document = absurd h
 flows_placed file (Rule b) h document = tt
 flows_placed file (Calendars e) h document = tt
@@ -93,7 +93,7 @@ same_ok x y e = cc
 one_flows : (v : Data) (f g : List FlowPart) → FlowsOf v f → FlowsOf v g → g ≡ f
 one_flows v f g h k =
     let swaps : k.swap ≡ h.swap = same_ok k.swap h.swap (sym k.found ∙ h.found) in
-    k.says ∙ ap (λ (d : Data). streams_in d) swaps ∙ sym h.says
+    k.says ∙ ap (λ (d : Data). flow_parts_in d) swaps ∙ sym h.says
 
 -- what is due for flows that are stated is due for their text
 due_stated : (Due : OfFlows) (file : SourceText) (flows : List FlowPart) (status : ℕ) (text : List ℕ)

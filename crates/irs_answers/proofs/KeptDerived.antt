@@ -21,11 +21,11 @@ use Rattle.irs_resets.specs.ResetDates.{IsPeriod}
 use Rattle.irs_resets.specs.declared.store.Slot.{Slot}
 use Rattle.irs_schedule.specs.Parts.{IsDatedReset, Rises}
 use Rattle.irs_schedule.specs.RowsOf.{no_reset}
-use Rattle.irs_overnight.specs.DailyPeriods.{period_at}
-use Rattle.irs_overnight.specs.DailySources.{DailySource, fixing_at}
+use Rattle.irs_overnight.specs.DailyPeriods.{derived_period_at}
+use Rattle.irs_overnight.specs.DailySources.{DerivedSource, fixing_at}
 use Rattle.irs_overnight.specs.DerivedRows.{AreDerived, IsDerivedRow}
-use Rattle.irs_overnight.specs.DerivedRules.{BreaksDerived, NotAfter, not_after_at, period_fault}
-use Rattle.irs_overnight.specs.Factors.{Grows, IsCompounded, one_factor}
+use Rattle.irs_overnight.specs.DerivedRules.{BreaksDerived, FixingNotAfter, fixing_not_after_at, period_fault}
+use Rattle.irs_overnight.specs.Factors.{DerivedGrows, IsDerivedRate, derived_one}
 use Rattle.irs_overnight.specs.FileLaw.{AreFixings, AreKept, HasRate, IsSmallFound, file_text}
 use Rattle.irs_overnight.specs.FoundRates.{DailyPeriod, FindsRate, PassesRange}
 use Rattle.irs_overnight.specs.Observations.{first_absent}
@@ -42,7 +42,7 @@ use Rattle.irs_average.specs.MeanPeriods.{FindsMean, MeanPeriod}
 use Rattle.irs_average.specs.MeanRows.{AreMeans, IsMeanRow}
 use Rattle.irs_average.specs.MeanRules.{BreaksMeans}
 use Rattle.irs_average.specs.MeanSources.{MeanSource, mean_period_at}
-use Rattle.irs_average.specs.Means.{IsWithin}
+use Rattle.irs_average.specs.Means.{RateLiesBetween}
 use Rattle.irs_average.specs.Samples.{IsSample}
 use Rattle.irs_average.specs.StubRates.{IsOnLine, IsStubFound, IsStubRow, StubSource, tenor_rate}
 use Rattle.irs_average.proofs.BetweenLemmas.{small_within, within_small}
@@ -66,7 +66,7 @@ fixing_is_day adjusted resets many days i period =
 -- ---- rates of at most 10 in size
 
 -- a rate that is there lies between -10 and 10
-rates_within : (o : Option ℤ) → IfSome o IsRate → IfSome o (IsWithin (neg_ℤ (pos most_rate)) (pos most_rate))
+rates_within : (o : Option ℤ) → IfSome o IsRate → IfSome o (RateLiesBetween (neg_ℤ (pos most_rate)) (pos most_rate))
 rates_within None h = tt
 rates_within (Some x) h = within_small most_rate x h
 
@@ -75,7 +75,7 @@ small_at o x h e = subst (λ (r : Option ℤ). IfSome r IsRate) e h
 
 -- ---- the rows of daily rates
 
-module _ (source : DailySource) (rows : List DerivedRow) (are : AreDerived source rows)
+module _ (source : DerivedSource) (rows : List DerivedRow) (are : AreDerived source rows)
     (kept : (f : Fault) → BreaksDerived source f → ⊥) (many : length source.adjusted ≡ length source.resets + 1)
     (few : length source.adjusted < 2 ^ 32) (days : Every IsDatedReset source.resets) where
   derived_at : (k : ℕ) (row : DerivedRow) → slice_get rows k ≡ Some row → IsDerivedRow source (1 + k) row
@@ -96,7 +96,7 @@ module _ (source : DailySource) (rows : List DerivedRow) (are : AreDerived sourc
       (is.stands, is.period, is.fixing) in
       let good : All IsInRange rows =
       all_numbered (IsDerivedRow source) IsInRange 1 rows (λ i row low high h. derived_in_range i row h) are.each in
-      let none : (n : ℕ) → NotAfter source.resets n → ⊥ = λ n h. kept (not_after_at n) (inr (inl (record {
+      let none : (n : ℕ) → FixingNotAfter source.resets n → ⊥ = λ n h. kept (fixing_not_after_at n) (inr (inl (record {
         number = n;
         not_after = h;
         is = refl;
@@ -110,9 +110,9 @@ mean_in_range : (p : MeanPeriod) (found : Found) → p.start <ℤ p.end → ((d 
 mean_in_range p (Missing d) order small h = tt
 mean_in_range p (Rate x) order small h =
     let os = h.observations in
-    let all : All (λ (o : Observation). IfSome o.rate (IsWithin (neg_ℤ (pos most_rate)) (pos most_rate))) os =
+    let all : All (λ (o : Observation). IfSome o.rate (RateLiesBetween (neg_ℤ (pos most_rate)) (pos most_rate))) os =
     all_numbered (IsSample p.lines p.days p.start p.end p.step (length os))
-    (λ (o : Observation). IfSome o.rate (IsWithin (neg_ℤ (pos most_rate)) (pos most_rate))) 0 os (λ k o low high sample.
+    (λ (o : Observation). IfSome o.rate (RateLiesBetween (neg_ℤ (pos most_rate)) (pos most_rate))) 0 os (λ k o low high sample.
     rates_within o.rate (subst (λ (r : Option ℤ). IfSome r IsRate) (sym sample.rate) (small o.day))) h.are.each in
     small_within most_rate x
     (mean_within p.kind (p.end -ℤ p.start) os (longer p.start p.end order)
@@ -140,7 +140,7 @@ module _ (source : MeanSource) (rows : List DerivedRow) (are : AreMeans source r
       (is.stands, is.period, is.fixing) in
       let good : All IsInRange rows =
       all_numbered (IsMeanRow source) IsInRange 1 rows (λ i row low high h. row_in_range i row h) are.each in
-      let none : (n : ℕ) → NotAfter source.resets n → ⊥ = λ n h. kept (not_after_at n) (inl (record {
+      let none : (n : ℕ) → FixingNotAfter source.resets n → ⊥ = λ n h. kept (fixing_not_after_at n) (inl (record {
         number = n;
         not_after = h;
         is = refl;

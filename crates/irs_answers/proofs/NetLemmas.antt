@@ -16,7 +16,7 @@ use Rattle.irs_terms.specs.declared.stream_list.Swap.{Swap}
 use Rattle.serde_json.specs.Data.{Data}
 use Rattle.irs_net.specs.Parties.{SidesOf}
 use Rattle.irs_net.specs.declared.sides.Sides.{Sides}
-use Rattle.irs_answers.specs.Due.{Facts, Passes, SidesIf}
+use Rattle.irs_answers.specs.Due.{Facts, PassesEachStep, SidesIf}
 use Rattle.irs_answers.specs.Given.{Given}
 use Rattle.irs_answers.specs.Private.Netted.{IsSided}
 use Rattle.irs_answers.specs.declared.tasks.Task.TheVariants.{Net}
@@ -51,6 +51,6 @@ sided v swap cal table parts (Some sides) h made k = (
 )
 
 -- the files of `net` give sides of as many streams as the schedule has
-pub sided_by : (g : Given) (f : Facts) → Passes Net g f → IsSided f.sides f.parts
+pub sided_by : (g : Given) (f : Facts) → PassesEachStep Net g f → IsSided f.sides f.parts
 sided_by g f p =
     sided p.document.value f.swap f.cal f.table f.parts f.sides p.document.means p.schedule.is p.document.has_sides

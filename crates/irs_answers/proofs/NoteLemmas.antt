@@ -6,23 +6,23 @@ use Rattle.irs_audit.specs.declared.departures.Verdict.{Verdict as Judgement}
 use Rattle.irs_audit.specs.declared.departures.Verdict.TheVariants.{Yes, No}
 use Rattle.irs_resets.specs.Rates.{RateTable}
 use Rattle.irs_schedule.specs.Parts.{Part}
-use Rattle.irs_terms.specs.Lawful.{IsLawful}
+use Rattle.irs_terms.specs.Lawful.{IsLawfulSwap}
 use Rattle.irs_unfixed.specs.Counts.{payment_count}
 use Rattle.irs_unfixed.specs.Fixings.{Fixing}
 use Rattle.irs_unfixed.specs.Missing.{IsFirstLacking, IsFirstMissing, IsMadeFrom, MadeFrom, made_from}
-use Rattle.irs_unfixed.specs.Missing.{fixing_of as missing_fixing, place_of as missing_place}
+use Rattle.irs_unfixed.specs.Missing.{missing_fixing, missing_place}
 use Rattle.irs_unfixed.specs.declared.missing.Missing.{Missing}
 use Rattle.irs_unfixed.specs.declared.places.PaymentPlace.{PaymentPlace}
 use Rattle.irs_answers.specs.Causes.{IsCause, IsCauseOf, IsJudged, cause_of, verdict_cause}
-use Rattle.irs_answers.specs.Due.{Facts, Passes, rates_for}
+use Rattle.irs_answers.specs.Due.{Facts, PassesEachStep, rates_for}
 use Rattle.irs_answers.specs.Forms.{SourceText}
 use Rattle.irs_answers.specs.Given.{Given}
 use Rattle.irs_answers.specs.Notes.{IsAmountsNote, IsAmountsNoteIf, IsFixedNote, IsNoteOf, IsPassedNote, IsRefusalNote}
-use Rattle.irs_answers.specs.Notes.{IsUnfixed, fixing_of, made_by, place_of}
+use Rattle.irs_answers.specs.Notes.{IsUnfixed, unfixed_fixing, made_by, unfixed_place}
 use Rattle.irs_answers.specs.Replying.{reply_status, reply_text}
 use Rattle.irs_answers.specs.Private.Replying.{IsCarriedOut}
 use Rattle.irs_answers.specs.Tasks.{states_amounts}
-use Rattle.irs_answers.specs.Unread.{IsPlaced, IsPlacedReply}
+use Rattle.irs_answers.specs.Unread.{IsPlacedRefusal, IsPlacedReply}
 use Rattle.irs_answers.specs.declared.causes.Cause.TheVariants.{Done, Uncompared}
 use Rattle.irs_answers.specs.declared.notes.Note.{Note}
 use Rattle.irs_answers.specs.declared.notes.Note.TheVariants.{Nothing}
@@ -53,7 +53,7 @@ uses_table (task.Average stream mean step) table e = absurd (cc)
 uses_table (task.Interpolate stream side low high) table e = absurd (cc)
 
 -- what passes every step is what the schedule is made from
-pub made_by_passing : (t : Task) (g : Given) (f : Facts) → IsLawful f.swap → Passes t g f → IsMadeFrom (made_by t f) f.parts
+pub made_by_passing : (t : Task) (g : Given) (f : Facts) → IsLawfulSwap f.swap → PassesEachStep t g f → IsMadeFrom (made_by t f) f.parts
 made_by_passing t g f lawful p =
     record { lawful = lawful; terms = p.terms; dated = p.dated; schedule = p.schedule.is }
 
@@ -77,12 +77,12 @@ module _ (t : Task) (f : Facts) where
 
 -- the first payment without an amount, with the counts of the schedule
 pub counted_is : (x : MadeFrom) (parts : List Part) (m : Missing) (u : Unfixed) → u.count ≡ unfixed_count parts
-    → u.payments ≡ payment_count parts → place_of u ≡ missing_place m → fixing_of u ≡ missing_fixing m
+    → u.payments ≡ payment_count parts → unfixed_place u ≡ missing_place m → unfixed_fixing u ≡ missing_fixing m
     → IsFirstMissing x parts m → IsUnfixed x parts u
 counted_is x parts m u count payments place fixing first = record {
   count = count;
   payments = payments;
-  first = subst (λ (f : Fixing). IsFirstLacking x parts (place_of u) f) (sym fixing)
+  first = subst (λ (f : Fixing). IsFirstLacking x parts (unfixed_place u) f) (sym fixing)
       (subst (λ (p : PaymentPlace). IsFirstLacking x parts p (missing_fixing m)) (sym place) first);
 }
 
@@ -98,7 +98,7 @@ module _ (t : Task) (g : Given) where
   verdict_noted (No d) n p = p
 
   -- what is added to the reply of a task that is carried out
-  pub carried_noted : (f : Facts) (r : Reply) (n : Note) → Passes t g f → IsCarriedOut r → IsFixedNote t f n
+  pub carried_noted : (f : Facts) (r : Reply) (n : Note) → PassesEachStep t g f → IsCarriedOut r → IsFixedNote t f n
       → IsNoteOf t g (cause_of r) n
   carried_noted f (Text x) n p c h = record { facts = f; passes = p; note = h }
   carried_noted f (Rows s) n p c h = record { facts = f; passes = p; note = h }
@@ -123,7 +123,7 @@ noted_caused t (Err m) j = tt
 
 -- the reply that a refusal is, with a note
 pub noted_placed : {E : Type 0} (document flows : SourceText) (r : Result NotedReply E) (e : Refusal)
-    → IfOk r (λ x. x.reply ≡ Refused e) → IsPlaced document flows e → IfOk r (λ x. IsPlacedReply document flows x.reply)
+    → IfOk r (λ x. x.reply ≡ Refused e) → IsPlacedRefusal document flows e → IfOk r (λ x. IsPlacedReply document flows x.reply)
 noted_placed document flows (Ok x) e is p = subst (λ (y : Reply). IsPlacedReply document flows y) (sym is) p
 noted_placed document flows (Err m) e is p = tt
 

@@ -37,7 +37,7 @@ use Rattle.irs_daily.specs.declared.rows.NoRowsWhy.{NoRowsWhy}
 use Rattle.irs_daily.specs.declared.rows.ObservedRow.{ObservedRow}
 use Rattle.irs_daily.proofs.OneList.{one_list}
 use Rattle.irs_daily.proofs.RowLaws.{rates_have_rows}
-use Rattle.irs_accrue.specs.DailyAccruals.{HasSpan}
+use Rattle.irs_periods.specs.Outcomes.{HasSpan}
 use Rattle.irs_schedule.specs.DaySets.{stream_sets}
 use Rattle.irs_schedule.specs.Outcomes.{resets_over, schedule_of, stream_of}
 use Rattle.irs_schedule.specs.Parts.{Part}

@@ -8,19 +8,19 @@ use Rattle.irs_answers.specs.Forms.{TextReads, SourceText}
 use Rattle.irs_xml.specs.Document.{XmlReads}
 use Rattle.irs_audit.specs.FlowFaults.{FlowFault}
 use Rattle.irs_audit.specs.FlowParts.{FlowPart}
-use Rattle.irs_audit.specs.FlowReading.{FlowsOf, kind_of}
+use Rattle.irs_audit.specs.FlowReading.{FlowsOf, shape_kind_of}
 use Rattle.irs_audit.specs.Verdicts.{IsVerdict}
 use Rattle.irs_audit.specs.declared.error.ShapeKind.TheVariants.{NotJson}
 use Rattle.irs_calendar.specs.declared.sections.Section.{Section}
-use Rattle.irs_calendar.specs.FirstFaults.{IsFirstFault as IsFirstCalendarFault}
+use Rattle.irs_calendar.specs.FirstFaults.{IsFirstCalendarFault}
 use Rattle.irs_calendar.specs.Grammar.{CalFiles}
 use Rattle.irs_read.specs.Documents.{DocumentFault}
 use Rattle.irs_read.specs.Reading.{Means}
 use Rattle.irs_resets.specs.Rates.{RateTable}
-use Rattle.irs_rules.specs.TermsRules.{IsFirstBroken as IsFirstOfTerms}
+use Rattle.irs_rules.specs.TermsRules.{IsFirstBrokenRule as IsFirstOfTerms}
 use Rattle.irs_schedule.specs.DatedRules.{DatedKept, DatedBroken}
 use Rattle.irs_schedule.specs.Parts.{Part}
-use Rattle.irs_schedule.specs.RowTexts.{text_of}
+use Rattle.irs_schedule.specs.RowTexts.{schedule_text}
 use Rattle.irs_terms.specs.declared.stream_list.Swap.{Swap}
 use Rattle.irs_emit.specs.Emitted.{emit_text}
 use Rattle.irs_emit_xml.specs.Flows.{flows_text}
@@ -57,7 +57,8 @@ use Rattle.irs_daily.specs.declared.rows.ObservedRow.{ObservedRow}
 use Rattle.irs_answers.specs.Accrued.{Accruing, accruing}
 use Rattle.irs_answers.specs.Observed.{AreRowsIn, DueObservations, IsDailyAt, NotDaily, ShowsRows, no_daily_stream}
 use Rattle.irs_answers.specs.CashFlows.{BadFlows, DueBreaks, DueFlows, DueStated, DueVerdict, IsStatusOf, OfFlows}
-use Rattle.irs_answers.specs.Due.{Answered, AreFixings, BadCalendars, BadFixings, BreaksSides, Facts, facts, HasSides}
+use Rattle.irs_answers.specs.Due.{Answered, AreGivenFixings, BadCalendars, BadFixings, BreaksSides, Facts, facts}
+use Rattle.irs_answers.specs.Due.{HasSides}
 use Rattle.irs_answers.specs.Due.{IsFixingsFault, KeepsTerms, rates_for}
 use Rattle.irs_answers.specs.Private.Due.{IsOneDue}
 use Rattle.irs_answers.proofs.StubLemmas.{one_index}
@@ -102,7 +103,7 @@ module _ (s u : ℕ) (t v : List ℕ) where
   one_fault : (w : Data) → BadFlows w s t → BadFlows w u v → Same
   one_fault w h k =
       by_one (First is_before (FlowFault w)) (λ _. 3)
-      (λ (x : Broken). bad_flows (kind_of x.rule) x.place) h.0 k.0 h.1 k.1 h.2 k.2
+      (λ (x : Broken). bad_flows (shape_kind_of x.rule) x.place) h.0 k.0 h.1 k.1 h.2 k.2
 
   module _ (Due : OfFlows) (one : (f : List FlowPart) → Due f s t → Due f u v → Same) where
     one_stated : (w : Data) → DueStated Due w s t → DueStated Due w u v → Same
@@ -187,7 +188,7 @@ module _ (s u : ℕ) (t v : List ℕ) where
 
   one_answered : (task : Task) (g : Given) (f : Facts) → Answered task g f s t → Answered task g f u v → Same
   one_answered Check g f h k = both 0 all_kept h k
-  one_answered Schedule g f h k = both 0 (text_of f.parts) h k
+  one_answered Schedule g f h k = both 0 (schedule_text f.parts) h k
   one_answered Audit g f h k = one_flows (DueVerdict f.parts) (one_verdict f.parts) g.flows h k
   one_answered (Breaks from) g f h k = one_flows (DueBreaks from f.parts) (one_list from f.parts) g.flows h k
   one_answered Emit g f h k = both 0 (emit_text f.parts) h k
@@ -230,7 +231,7 @@ module _ (s u : ℕ) (t v : List ℕ) where
     one_table : (swap : Swap) (sides : Option Sides) (cal : List Section) → DueFixings task g swap sides cal s t
         → DueFixings task g swap sides cal u v → Same
     one_table swap sides cal h k =
-        step_both (AreFixings g.fixings) (BadFixings g s t) (BadFixings g u v)
+        step_both (AreGivenFixings g.fixings) (BadFixings g s t) (BadFixings g u v)
         (λ table. DueTerms task g swap sides cal table s t)
         (λ table. DueTerms task g swap sides cal table u v) one_bad_fixings (one_terms swap sides cal) h k
 

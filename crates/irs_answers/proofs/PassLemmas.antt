@@ -8,21 +8,21 @@ use Rattle.irs_read.specs.Reading.{Means}
 use Rattle.serde_json.specs.Data.{Data}
 use Rattle.irs_answers.specs.Forms.{SourceText}
 use Rattle.irs_answers.specs.Given.{Given}
-use Rattle.irs_answers.specs.Due.{Answered, DueFor, Facts, Passes, Spells, facts, rates_for}
+use Rattle.irs_answers.specs.Due.{Answered, DueFor, Facts, PassesEachStep, SpellsTask, facts, rates_for}
 use Rattle.irs_answers.specs.Tasks.{uses_rates}
 use Rattle.irs_answers.specs.declared.tasks.Task.{Task}
 use Rattle.irs_answers.proofs.DueLemmas.{one_calendars, one_fixings, one_meaning, one_reading, same_if}
 use Rattle.irs_answers.proofs.SameRates.{SameRates, schedule_same}
 
 -- a text spells one swap
-one_swap : (t : Task) (w : SourceText) (f h : Facts) → Spells t w f.swap f.sides → Spells t w h.swap h.sides
+one_swap : (t : Task) (w : SourceText) (f h : Facts) → SpellsTask t w f.swap f.sides → SpellsTask t w h.swap h.sides
     → h.swap ≡ f.swap
 one_swap t w f h p q =
     let same : q.value ≡ p.value = one_reading w p.value q.value p.reads q.reads in
     one_meaning p.value f.swap h.swap p.means (subst (λ (v : Data). Means v h.swap) same q.means)
 
 -- files that pass have one schedule
-pub passes_one : (t : Task) (g : Given) (f h : Facts) → Passes t g f → Passes t g h → h.parts ≡ f.parts
+pub passes_one : (t : Task) (g : Given) (f h : Facts) → PassesEachStep t g f → PassesEachStep t g h → h.parts ≡ f.parts
 passes_one t g f h p q =
     let r = rates_for t h.table in
     let e : SameRates r (rates_for t f.table) =
@@ -36,7 +36,7 @@ passes_one t g f h p q =
     p.schedule.only h.parts (schedule_same r (rates_for t f.table) e f.swap f.cal h.parts b)
 
 -- what is due for files that pass is what the task answers
-pub passes_due : (t : Task) (g : Given) (f : Facts) (status : ℕ) (text : List ℕ) → Passes t g f → DueFor t g status text
+pub passes_due : (t : Task) (g : Given) (f : Facts) (status : ℕ) (text : List ℕ) → PassesEachStep t g f → DueFor t g status text
     → (s : List Part) × Answered t g (facts f.swap f.sides f.cal f.table s) status text
 passes_due t g f status text p h =
     let d = p.document in

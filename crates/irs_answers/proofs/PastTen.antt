@@ -24,12 +24,14 @@ use Rattle.irs_calendar.specs.GoodDays.{DaySet}
 use Rattle.irs_calendar.specs.declared.sections.Section.{Section}
 use Rattle.irs_resets.specs.Rates.{RateTable}
 use Rattle.irs_rules.specs.TermsKept.{TermsKept}
-use Rattle.irs_compound.specs.Amounts.{AllPriced, AmountOf, Follows, FollowsFrom, Passes, RatesWithin, Stands, code_for}
+use Rattle.irs_compound.specs.Amounts.{AllPriced, AmountOf, Follows, FollowsFrom, PeriodPasses, RatesWithin}
+use Rattle.irs_compound.specs.Amounts.{StandsAfter}
+use Rattle.irs_compound.specs.Amounts.{code_for}
 use Rattle.irs_compound.specs.declared.periods.Parts.{Parts}
 use Rattle.irs_compound.specs.declared.periods.PeriodTerm.{PeriodTerm}
 use Rattle.irs_compound.specs.declared.periods.Rates.{Rates}
 use Rattle.irs_schedule.specs.DaySets.{stream_sets}
-use Rattle.irs_schedule.specs.KeptTerms.{are_given, is_daily, kept_of}
+use Rattle.irs_schedule.specs.KeptTerms.{are_given, is_daily, kept_terms_of}
 use Rattle.irs_schedule.specs.Outcomes.{entry_of, resets_over, stream_of}
 use Rattle.irs_schedule.specs.Parts.{Part}
 use Rattle.irs_schedule.specs.PeriodViews.{dated_period}
@@ -58,14 +60,14 @@ record Reached (code : CompCode) (before : List Parts) (ps : List PeriodTerm) (k
   earlier : List Parts
   follows : FollowsFrom code before (take k ps) earlier
   parts : Parts
-  stands : Stands code p (before ++ earlier) parts
+  stands : StandsAfter code p (before ++ earlier) parts
 
 reached : (code : CompCode) (before : List Parts) (ps : List PeriodTerm) (cs : List Parts) (k : ℕ) (p : PeriodTerm)
     → FollowsFrom code before ps cs → slice_get ps k ≡ Some p → Reached code before ps k p
 reached code before [] cs k p h at = absurd (omega (arith, slice_get_within [] k p at))
 reached code before (q ∷ ps) [] k p h at = absurd h
 reached code before (q ∷ ps) (c ∷ cs) zero p h at =
-    let own : Stands code p before c = subst (λ (x : PeriodTerm). Stands code x before c) (same_Some q p at) h.0 in
+    let own : StandsAfter code p before c = subst (λ (x : PeriodTerm). StandsAfter code x before c) (same_Some q p at) h.0 in
     record { earlier = []; follows = tt; parts = c; stands = rw append-nil own }
 reached code before (q ∷ ps) (c ∷ cs) (suc k) p h at =
     let rest = reached code (before ++ c ∷ []) ps cs k p h.1 at in
@@ -73,13 +75,13 @@ reached code before (q ∷ ps) (c ∷ cs) (suc k) p h at =
       earlier = c ∷ rest.earlier;
       follows = (h.0, rest.follows);
       parts = rest.parts;
-      stands = subst (λ (xs : List Parts). Stands code p xs rest.parts) (append_assoc before (c ∷ []) rest.earlier)
+      stands = subst (λ (xs : List Parts). StandsAfter code p xs rest.parts) (append_assoc before (c ∷ []) rest.earlier)
           rest.stands;
     }
 
 -- where no period leaves the range, each rate is at most 10 in size
 rate_within : (code : CompCode) (ps : List PeriodTerm) (cs : List Parts) (k : ℕ) (p : PeriodTerm) (r : Rates)
-    → Follows code ps cs → slice_get ps k ≡ Some p → p.rates ≡ Some r → ((n : ℕ) → Passes code ps n → ⊥)
+    → Follows code ps cs → slice_get ps k ≡ Some p → p.rates ≡ Some r → ((n : ℕ) → PeriodPasses code ps n → ⊥)
     → IsRate r.all_in
 rate_within code ps cs k p r follows at priced none = elim (cases_lt most_rate (unsigned_abs r.all_in)) [
   | inl more ↦
@@ -103,7 +105,7 @@ rate_within code ps cs k p r follows at priced none = elim (cases_lt most_rate (
 ]
 
 known_within : (code : CompCode) (ps : List PeriodTerm) (cs : List Parts) (k : ℕ) (p : PeriodTerm)
-    → Follows code ps cs → slice_get ps k ≡ Some p → ((n : ℕ) → Passes code ps n → ⊥)
+    → Follows code ps cs → slice_get ps k ≡ Some p → ((n : ℕ) → PeriodPasses code ps n → ⊥)
     → (rates : Option Rates) → p.rates ≡ rates → IsSome rates
     → IsSomeAnd (option_map (λ (r : Rates). r.all_in) rates) IsRate
 known_within code ps cs k p follows at none None is some = absurd (cc)
@@ -190,7 +192,7 @@ module _ (cal : List Section) (fix : RateTable) (s : Stream) (p : Part) (lawful 
       resets_above (resets_over sets s l) sets.applicable fix s.leg (with_rates d.resets d.rates) dated.resets in
       let some = layout_some sets s lawful kept.dates l laid in
       let stand = entries_stand dates laid.rises above (omega (arith, some, laid.adjusted.same_length)) in
-      let ps = periods_by (kept_of s) l.unadjusted l.adjusted d.resets d.rates in
+      let ps = periods_by (kept_terms_of s) l.unadjusted l.adjusted d.resets d.rates in
       let payment : slice_get es pays.place ≡ Some y =
       subst (λ (x : Part). slice_get x.payments pays.place ≡ Some y) g.2.2.2 pays.payment in
       let period : slice_get ps (i - 1) ≡ Some e =

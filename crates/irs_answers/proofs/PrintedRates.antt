@@ -10,7 +10,7 @@ use Rattle.irs_base.specs.declared.places.Broken.{Broken}
 use Rattle.irs_base.specs.declared.places.Fault.{Fault}
 use Rattle.irs_base.proofs.MemberLemmas.{numbered_get}
 use Rattle.serde_json.specs.Data.{Data}
-use Rattle.irs_terms.specs.Lawful.{IsLawful, IsLawfulFloat, IsLawfulLeg, IsLawfulStubRate, IsLawfulStubs, IsRate}
+use Rattle.irs_terms.specs.Lawful.{IsLawfulSwap, IsLawfulFloat, IsLawfulLeg, IsLawfulStubRate, IsLawfulStubs, IsRate}
 use Rattle.irs_terms.specs.declared.amounts.FloatTerms.{FloatTerms}
 use Rattle.irs_terms.specs.declared.amounts.StubRate.{StubRate}
 use Rattle.irs_terms.specs.declared.amounts.StubRate.TheVariants.{Index}
@@ -29,11 +29,11 @@ use Rattle.irs_rules.proofs.Kept.{lawful_stream}
 use Rattle.irs_schedule.specs.DaySets.{reset_days}
 use Rattle.irs_schedule.specs.Parts.{Part}
 use Rattle.irs_schedule.specs.Schedules.{IsSchedule}
-use Rattle.irs_overnight.specs.DailySources.{DailySource, daily_source, fixing_at}
+use Rattle.irs_overnight.specs.DailySources.{DerivedSource, derived_source, fixing_at}
 use Rattle.irs_overnight.specs.DerivedRows.{AreDerived}
 use Rattle.irs_overnight.specs.DerivedRules.{BreaksDerived}
 use Rattle.irs_overnight.specs.FileLaw.{AreFixings, file_text}
-use Rattle.irs_overnight.specs.Overnight.{Asked, HasSource, IsFirstDerived, IsOvernight, OvernightKept}
+use Rattle.irs_overnight.specs.Overnight.{OvernightAsked, HasSource, IsFirstDerived, IsOvernight, OvernightKept}
 use Rattle.irs_overnight.specs.Reading.{IsLawfulLine}
 use Rattle.irs_overnight.specs.declared.derived.DerivedRow.{DerivedRow}
 use Rattle.irs_overnight.proofs.FileRead.{are_fixings}
@@ -50,12 +50,14 @@ use Rattle.irs_average.specs.declared.stubs.Side.TheVariants.{Initial, Last}
 use Rattle.irs_answers.specs.Derived.{DueAveraged, DueCompounded, DueStub, FloatingStream, IsFloatingAt, NotFloating, PrintsOne}
 use Rattle.irs_answers.specs.Derived.{PrintsStub}
 use Rattle.irs_answers.specs.DerivedSchedules.{HasRateOf, HasRowRates, IsMadeWith}
-use Rattle.irs_answers.specs.Due.{Answered, AreFixings as FixingsGive, DueFor, Facts, Passes, Spells, facts, rates_for}
+use Rattle.irs_answers.specs.Due.{Answered, AreGivenFixings as FixingsGive, DueFor, Facts, PassesEachStep, SpellsTask}
+use Rattle.irs_answers.specs.Due.{facts}
+use Rattle.irs_answers.specs.Due.{rates_for}
 use Rattle.irs_answers.specs.Given.{Given}
 use Rattle.irs_answers.specs.KeptSchedules.{IsKeptSchedule}
 use Rattle.irs_answers.specs.PrintedRates.{AveragePrints, InterpolatePrints, OvernightPrints, PrintsRate, PrintsRates, asked_of}
 use Rattle.irs_answers.specs.PrintedRates.{with_fixings}
-use Rattle.irs_answers.specs.Steps.{Refuses, Rules, Step}
+use Rattle.irs_answers.specs.Steps.{Refuses, Rules, ReadStep}
 use Rattle.irs_answers.specs.declared.tasks.Task.{Task}
 use Rattle.irs_answers.specs.declared.tasks.Task.TheVariants.{Schedule, Overnight, Average, Interpolate}
 use Rattle.irs_answers.proofs.DerivedSchedules.{average_used, overnight_used, own_part, stub_period, stub_used}
@@ -66,14 +68,14 @@ use Rattle.irs_answers.proofs.StubLemmas.{one_index}
 -- ---- what the files say
 
 -- a document means a lawful swap
-means_lawful : (d : Data) (s : Swap) → Means d s → IsLawful s
+means_lawful : (d : Data) (s : Swap) → Means d s → IsLawfulSwap s
 means_lawful d s m = document_lawful d m.at s m.clean m.found (means_read d s m)
 
 -- a document spells one swap, whatever the task needs
-one_swap : (t r : Task) (g h : Given) (f u : Facts) → g.document ≡ h.document → Spells t g.document f.swap f.sides
-    → Spells r h.document u.swap u.sides → u.swap ≡ f.swap
+one_swap : (t r : Task) (g h : Given) (f u : Facts) → g.document ≡ h.document → SpellsTask t g.document f.swap f.sides
+    → SpellsTask r h.document u.swap u.sides → u.swap ≡ f.swap
 one_swap t r g h f u e p q =
-    let again : Spells r g.document u.swap u.sides = subst (λ w. Spells r w u.swap u.sides) (sym e) q in
+    let again : SpellsTask r g.document u.swap u.sides = subst (λ w. SpellsTask r w u.swap u.sides) (sym e) q in
     let same : again.value ≡ p.value = one_reading g.document p.value again.value p.reads again.reads in
     one_meaning p.value f.swap u.swap p.means (subst (λ (v : Data). Means v u.swap) same again.means)
 
@@ -91,8 +93,8 @@ fixings_small None table h index slot = rw h tt
 fixings_small (Some bytes) table h index slot = file_small bytes table h index slot
 
 -- with a text as the file of fixings, `schedule` makes a schedule with the rates of that file
-made_with : (t : Task) (g : Given) (f u : Facts) (text other : List ℕ) → Passes t g f
-    → Passes Schedule (with_fixings g text) u → text ≡ other → IsMadeWith f.swap f.cal other u.parts
+made_with : (t : Task) (g : Given) (f u : Facts) (text other : List ℕ) → PassesEachStep t g f
+    → PassesEachStep Schedule (with_fixings g text) u → text ≡ other → IsMadeWith f.swap f.cal other u.parts
 made_with t g f u text other p q same =
     let swap = one_swap t Schedule g (with_fixings g text) f u refl p.document q.document in
     let cal = one_calendars g.calendars f.cal u.cal p.calendars q.calendars in
@@ -105,7 +107,7 @@ made_with t g f u text other p q same =
     }
 
 -- what is due for files that pass is the answer over their schedule
-answered_for : (t : Task) (g : Given) (f : Facts) (status : ℕ) (text : List ℕ) → Passes t g f → DueFor t g status text
+answered_for : (t : Task) (g : Given) (f : Facts) (status : ℕ) (text : List ℕ) → PassesEachStep t g f → DueFor t g status text
     → Answered t g (facts f.swap f.sides f.cal f.table f.parts) status text
 answered_for t g f status text p h =
     let d = p.document in
@@ -116,7 +118,7 @@ answered_for t g f status text p h =
 
 -- ---- the stream and its lines
 
-own_line : (swap : Swap) (number : ℕ) (x : FloatingStream) → IsLawful swap → IsFloatingAt swap number x
+own_line : (swap : Swap) (number : ℕ) (x : FloatingStream) → IsLawfulSwap swap → IsFloatingAt swap number x
     → IsLawfulLine x.float.index x.float.tenor
 own_line swap number x lawful at =
     let stream = lawful_stream swap lawful (number - 1) x.stream at.at in
@@ -148,7 +150,7 @@ record Floated (swap : Swap) (number : ℕ) (Next : FloatingStream → Type 0) :
   next : Next stream
 
 floated : (swap : Swap) (number : ℕ) (text : List ℕ) (Next : FloatingStream → Type 0)
-    → Step (IsFloatingAt swap number) (NotFloating number 0 text) Next → Floated swap number Next
+    → ReadStep (IsFloatingAt swap number) (NotFloating number 0 text) Next → Floated swap number Next
 floated swap number text Next h = elim h.case [
   | inl none ↦ absurd (not_two 0 refl (h.fails none).0)
   | inr there ↦ record { stream = there.0; floats = there.1; next = h.next there.0 there.1 }
@@ -161,19 +163,19 @@ kept_next Keeps P text Next h = elim h.case [
   | inr keeps ↦ (keeps, h.next)
 ]
 
-module _ (t : Task) (g : Given) (f : Facts) (p : Passes t g f) (kept : IsKeptSchedule f.swap f.cal [] f.parts)
+module _ (t : Task) (g : Given) (f : Facts) (p : PassesEachStep t g f) (kept : IsKeptSchedule f.swap f.cal [] f.parts)
     (number : ℕ) (x : FloatingStream) (at : IsFloatingAt f.swap number x) where
   -- rows of daily rates print a fixing file
   overnight_file : (rows : List DerivedRow) → OvernightKept (asked_of f number x)
       → IsOvernight (asked_of f number x) rows → AreFixings rows x.float.tenor x.float.index
   overnight_file rows keeps over =
-      let a : Asked = asked_of f number x in
+      let a : OvernightAsked = asked_of f number x in
       let has = over.has in
       let facts = own_part f.swap f.cal f.parts kept number x at has.part has.at in
-      let source : DailySource = daily_source has.part has.float.index a.days a.rates in
+      let source : DerivedSource = derived_source has.part has.float.index a.days a.rates in
       let own : HasSource a source =
       record { float = has.float; pays = has.pays; part = has.part; at = has.at; is = refl } in
-      let derived : AreDerived source rows = subst (λ (z : DailySource). AreDerived z rows) has.is over.derived in
+      let derived : AreDerived source rows = subst (λ (z : DerivedSource). AreDerived z rows) has.is over.derived in
       let unbroken : (b : Fault) → BreaksDerived source b → ⊥ =
       λ b breaks. keeps b (record { source = source; has = own; breaks = breaks }) in
       are_fixings x.float.tenor x.float.index rows (own_line f.swap number x kept.lawful at)

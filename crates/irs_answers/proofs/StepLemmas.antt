@@ -4,7 +4,7 @@ use Rattle.std.specs.Prelude.{IfSome, IfErr, IsErr}
 use Rattle.std.specs.Result.{IsErrAnd}
 use Rattle.irs_answers.specs.declared.refusals.Refusal.{Refusal}
 use Rattle.irs_answers.specs.declared.replies.Reply.{Reply}
-use Rattle.irs_answers.specs.Steps.{Step, Rules}
+use Rattle.irs_answers.specs.Steps.{ReadStep, Rules}
 use Rattle.irs_base.specs.Order.{Only}
 use Rattle.irs_answers.specs.Replying.{reply_status, reply_text}
 use Rattle.irs_answers.specs.Outcomes.{Answer, answer_of, IfRefused, Ends}
@@ -37,12 +37,12 @@ ends_more P Q f status text h = record { due = f status text h.due; verdict = h.
 
 -- the step passes where an x is read and Next holds of each that may be read
 pub read : {X : Type 0} (Reads : X → Type 0) (Fails : Type 0) (Next : X → Type 0) (x : X) → Reads x
-    → ((y : X) → Reads y → Next y) → Step Reads Fails Next
+    → ((y : X) → Reads y → Next y) → ReadStep Reads Fails Next
 read Reads Fails Next x reads next = record { fails = λ n. absurd (n (x, reads)); next = next; case = inr (x, reads) }
 
 -- the step fails where no x can be read
 pub unread : {X : Type 0} (Reads : X → Type 0) (Fails : Type 0) (Next : X → Type 0) → ((x : X) → Reads x → ⊥) → Fails
-    → Step Reads Fails Next
+    → ReadStep Reads Fails Next
 unread Reads Fails Next none fails =
     record { fails = λ _. fails; next = λ x reads. absurd (none x reads); case = inl (λ k. none k.0 k.1) }
 
@@ -56,7 +56,7 @@ broken Keeps Fails Next never fails = record { fails = λ _. fails; next = λ k.
 
 -- a step whose Next follows from that of another, with the same reading and failure
 pub step_next : {X : Type 0} (Reads : X → Type 0) (F : Type 0) (N M : X → Type 0) → ((x : X) → N x → M x)
-    → Step Reads F N → Step Reads F M
+    → ReadStep Reads F N → ReadStep Reads F M
 step_next Reads F N M more h = record { fails = h.fails; next = λ x reads. more x (h.next x reads); case = h.case }
 
 -- the only value with a property is the only one with an equivalent property
@@ -78,7 +78,7 @@ rules_more K L F G N M there back fails next h = record {
 
 -- what two outcomes of a step have in common: where it fails, and where it reads an x
 pub step_both : {X C : Type 0} (Reads : X → Type 0) (F G : Type 0) (N M : X → Type 0) → (F → G → C)
-    → ((x : X) → N x → M x → C) → Step Reads F N → Step Reads G M → C
+    → ((x : X) → N x → M x → C) → ReadStep Reads F N → ReadStep Reads G M → C
 step_both Reads F G N M fails next h k = elim h.case [
   | inl none ↦ fails (h.fails none) (k.fails none)
   | inr x ↦ next x.0 (h.next x.0 x.1) (k.next x.0 x.1)

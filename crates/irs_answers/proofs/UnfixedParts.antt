@@ -28,7 +28,7 @@ use Rattle.irs_periods.proofs.SpanThere.{lies_in_term}
 use Rattle.irs_periods.specs.Boundaries.{Boundaries}
 use Rattle.irs_periods.specs.SpanRules.{SpanKept}
 use Rattle.irs_periods.specs.Spans.{Regular}
-use Rattle.irs_resets.specs.ObservedRates.{ComesFrom, IsKind, IsObserved, Line}
+use Rattle.irs_resets.specs.ObservedRates.{ComesFrom, IsPeriodKind, IsObserved, Line}
 use Rattle.irs_resets.specs.Rates.{RateTable, rate_at}
 use Rattle.irs_resets.specs.ResetDates.{IsPeriod}
 use Rattle.irs_resets.specs.Resets.{HasResets, IsReset, IsResets, IsResetsOf, ResetSource, source_of}
@@ -227,8 +227,8 @@ module _ (cal : List Section) (t u : RateTable) (stream : FloatingStream)
       let n = length q.adjusted - 1 in
       let spans : takes.span ≡ k.layout.span =
       one_span s takes.span k.layout.span takes.regular k.is_layout.regular in
-      let is_kind : IsKind s k.layout.span n i takes.kind =
-      subst (λ (span : Span). IsKind s span n i takes.kind) spans takes.is_kind in
+      let is_kind : IsPeriodKind s k.layout.span n i takes.kind =
+      subst (λ (span : Span). IsPeriodKind s span n i takes.kind) spans takes.is_kind in
       let kinds : takes.kind ≡ other.kind = one_kind s k.layout.span n i takes.kind other.kind is_kind other.is_kind in
       let comes : ComesFrom other.kind float s.stubs (Line index tenor) =
       subst (λ (kind : PeriodKind). ComesFrom kind float s.stubs (Line index tenor)) {y = other.kind} kinds

@@ -15,8 +15,9 @@ use Rattle.irs_xml.specs.Content.{Element, empty, full, Content, nothing, charac
 use Rattle.irs_xml.specs.Content.{instruction, child, IsElement, IsContent, most_levels}
 use Rattle.irs_xml.specs.Document.{XmlReads, rooted, root_key, root_value}
 use Rattle.irs_xml.specs.Namespaces.{Setting, Scope, first_scope}
-use Rattle.irs_xml.specs.Values.{Child, both, children_in, element_child, element_data, is_counted, item_last, joined}
-use Rattle.irs_xml.specs.Values.{leaf_value, named, value_from, with_child, with_children, with_settings, without}
+use Rattle.irs_xml.specs.Values.{Child, both, children_in, element_child, element_data, is_counted, item_last}
+use Rattle.irs_xml.specs.Values.{joined_values}
+use Rattle.irs_xml.specs.Values.{leaf_value, named_child, value_from, with_child, with_children, with_settings, without}
 
 -- ---- what nests to a lesser depth
 
@@ -118,7 +119,7 @@ last_built : (n : ℕ) (ds : Items) (d : Data) → ItemsBuilt n ds → Built n d
 last_built n no_items d h k = (k, tt)
 last_built n (item e es) d h k = (h.0, last_built n es d h.1 k)
 
-joined_in : (n : ℕ) (o : Option Data) (d : Data) → IfSome o (In n) → Built n d → In n (joined o d)
+joined_in : (n : ℕ) (o : Option Data) (d : Data) → IfSome o (In n) → Built n d → In n (joined_values o d)
 joined_in n None d h k = one_in n d k
 joined_in n (Some null) d h k = absurd h
 joined_in n (Some (boolean b)) d h k = absurd h
@@ -139,7 +140,7 @@ children_built : (n : ℕ) (cs : List Child) (ms : Members) → AreBuilt n cs �
 children_built n [] ms h t = t
 children_built n (c ∷ cs) ms h t =
     children_built n cs (with_child c ms) h.1
-    (put_in n c.0 (joined (get_member c.0 ms) c.1) (without c.0 ms)
+    (put_in n c.0 (joined_values (get_member c.0 ms) c.1) (without c.0 ms)
     (joined_in n (get_member c.0 ms) c.1 (get_in n c.0 ms t) h.0) (without_in n c.0 ms t))
 
 settings_in : (n : ℕ) (ss : List Setting) (ms : Members) → MembersIn n ms → MembersIn n (with_settings ss ms)
@@ -198,7 +199,7 @@ data_built n true ss text None d f e = absurd (cc e)
 data_built n true ss text (Some cs) d f e = value_built n ss text cs d (f cs refl) e
 
 named_built : (n : ℕ) (key : List ℕ) (o : Option Data) (c : Child) → ((d : Data) → o ≡ Some d → Built n d)
-    → named key o ≡ Some c → Built n c.1
+    → named_child key o ≡ Some c → Built n c.1
 named_built n key None c f e = absurd (cc e)
 named_built n key (Some d) c f e = subst (λ (x : Child). Built n x.1) (same_Some (key, d) c e) (f d refl)
 

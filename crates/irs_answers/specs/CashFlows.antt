@@ -6,7 +6,7 @@ use Rattle.irs_base.specs.declared.places.Broken.{Broken}
 use Rattle.irs_schedule.specs.Parts.{Part}
 use Rattle.irs_audit.specs.FlowFaults.{FlowFault}
 use Rattle.irs_audit.specs.FlowParts.{FlowPart}
-use Rattle.irs_audit.specs.FlowReading.{FlowsOf, kind_of}
+use Rattle.irs_audit.specs.FlowReading.{FlowsOf, shape_kind_of}
 use Rattle.irs_audit.specs.Verdicts.{IsVerdict, row_count, unfixed_count}
 use Rattle.irs_audit.specs.declared.departures.Verdict.{Verdict}
 use Rattle.irs_audit.specs.declared.departures.Verdict.TheVariants.{Yes}
@@ -16,7 +16,7 @@ use Rattle.irs_breaks.specs.BreakTexts.{breaks_text}
 use Rattle.irs_breaks.specs.Findings.{Findings}
 use Rattle.irs_answers.specs.FlowMessages.{bad_flows, verdict_status, verdict_text, whole_document}
 use Rattle.irs_answers.specs.Forms.{SourceText, TextReads}
-use Rattle.irs_answers.specs.Steps.{Is, Step}
+use Rattle.irs_answers.specs.Steps.{Is, ReadStep}
 
 -- what is due for flows that are stated: a status and a text
 abbrev pub OfFlows : Type 1
@@ -25,16 +25,16 @@ OfFlows = List FlowPart → ℕ → List ℕ → Type 0
 -- the first fault of a reading of flows
 abbrev pub BadFlows : Data → ℕ → List ℕ → Type 0
 BadFlows v status text =
-    (b : Broken) × Only (First is_before (FlowFault v)) b × Is 3 (bad_flows (kind_of b.rule) b.place) status text
+    (b : Broken) × Only (First is_before (FlowFault v)) b × Is 3 (bad_flows (shape_kind_of b.rule) b.place) status text
 
 -- what is due for flows that have a reading: its first fault, or what is due for the flows that it states
 abbrev pub DueStated : OfFlows → Data → ℕ → List ℕ → Type 0
-DueStated Due v status text = Step (FlowsOf v) (BadFlows v status text) (λ flows. Due flows status text)
+DueStated Due v status text = ReadStep (FlowsOf v) (BadFlows v status text) (λ flows. Due flows status text)
 
 -- what is due for the text of flows; `notjson` where it has no reading
 abbrev pub DueFlows : OfFlows → SourceText → ℕ → List ℕ → Type 0
 DueFlows Due w status text =
-    Step (TextReads w) (Is 3 (bad_flows NotJson whole_document) status text) (λ v. DueStated Due v status text)
+    ReadStep (TextReads w) (Is 3 (bad_flows NotJson whole_document) status text) (λ v. DueStated Due v status text)
 
 -- the only verdict on flows against a schedule
 abbrev pub DueVerdict : List Part → OfFlows

@@ -12,7 +12,7 @@ use Rattle.irs_schedule.specs.DaySets.{reset_days}
 use Rattle.irs_schedule.specs.Parts.{Part}
 use Rattle.irs_overnight.specs.DerivedRules.{no_floating_stream}
 use Rattle.irs_overnight.specs.FileLaw.{file_text}
-use Rattle.irs_overnight.specs.Overnight.{Asked, IsFirstDerived, IsOvernight, OvernightKept, asked}
+use Rattle.irs_overnight.specs.Overnight.{OvernightAsked, IsFirstDerived, IsOvernight, OvernightKept, asked}
 use Rattle.irs_overnight.specs.declared.derived.DerivedRow.{DerivedRow}
 use Rattle.irs_average.specs.Averages.{AverageAsked, AverageKept, IsAverage, IsFirstOfAverage, averaged}
 use Rattle.irs_average.specs.Interpolations.{IsInterpolated, IsStubBroken, StubKept}
@@ -20,7 +20,7 @@ use Rattle.irs_average.specs.Stubs.{GivesIndex, StubAsked, stub_asked}
 use Rattle.irs_average.specs.declared.means.Mean.{Mean}
 use Rattle.irs_average.specs.declared.stubs.Side.{Side}
 use Rattle.irs_answers.specs.Messages.{refused}
-use Rattle.irs_answers.specs.Steps.{Is, Refuses, Rules, Step}
+use Rattle.irs_answers.specs.Steps.{Is, Refuses, Rules, ReadStep}
 
 -- a stream, and what it pays floating
 pub record FloatingStream : Type 0 where
@@ -47,14 +47,14 @@ abbrev pub PrintsOne : (P : List DerivedRow → Type 0) → FloatTerms → ℕ �
 PrintsOne P float status text = (rows : List DerivedRow) × Only P rows × Prints rows float.tenor float.index status text
 
 -- K41 to K44, then the rates that daily rates give
-abbrev pub DueCompounded : Asked → FloatTerms → ℕ → List ℕ → Type 0
+abbrev pub DueCompounded : OvernightAsked → FloatTerms → ℕ → List ℕ → Type 0
 DueCompounded a float status text =
     Rules (OvernightKept a) (Refuses (IsFirstDerived a) status text) (PrintsOne (IsOvernight a) float status text)
 
 -- what is due for daily rates of the stream with that number
 abbrev pub DueOvernight : ℕ → Swap → List Section → RateTable → List Part → ℕ → List ℕ → Type 0
 DueOvernight number swap cal rates parts status text =
-    Step (IsFloatingAt swap number) (NotFloating number status text)
+    ReadStep (IsFloatingAt swap number) (NotFloating number status text)
     (λ x. DueCompounded (asked swap number parts (reset_days cal x.stream) rates) x.float status text)
 
 -- K41 and K43, then the averages
@@ -65,7 +65,7 @@ DueAveraged a float status text =
 -- what is due for averages of the stream with that number
 abbrev pub DueAverage : ℕ → Mean → ℕ → Swap → List Section → RateTable → List Part → ℕ → List ℕ → Type 0
 DueAverage number mean step swap cal rates parts status text =
-    Step (IsFloatingAt swap number) (NotFloating number status text)
+    ReadStep (IsFloatingAt swap number) (NotFloating number status text)
     (λ x. DueAveraged (averaged (asked swap number parts (reset_days cal x.stream) rates) mean step) x.float
     status text)
 
@@ -83,5 +83,5 @@ DueStub a status text = Rules (StubKept a) (Refuses (IsStubBroken a) status text
 -- what is due for the stub of the stream with that number
 abbrev pub DueInterpolate : ℕ → Side → Frequency → Frequency → Swap → RateTable → List Part → ℕ → List ℕ → Type 0
 DueInterpolate number side low high swap rates parts status text =
-    Step (IsFloatingAt swap number) (NotFloating number status text)
+    ReadStep (IsFloatingAt swap number) (NotFloating number status text)
     (λ x. DueStub (stub_asked swap number side low high parts rates) status text)

@@ -9,7 +9,7 @@ use Rattle.irs_terms.specs.declared.stream_list.Swap.{Swap}
 use Rattle.irs_calendar.specs.declared.sections.Section.{Section}
 use Rattle.irs_periods.specs.Spans.{Regular}
 use Rattle.irs_resets.specs.FixingFiles.{IsFixingFile}
-use Rattle.irs_resets.specs.ObservedRates.{ComesFrom, IsKind, Line}
+use Rattle.irs_resets.specs.ObservedRates.{ComesFrom, IsPeriodKind, Line}
 use Rattle.irs_resets.specs.Rates.{RateTable}
 use Rattle.irs_resets.specs.ResetDates.{IsPeriod}
 use Rattle.irs_resets.specs.declared.observed.PeriodKind.{PeriodKind}
@@ -17,7 +17,7 @@ use Rattle.irs_schedule.specs.DaySets.{reset_days}
 use Rattle.irs_schedule.specs.Parts.{Part}
 use Rattle.irs_schedule.specs.Schedules.{IsSchedule}
 use Rattle.irs_overnight.specs.FileLaw.{AreFixings, file_text}
-use Rattle.irs_overnight.specs.Overnight.{Asked, IsOvernight, OvernightKept, asked}
+use Rattle.irs_overnight.specs.Overnight.{OvernightAsked, IsOvernight, OvernightKept, asked}
 use Rattle.irs_overnight.specs.declared.derived.DerivedRow.{DerivedRow}
 use Rattle.irs_overnight.specs.declared.derived.Found.{Found}
 use Rattle.irs_overnight.specs.declared.derived.Found.TheVariants.{Rate, Missing}
@@ -38,7 +38,7 @@ pub record ComesFromLine (x : FloatingStream) (n i : ℕ) (index : List ℕ) (te
   pub span : Span
   pub regular : Regular x.stream span
   pub kind : PeriodKind
-  pub is_kind : IsKind x.stream span n i kind
+  pub is_kind : IsPeriodKind x.stream span n i kind
   pub comes_from : ComesFrom kind x.float x.stream.stubs (Line index tenor)
 
 -- in the part the period of the row has the row's fixing date. Its observed rate is the row's, and none where that is
@@ -76,7 +76,7 @@ HoldsWith swap cal number text P = (parts : List Part) → IsMadeWith swap cal t
 -- they print a fixing file that has exactly their rates.
 abbrev pub OvernightIsUsed : Swap → List Section → List Part → ℕ → FloatingStream → RateTable → Type 0
 OvernightIsUsed swap cal parts number x rates =
-    let a : Asked = asked swap number parts (reset_days cal x.stream) rates in
+    let a : OvernightAsked = asked swap number parts (reset_days cal x.stream) rates in
     (rows : List DerivedRow) → OvernightKept a → IsOvernight a rows → AreFixings rows x.float.tenor x.float.index
     → HoldsWith swap cal number (file_text rows x.float.tenor x.float.index) (HasRowRates x rows)
 

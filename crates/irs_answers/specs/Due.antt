@@ -6,16 +6,16 @@ use Rattle.irs_read.specs.Documents.{DocumentFault}
 use Rattle.irs_read.specs.Reading.{Means}
 use Rattle.irs_terms.specs.declared.stream_list.Swap.{Swap}
 use Rattle.irs_calendar.specs.FirstFaults.{Spot}
-use Rattle.irs_calendar.specs.FirstFaults.{IsFirstFault as IsFirstCalendarFault}
+use Rattle.irs_calendar.specs.FirstFaults.{IsFirstCalendarFault}
 use Rattle.irs_calendar.specs.Grammar.{CalFiles}
 use Rattle.irs_calendar.specs.declared.sections.Section.{Section}
 use Rattle.irs_resets.specs.FixingFiles.{IsFixingFault, IsFixingFile}
 use Rattle.irs_resets.specs.Rates.{RateTable}
 use Rattle.irs_resets.specs.declared.fixings.FixErr.{FixErr}
-use Rattle.irs_rules.specs.TermsRules.{BreaksTerms, IsFirstBroken as IsFirstOfTerms}
+use Rattle.irs_rules.specs.TermsRules.{BreaksTerms, IsFirstBrokenRule as IsFirstOfTerms}
 use Rattle.irs_schedule.specs.DatedRules.{DatedKept, DatedBroken}
 use Rattle.irs_schedule.specs.Parts.{Part}
-use Rattle.irs_schedule.specs.RowTexts.{text_of}
+use Rattle.irs_schedule.specs.RowTexts.{schedule_text}
 use Rattle.irs_schedule.specs.Schedules.{IsSchedule}
 use Rattle.irs_emit.specs.Emitted.{emit_text}
 use Rattle.irs_emit_xml.specs.Flows.{flows_text}
@@ -29,7 +29,7 @@ use Rattle.irs_answers.specs.Tasks.{nets, uses_rates}
 use Rattle.irs_answers.specs.Forms.{TextReads, SourceText}
 use Rattle.irs_answers.specs.Given.{Given}
 use Rattle.irs_answers.specs.Messages.{refused, unreadable, bad_calendar, bad_fixings, all_kept}
-use Rattle.irs_answers.specs.Steps.{Is, Refuses, Rules, Step}
+use Rattle.irs_answers.specs.Steps.{Is, Refuses, Rules, ReadStep}
 use Rattle.irs_answers.specs.Derived.{DueAverage, DueInterpolate, DueOvernight}
 use Rattle.irs_answers.specs.Netted.{TellsNet}
 use Rattle.irs_answers.specs.Observed.{DueObservations}
@@ -37,9 +37,9 @@ use Rattle.irs_net.specs.Parties.{BreaksK8Of, SidesOf}
 use Rattle.irs_net.specs.declared.sides.Sides.{Sides}
 
 -- the rates of a file of fixings, none without one
-abbrev pub AreFixings : Option (List ℕ) → RateTable → Type 0
-AreFixings None table = table ≡ []
-AreFixings (Some bytes) table = IsFixingFile bytes table
+abbrev pub AreGivenFixings : Option (List ℕ) → RateTable → Type 0
+AreGivenFixings None table = table ≡ []
+AreGivenFixings (Some bytes) table = IsFixingFile bytes table
 
 -- the first line of a file of fixings that is at fault, and how it is, where there is a file
 abbrev pub IsFixingsFault : Option (List ℕ) → FixErr → Type 0
@@ -90,7 +90,7 @@ facts swap sides cal table parts = record { swap = swap; sides = sides; cal = ca
 -- what is due for a task where no rule is broken and the schedule is the only one
 abbrev pub Answered : Task → Given → Facts → ℕ → List ℕ → Type 0
 Answered Check g f status text = Is 0 all_kept status text
-Answered Schedule g f status text = Is 0 (text_of f.parts) status text
+Answered Schedule g f status text = Is 0 (schedule_text f.parts) status text
 Answered Audit g f status text = DueFlows (DueVerdict f.parts) g.flows status text
 Answered (Breaks from) g f status text = DueFlows (DueBreaks from f.parts) g.flows status text
 Answered Emit g f status text = Is 0 (emit_text f.parts) status text
@@ -133,7 +133,7 @@ BadFixings g status text = (f : FixErr) × Only (IsFixingsFault g.fixings) f × 
 -- what is due from the file of fixings on
 abbrev pub DueFixings : Task → Given → Swap → Option Sides → List Section → ℕ → List ℕ → Type 0
 DueFixings t g swap sides cal status text =
-    Step (AreFixings g.fixings) (BadFixings g status text) (λ table. DueTerms t g swap sides cal table status text)
+    ReadStep (AreGivenFixings g.fixings) (BadFixings g status text) (λ table. DueTerms t g swap sides cal table status text)
 
 -- what is due for faulty calendar files: their first line at fault
 abbrev pub BadCalendars : Given → ℕ → List ℕ → Type 0
@@ -142,39 +142,39 @@ BadCalendars g status text = (s : Spot) × Only (IsFirstCalendarFault g.calendar
 -- what is due from the calendar files on
 abbrev pub DueCalendars : Task → Given → Swap → Option Sides → ℕ → List ℕ → Type 0
 DueCalendars t g swap sides status text =
-    Step (CalFiles g.calendars) (BadCalendars g status text) (λ cal. DueFixings t g swap sides cal status text)
+    ReadStep (CalFiles g.calendars) (BadCalendars g status text) (λ cal. DueFixings t g swap sides cal status text)
 
 -- what is due from the parties of the streams on: K8, where the task needs them
 abbrev pub DueSides : Task → Given → Data → Swap → ℕ → List ℕ → Type 0
 DueSides t g v swap status text =
-    Step (HasSides t v) (Refuses (BreaksSides t v) status text) (λ sides. DueCalendars t g swap sides status text)
+    ReadStep (HasSides t v) (Refuses (BreaksSides t v) status text) (λ sides. DueCalendars t g swap sides status text)
 
 -- what is due from the document's value on: K2 to K7 where it means no swap
 abbrev pub DueDocument : Task → Given → Data → ℕ → List ℕ → Type 0
 DueDocument t g v status text =
-    Step (Means v) (Refuses (First is_before (DocumentFault v)) status text) (λ swap. DueSides t g v swap status text)
+    ReadStep (Means v) (Refuses (First is_before (DocumentFault v)) status text) (λ swap. DueSides t g v swap status text)
 
 -- what is due for a task and its files; K1: the document has no reading
 abbrev pub DueFor : Task → Given → ℕ → List ℕ → Type 0
 DueFor t g status text =
-    Step (TextReads g.document) (Is 2 (refused unreadable) status text) (λ v. DueDocument t g v status text)
+    ReadStep (TextReads g.document) (Is 2 (refused unreadable) status text) (λ v. DueDocument t g v status text)
 
 -- the text has a reading, it means the swap, and these are the sides that the task needs
-pub record Spells (t : Task) (document : SourceText) (swap : Swap) (sides : Option Sides) : Type 0 where
+pub record SpellsTask (t : Task) (document : SourceText) (swap : Swap) (sides : Option Sides) : Type 0 where
   pub value : Data
   pub reads : TextReads document value
   pub means : Means value swap
   pub has_sides : HasSides t value sides
 
 -- the files of a task pass every step, and these are the facts
-pub record Passes (t : Task) (g : Given) (f : Facts) : Type 0 where
-  pub document : Spells t g.document f.swap f.sides
+pub record PassesEachStep (t : Task) (g : Given) (f : Facts) : Type 0 where
+  pub document : SpellsTask t g.document f.swap f.sides
   pub calendars : CalFiles g.calendars f.cal
-  pub fixings : AreFixings g.fixings f.table
+  pub fixings : AreGivenFixings g.fixings f.table
   pub terms : KeepsTerms f.swap f.cal
   pub dated : DatedKept f.swap f.cal (rates_for t f.table)
   pub schedule : Only (IsSchedule f.swap f.cal (rates_for t f.table)) f.parts
 
 -- every list in the relations of dates, fractions and amounts has this text
 abbrev pub IsTextOfEach : Facts → List ℕ → Type 0
-IsTextOfEach f text = (s : List Part) → IsSchedule f.swap f.cal f.table s → text ≡ text_of s
+IsTextOfEach f text = (s : List Part) → IsSchedule f.swap f.cal f.table s → text ≡ schedule_text s

@@ -38,8 +38,8 @@ abbrev pub xml_text : List ℕ → SourceText
 xml_text bytes = record { form = Xml; bytes = bytes }
 
 -- no text
-abbrev pub no_text : SourceText
-no_text = json_text []
+abbrev pub no_source_text : SourceText
+no_source_text = json_text []
 
 -- the text has a reading in its form
 abbrev pub IsReadable : SourceText → Type 0

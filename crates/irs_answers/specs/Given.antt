@@ -1,7 +1,7 @@
 -- The files of a task, by what they are to it.
 use Rattle.std.specs.Prelude.{ℕ, ◌+◌, ◌<◌, ◌≤◌, List, [], length, map, All, Option, None, option_map, IfSome}
 use Rattle.irs_base.specs.Limits.{most_bytes, most_files}
-use Rattle.irs_answers.specs.Forms.{SourceText, no_text, source_by}
+use Rattle.irs_answers.specs.Forms.{SourceText, no_source_text, source_by}
 use Rattle.irs_answers.specs.declared.files.TaskFiles.{TaskFiles}
 
 -- one byte more than a file may have
@@ -21,11 +21,11 @@ pub record Given : Type 0 where
 
 -- no file
 abbrev pub no_files : Given
-no_files = record { document = no_text; fixings = None; flows = no_text; calendars = [] }
+no_files = record { document = no_source_text; fixings = None; flows = no_source_text; calendars = [] }
 
 -- the files as the code keeps them
-abbrev pub given_by : TaskFiles → Given
-given_by f =
+abbrev pub files_given_by : TaskFiles → Given
+files_given_by f =
     record {
       document = source_by f.document;
       fixings = option_map (λ v. v.items) f.fixings;
@@ -44,7 +44,7 @@ given_with own common =
     }
 
 -- the limits that the readers of the files ask for
-pub record IsWithin (g : Given) : Type 0 where
+pub record IsWithinLimits (g : Given) : Type 0 where
   pub fixings : IfSome g.fixings (λ bytes. length bytes < too_many)
   pub calendars : All (λ bytes. length bytes < too_many) g.calendars
   pub few : length g.calendars ≤ most_calendars

@@ -11,13 +11,13 @@ abbrev pub most_listed : ℕ
 most_listed = 16
 
 -- the centres of sections: the first names in the order of the files, and how many more there are
-abbrev pub listed : List Section → Listed
-listed cal = Named (take most_listed (center_names cal)) (length cal - most_listed)
+abbrev pub listed_centers : List Section → Listed
+listed_centers cal = Named (take most_listed (center_names cal)) (length cal - most_listed)
 
 -- the list is that of the sections that the files spell; without a file it says so
 abbrev pub IsListOf : List (List ℕ) → Listed → Type 0
 IsListOf [] list = list ≡ NoFile
-IsListOf (f ∷ fs) list = (cal : List Section) × CalFiles (f ∷ fs) cal × (list ≡ listed cal)
+IsListOf (f ∷ fs) list = (cal : List Section) × CalFiles (f ∷ fs) cal × (list ≡ listed_centers cal)
 
 -- the list, where memory sufficed for it; that there is no file is always said
 abbrev pub IsMaybeListOf : List (List ℕ) → Option Listed → Type 0

@@ -8,7 +8,7 @@ use Rattle.irs_unfixed.specs.Fixings.{Fixing}
 use Rattle.irs_unfixed.specs.Missing.{IsFirstLacking, MadeFrom, made_from}
 use Rattle.irs_unfixed.specs.Unfixed.{EachHasAmount}
 use Rattle.irs_unfixed.specs.declared.places.PaymentPlace.{PaymentPlace}
-use Rattle.irs_answers.specs.Due.{Facts, Passes, rates_for}
+use Rattle.irs_answers.specs.Due.{Facts, PassesEachStep, rates_for}
 use Rattle.irs_answers.specs.Forms.{SourceText}
 use Rattle.irs_answers.specs.Fronts.{front_of}
 use Rattle.irs_answers.specs.Given.{Given}
@@ -29,18 +29,18 @@ use Rattle.irs_answers.specs.declared.tasks.Task.{Task}
 -- ---- payments without an amount
 
 -- the place of the first payment without an amount
-abbrev pub place_of : Unfixed → PaymentPlace
-place_of u = record { stream = u.stream; payment = u.payment }
+abbrev pub unfixed_place : Unfixed → PaymentPlace
+unfixed_place u = record { stream = u.stream; payment = u.payment }
 
 -- the fixing that it lacks
-abbrev pub fixing_of : Unfixed → Fixing
-fixing_of u = record { index = u.index; tenor = u.tenor; day = u.day }
+abbrev pub unfixed_fixing : Unfixed → Fixing
+unfixed_fixing u = record { index = u.index; tenor = u.tenor; day = u.day }
 
 -- the counts of payments, and the first one without an amount, are those of the schedule
 pub record IsUnfixed (x : MadeFrom) (parts : List Part) (u : Unfixed) : Type 0 where
   pub count : u.count ≡ unfixed_count parts
   pub payments : u.payments ≡ payment_count parts
-  pub first : IsFirstLacking x parts (place_of u) (fixing_of u)
+  pub first : IsFirstLacking x parts (unfixed_place u) (unfixed_fixing u)
 
 -- what is added where the schedule is the one of x: nothing where each payment has its amount
 abbrev pub IsAmountsNote : MadeFrom → List Part → Note → Type 0
@@ -65,7 +65,7 @@ IsFixedNote t f n = IsAmountsNoteIf (states_amounts t) (made_by t f) f.parts n
 -- the files of the task pass every step, and this is added to what it comes to
 pub record IsPassedNote (t : Task) (g : Given) (n : Note) : Type 0 where
   pub facts : Facts
-  pub passes : Passes t g facts
+  pub passes : PassesEachStep t g facts
   pub note : IsFixedNote t facts n
 
 -- ---- a refusal

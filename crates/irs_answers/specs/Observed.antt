@@ -21,7 +21,7 @@ use Rattle.irs_schedule.specs.DaySets.{applicable_days}
 use Rattle.irs_schedule.specs.Parts.{Part}
 use Rattle.irs_answers.specs.Accrued.{Accruing}
 use Rattle.irs_answers.specs.Messages.{refused}
-use Rattle.irs_answers.specs.Steps.{Is, Step}
+use Rattle.irs_answers.specs.Steps.{Is, ReadStep}
 
 -- a stream with its floating terms and their calculation parameters
 pub record DailyStream : Type 0 where
@@ -67,4 +67,4 @@ ShowsRows number x parts y status text =
 -- what is due for the days that each rate of the stream with that number is made of
 abbrev pub DueObservations : ℕ → Accruing → List Part → ℕ → List ℕ → Type 0
 DueObservations number x parts status text =
-    Step (IsDailyAt x.swap number) (NotDaily number status text) (λ y. ShowsRows number x parts y status text)
+    ReadStep (IsDailyAt x.swap number) (NotDaily number status text) (λ y. ShowsRows number x parts y status text)

@@ -18,7 +18,7 @@ use Rattle.irs_calendar.specs.declared.sections.Section.{Section}
 use Rattle.irs_resets.specs.Rates.{RateTable}
 use Rattle.irs_resets.specs.declared.fixings.FixErr.{FixErr}
 use Rattle.irs_resets.specs.declared.fixings.FixErr.TheVariants as fixing
-use Rattle.irs_rules.specs.TermsRules.{IsFirstBroken as IsFirstOfTerms}
+use Rattle.irs_rules.specs.TermsRules.{IsFirstBrokenRule as IsFirstOfTerms}
 use Rattle.irs_schedule.specs.DatedRules.{DatedKept, DatedBroken}
 use Rattle.irs_schedule.specs.Parts.{Part}
 use Rattle.irs_schedule.specs.Schedules.{IsSchedule}

@@ -5,7 +5,7 @@ use Rattle.irs_base.specs.Order.{Only}
 use Rattle.irs_terms.specs.declared.frequency.Frequency.{Frequency}
 use Rattle.irs_schedule.specs.DaySets.{reset_days}
 use Rattle.irs_overnight.specs.FileLaw.{AreFixings, file_text}
-use Rattle.irs_overnight.specs.Overnight.{Asked, IsOvernight, asked}
+use Rattle.irs_overnight.specs.Overnight.{OvernightAsked, IsOvernight, asked}
 use Rattle.irs_overnight.specs.declared.derived.DerivedRow.{DerivedRow}
 use Rattle.irs_average.specs.Averages.{IsAverage, averaged}
 use Rattle.irs_average.specs.Interpolations.{IsInterpolated}
@@ -14,7 +14,7 @@ use Rattle.irs_average.specs.declared.means.Mean.{Mean}
 use Rattle.irs_average.specs.declared.stubs.Side.{Side}
 use Rattle.irs_answers.specs.Derived.{FloatingStream, IsFloatingAt}
 use Rattle.irs_answers.specs.DerivedSchedules.{HasRateOf, HasRowRates}
-use Rattle.irs_answers.specs.Due.{DueFor, Facts, Passes}
+use Rattle.irs_answers.specs.Due.{DueFor, Facts, PassesEachStep}
 use Rattle.irs_answers.specs.Given.{Given}
 use Rattle.irs_answers.specs.declared.tasks.Task.{Task}
 use Rattle.irs_answers.specs.declared.tasks.Task.TheVariants.{Schedule, Overnight, Average, Interpolate}
@@ -34,7 +34,7 @@ pub record PrintsRates (g : Given) (f : Facts) (number : ℕ) (Is : FloatingStre
   pub only : Only (Is stream) rows
   pub printed : text ≡ file_text rows stream.float.tenor stream.float.index
   pub file : AreFixings rows stream.float.tenor stream.float.index
-  pub used : (u : Facts) → Passes Schedule (with_fixings g text) u → HoldsOf (HasRowRates stream rows) u.parts number
+  pub used : (u : Facts) → PassesEachStep Schedule (with_fixings g text) u → HoldsOf (HasRowRates stream rows) u.parts number
 
 -- The text is that of the only row that meets `IsInterpolated`. It is a fixing file with exactly its rate. `schedule`
 -- over the same files, with the text as fixings, has this rate in the stub's period.
@@ -45,26 +45,26 @@ pub record PrintsRate (g : Given) (f : Facts) (a : StubAsked) (text : List ℕ) 
   pub has : HasStub a stub
   pub printed : text ≡ file_text (row ∷ []) stub.tenor stub.source.index
   pub file : AreFixings (row ∷ []) stub.tenor stub.source.index
-  pub used : (u : Facts) → Passes Schedule (with_fixings g text) u → HoldsOf (HasRateOf row) u.parts a.number
+  pub used : (u : Facts) → PassesEachStep Schedule (with_fixings g text) u → HoldsOf (HasRateOf row) u.parts a.number
 
 -- the request for rates that a task makes of a stream, over what its files say
-abbrev pub asked_of : Facts → ℕ → FloatingStream → Asked
+abbrev pub asked_of : Facts → ℕ → FloatingStream → OvernightAsked
 asked_of f number x = asked f.swap number f.parts (reset_days f.cal x.stream) f.table
 
 -- what `overnight` prints with status 0 is used
 abbrev pub OvernightPrints : ℕ → Given → Facts → List ℕ → Type 0
 OvernightPrints number g f text =
-    Passes (Overnight number) g f → DueFor (Overnight number) g 0 text
+    PassesEachStep (Overnight number) g f → DueFor (Overnight number) g 0 text
     → PrintsRates g f number (λ x. IsOvernight (asked_of f number x)) text
 
 -- so is what `average` prints
 abbrev pub AveragePrints : ℕ → Mean → ℕ → Given → Facts → List ℕ → Type 0
 AveragePrints number mean step g f text =
-    Passes (Average number mean step) g f → DueFor (Average number mean step) g 0 text
+    PassesEachStep (Average number mean step) g f → DueFor (Average number mean step) g 0 text
     → PrintsRates g f number (λ x. IsAverage (averaged (asked_of f number x) mean step)) text
 
 -- so is what `interpolate` prints
 abbrev pub InterpolatePrints : ℕ → Side → Frequency → Frequency → Given → Facts → List ℕ → Type 0
 InterpolatePrints number side low high g f text =
-    Passes (Interpolate number side low high) g f → DueFor (Interpolate number side low high) g 0 text
+    PassesEachStep (Interpolate number side low high) g f → DueFor (Interpolate number side low high) g 0 text
     → PrintsRate g f (stub_asked f.swap number side low high f.parts f.table) text

@@ -6,7 +6,7 @@ use Rattle.irs_calendar.specs.declared.calendars.CalErr.{CalErr}
 use Rattle.irs_calendar.specs.declared.calendars.CalErr.TheVariants as calendar
 use Rattle.irs_calendar.specs.declared.machine.Fault.TheVariants.{Syntax, Repeat, TooMany}
 use Rattle.irs_resets.specs.declared.fixings.FixErr.{FixErr}
-use Rattle.irs_schedule.specs.RowTexts.{text_of}
+use Rattle.irs_schedule.specs.RowTexts.{schedule_text}
 use Rattle.irs_audit.specs.declared.error.ShapeKind.TheVariants.{NotJson}
 use Rattle.irs_answers.specs.FlowMessages.{bad_flows, verdict_status, verdict_text, whole_document}
 use Rattle.irs_answers.specs.Messages.{bad_calendar, bad_fixings, refused, unreadable}
@@ -29,9 +29,9 @@ abbrev pub fixings_text : FixErr → List ℕ
 fixings_text e = bad_fixings e
 
 -- the line of faulty cash flows; none where memory ran out
-abbrev pub flows_text : FlowErr → List ℕ
-flows_text (flowing.Shape kind place) = bad_flows kind place
-flows_text flowing.Memory = []
+abbrev pub flows_fault_text : FlowErr → List ℕ
+flows_fault_text (flowing.Shape kind place) = bad_flows kind place
+flows_fault_text flowing.Memory = []
 
 -- the status of a refusal
 abbrev pub refusal_status : Refusal → ℕ
@@ -50,7 +50,7 @@ refusal_text (refusal.Rule b) = refused b
 refusal_text (refusal.Calendars e) = calendars_text e
 refusal_text (refusal.Fixings e) = fixings_text e
 refusal_text (refusal.UnreadableFlows u) = bad_flows NotJson whole_document
-refusal_text (refusal.Flows e) = flows_text e
+refusal_text (refusal.Flows e) = flows_fault_text e
 refusal_text refusal.Memory = []
 
 -- ---- a reply
@@ -66,7 +66,7 @@ reply_status (Refused r) = refusal_status r
 -- the text of a reply
 abbrev pub reply_text : Reply → List ℕ
 reply_text (Text text) = text.items
-reply_text (Rows schedule) = text_of schedule
+reply_text (Rows schedule) = schedule_text schedule
 reply_text (Breaks text) = text.items
 reply_text (Verdict w) = verdict_text w
 reply_text (Refused r) = refusal_text r

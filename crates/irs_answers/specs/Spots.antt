@@ -6,7 +6,7 @@ use Rattle.irs_base.specs.declared.places.Broken.{Broken}
 use Rattle.irs_base.specs.declared.places.Place.{Place}
 use Rattle.irs_base.specs.declared.places.Rule.{Rule}
 use Rattle.irs_elements.specs.declared.table.Leaf.{Leaf as LeafKind}
-use Rattle.irs_locate.specs.Kinds.{IsKindOf, IsShapeAt}
+use Rattle.irs_locate.specs.Kinds.{IsLeafKindOf, IsShapeAt}
 use Rattle.irs_locate.specs.Lines.{IsLineOf}
 use Rattle.irs_locate.specs.Members.{IsMemberOf}
 use Rattle.irs_locate.specs.Texts.{IsTextOf}
@@ -60,8 +60,8 @@ IsTextIf false w place text = text ≡ None
 
 -- the kind of leaf that the table of elements has for the element; none where it has none
 pub record IsKindAt (elem : ℕ) (kind : Option LeafKind) : Type 0 where
-  pub is : IfSome kind (IsKindOf elem)
-  pub found : (k : LeafKind) → IsKindOf elem k → kind ≡ Some k
+  pub is : IfSome kind (IsLeafKindOf elem)
+  pub found : (k : LeafKind) → IsLeafKindOf elem k → kind ≡ Some k
 
 -- the same for such a rule
 abbrev pub IsKindIf : Bool → ℕ → Option LeafKind → Type 0

@@ -13,7 +13,7 @@ abbrev pub Refuses : (P : Broken → Type 0) → ℕ → List ℕ → Type 0
 Refuses P status text = (b : Broken) × Only P b × Is 2 (refused b) status text
 
 -- a step that reads an x: Fails is due where there is none, and Next for each that there is
-pub record Step {X : Type 0} (Reads : X → Type 0) (Fails : Type 0) (Next : X → Type 0) : Type 0 where
+pub record ReadStep {X : Type 0} (Reads : X → Type 0) (Fails : Type 0) (Next : X → Type 0) : Type 0 where
   pub fails : ¬ ((x : X) × Reads x) → Fails
   pub next : (x : X) → Reads x → Next x
   -- one of these applies

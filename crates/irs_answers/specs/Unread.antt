@@ -7,14 +7,14 @@ use Rattle.irs_answers.specs.declared.replies.Reply.{Reply}
 use Rattle.irs_answers.specs.declared.replies.Reply.TheVariants as reply
 
 -- where a refusal says how the document or the flows have no reading, that is so
-abbrev pub IsPlaced : SourceText → SourceText → Refusal → Type 0
-IsPlaced document flows (Unreadable u) = IsUnread document u
-IsPlaced document flows (Rule b) = Unit {0}
-IsPlaced document flows (Calendars e) = Unit {0}
-IsPlaced document flows (Fixings e) = Unit {0}
-IsPlaced document flows (UnreadableFlows u) = IsUnread flows u
-IsPlaced document flows (Flows e) = Unit {0}
-IsPlaced document flows Memory = Unit {0}
+abbrev pub IsPlacedRefusal : SourceText → SourceText → Refusal → Type 0
+IsPlacedRefusal document flows (Unreadable u) = IsUnread document u
+IsPlacedRefusal document flows (Rule b) = Unit {0}
+IsPlacedRefusal document flows (Calendars e) = Unit {0}
+IsPlacedRefusal document flows (Fixings e) = Unit {0}
+IsPlacedRefusal document flows (UnreadableFlows u) = IsUnread flows u
+IsPlacedRefusal document flows (Flows e) = Unit {0}
+IsPlacedRefusal document flows Memory = Unit {0}
 
 -- the same of a reply
 abbrev pub IsPlacedReply : SourceText → SourceText → Reply → Type 0
@@ -22,8 +22,8 @@ IsPlacedReply document flows (reply.Text text) = Unit {0}
 IsPlacedReply document flows (reply.Rows schedule) = Unit {0}
 IsPlacedReply document flows (reply.Breaks text) = Unit {0}
 IsPlacedReply document flows (reply.Verdict w) = Unit {0}
-IsPlacedReply document flows (reply.Refused r) = IsPlaced document flows r
+IsPlacedReply document flows (reply.Refused r) = IsPlacedRefusal document flows r
 
 -- the refusal isn't of a text without a reading
 abbrev pub IsOtherwise : Refusal → Type 0
-IsOtherwise r = (document flows : SourceText) → IsPlaced document flows r
+IsOtherwise r = (document flows : SourceText) → IsPlacedRefusal document flows r

@@ -3,7 +3,7 @@
 ghost use Rattle.std.specs.Prelude.{◌≡◌, ◌+◌, ◌<◌, Some, length, slice_get, IfOk};
 ghost use Rattle.irs_base.specs.Order.{Only};
 ghost use Rattle.irs_schedule.specs.Parts.{Part};
-ghost use Rattle.irs_accrue.specs.Accruals.{HasPlaces};
+ghost use Rattle.irs_accrue.specs.Accruals.{AccrualHasPlaces};
 ghost use Rattle.irs_answers.specs.Accrued.{AccruesAt, TellsAccrued, accrued_header, accruing};
 ghost use Rattle.irs_answers.specs.Private.Accrued.{IsAccruing};
 
@@ -37,7 +37,7 @@ fn accrual_in(alloc: Global, found: &Found<'_>, index: u8, date: Day) -> Result<
     ensures accrues { let x = accruing found.now.swap found.now.calendars.now found.now.fixings.now in
         (p : Part) → slice_get found.now.schedule index ≡ Some p
         → IfOk result (Only (AccruesAt x date (index + 1) p)) }
-    ensures places { IfOk result HasPlaces }
+    ensures places { IfOk result AccrualHasPlaces }
 {
     let place = index as usize;
     let stream = &found.swap.streams.as_slice()[place];

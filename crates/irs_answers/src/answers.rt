@@ -7,7 +7,7 @@ ghost use Rattle.irs_answers.specs.Private.Accrued.{IsAccruing};
 ghost use Rattle.irs_answers.specs.CashFlows.{DueFlows, DueVerdict};
 ghost use Rattle.irs_answers.specs.Causes.{IsJudged};
 ghost use Rattle.irs_answers.specs.Private.Causes.{JudgedIf};
-ghost use Rattle.irs_answers.specs.Due.{Answered, Passes};
+ghost use Rattle.irs_answers.specs.Due.{Answered, PassesEachStep};
 ghost use Rattle.irs_answers.specs.Forms.{source_by};
 ghost use Rattle.irs_answers.specs.Found.{facts_by};
 ghost use Rattle.irs_answers.specs.Given.{given_with};
@@ -18,7 +18,7 @@ ghost use Rattle.irs_answers.specs.Private.Replying.{IsCarriedOut};
 ghost use Rattle.irs_answers.specs.Steps.{Is};
 ghost use Rattle.irs_answers.specs.Tasks.{IsLawfulTask};
 ghost use Rattle.irs_answers.specs.Private.Unread.{AllPlaced, FlowsAlone, NoneUnread};
-ghost use Rattle.irs_terms.specs.Lawful.{IsLawful};
+ghost use Rattle.irs_terms.specs.Lawful.{IsLawfulSwap};
 
 use crate::accruing::accrued_page;
 use crate::breaking::breaks_answer;
@@ -48,8 +48,8 @@ pub(crate) fn answer_by(
     found: Found<'_>,
 ) -> Result<Reply, Refusal>
     requires asked { IsLawfulTask task.now }
-    requires lawful { IsLawful found.swap }
-    requires passes { Passes task.now (given_with files.now common.now.files) (facts_by found) }
+    requires lawful { IsLawfulSwap found.swap }
+    requires passes { PassesEachStep task.now (given_with files.now common.now.files) (facts_by found) }
     ensures due { IfAnswered result
         (Ends (Answered task.now (given_with files.now common.now.files) (facts_by found.entry))) }
     ensures judged { JudgedIf task.now result }

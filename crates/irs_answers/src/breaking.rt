@@ -6,7 +6,7 @@ ghost use Rattle.irs_answers.specs.Outcomes.{Ends};
 ghost use Rattle.irs_answers.specs.Private.Outcomes.{IfAnswered};
 ghost use Rattle.irs_answers.specs.Replying.{reply_status, reply_text};
 ghost use Rattle.irs_answers.specs.Private.Replying.{IsCarriedOut};
-ghost use Rattle.irs_answers.specs.Private.Unread.{FlowsAlone, IsPlain};
+ghost use Rattle.irs_answers.specs.Private.Unread.{FlowsAlone, IsOfReadText};
 
 use crate::flows::stated_flows;
 use crate::forms::Source;
@@ -39,7 +39,7 @@ fn listed(list: &BreakList, text: Vec<u8>) -> Reply
     ensures status { IsStatusOf list.now (reply_status result) }
     ensures text { reply_text result ≡ text.items }
     ensures carried { IsCarriedOut result }
-    ensures plain { IsPlain result }
+    ensures plain { IsOfReadText result }
 {
     if list.any() {
         Reply::Breaks(text)

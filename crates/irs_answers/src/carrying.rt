@@ -1,7 +1,7 @@
 //! The text of `carrier`: the value that FpML XML means, as the JSON that carries it.
 ghost use Rattle.irs_answers.specs.Carried.{DueCarrier, ReadsBack, carrier_text};
 ghost use Rattle.irs_answers.specs.Private.Carried.{MeansXml};
-ghost use Rattle.irs_answers.specs.Forms.{no_text, xml_text};
+ghost use Rattle.irs_answers.specs.Forms.{no_source_text, xml_text};
 ghost use Rattle.irs_answers.specs.Outcomes.{Ends};
 ghost use Rattle.irs_answers.specs.Private.Outcomes.{IfAnswered};
 ghost use Rattle.irs_answers.specs.Replying.{reply_status, reply_text};
@@ -24,7 +24,7 @@ use std::alloc::Global;
 pub fn carrier(alloc: Global, bytes: &[u8]) -> Result<Reply, Memory>
     ensures due { IfOk result (λ r. Ends (DueCarrier bytes.now) (reply_status r) (reply_text r)) }
     ensures reads_back { IfOk result (λ r. reply_status r ≡ 0 → ReadsBack bytes.now (reply_text r)) }
-    ensures placed { IfOk result (λ r. IsPlacedReply (xml_text bytes.now) no_text r) }
+    ensures placed { IfOk result (λ r. IsPlacedReply (xml_text bytes.now) no_source_text r) }
 {
     match carry(alloc, bytes) {
         Ok(reply) => Ok(reply),
@@ -36,7 +36,7 @@ pub fn carrier(alloc: Global, bytes: &[u8]) -> Result<Reply, Memory>
 fn carry(alloc: Global, bytes: &[u8]) -> Result<Reply, Refusal>
     ensures due { IfAnswered result (λ status text. Ends (DueCarrier bytes.now) status text
         × (status ≡ 0 → ReadsBack bytes.now text)) }
-    ensures placed { AllPlaced (xml_text bytes.now) no_text result }
+    ensures placed { AllPlaced (xml_text bytes.now) no_source_text result }
 {
     let value = read_fpml(alloc, bytes)?;
     Ok(Reply::Text(line_of(alloc, &value)?))

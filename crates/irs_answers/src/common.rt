@@ -2,11 +2,11 @@
 ghost use Rattle.std.specs.Prelude.{◌≡◌, ◌≤◌, length, map, option_map, IfSome, IfOk, IfErr, All};
 ghost use Rattle.irs_base.specs.Limits.{most_bytes, most_files};
 ghost use Rattle.irs_calendar.specs.Calendars.{spot_of};
-ghost use Rattle.irs_calendar.specs.FirstFaults.{IsFirstFault};
+ghost use Rattle.irs_calendar.specs.FirstFaults.{IsFirstCalendarFault};
 ghost use Rattle.irs_calendar.specs.Grammar.{CalFiles};
 ghost use Rattle.irs_answers.specs.Common.{AreRead, CalendarsRead, FixingsRead};
-ghost use Rattle.irs_answers.specs.Due.{AreFixings};
-ghost use Rattle.irs_answers.specs.Given.{IsWithin, given_by};
+ghost use Rattle.irs_answers.specs.Due.{AreGivenFixings};
+ghost use Rattle.irs_answers.specs.Given.{IsWithinLimits, files_given_by};
 ghost use Rattle.irs_answers.specs.Outcomes.{FixingsFail};
 
 use crate::files::TaskFiles;
@@ -29,7 +29,7 @@ pub struct Common {
 impl Common {
     /// Reads the calendar files and the file of fixings.
     pub fn read(alloc: Global, files: TaskFiles) -> Common
-        requires { IsWithin (given_by files) }
+        requires { IsWithinLimits (files_given_by files) }
         ensures files { result.files ≡ files }
         ensures read { AreRead result }
     {
@@ -45,8 +45,8 @@ impl Common {
     /// The calendars, or the first fault of their files.
     pub(crate) fn calendars(&self) -> Result<&Calendars, CalErr>
         requires { AreRead self.now }
-        ensures spelt { IfOk result (λ c. CalFiles (given_by self.now.files).calendars c.now) }
-        ensures first { IfErr result (λ e. IfSome (spot_of e) (IsFirstFault (given_by self.now.files).calendars)) }
+        ensures spelt { IfOk result (λ c. CalFiles (files_given_by self.now.files).calendars c.now) }
+        ensures first { IfErr result (λ e. IfSome (spot_of e) (IsFirstCalendarFault (files_given_by self.now.files).calendars)) }
     {
         match &self.calendars {
             Ok(calendars) => Ok(calendars),
@@ -57,8 +57,8 @@ impl Common {
     /// The fixings, or the first fault of their file.
     pub(crate) fn fixings(&self) -> Result<&Fixings, FixErr>
         requires { AreRead self.now }
-        ensures fixings { IfOk result (λ f. AreFixings (given_by self.now.files).fixings f.now) }
-        ensures fault { IfErr result (λ e. FixingsFail (given_by self.now.files).fixings e) }
+        ensures fixings { IfOk result (λ f. AreGivenFixings (files_given_by self.now.files).fixings f.now) }
+        ensures fault { IfErr result (λ e. FixingsFail (files_given_by self.now.files).fixings e) }
     {
         match &self.fixings {
             Ok(fixings) => Ok(fixings),

@@ -7,7 +7,7 @@ ghost use Rattle.irs_average.specs.Averages.{most_step};
 ghost use Rattle.irs_overnight.specs.DerivedRules.{no_floating_stream};
 ghost use Rattle.irs_overnight.specs.FileLaw.{file_text};
 ghost use Rattle.irs_answers.specs.Derived.{DueAverage, DueInterpolate, DueOvernight, FloatingStream, IsFloatingAt};
-ghost use Rattle.irs_answers.specs.Private.Derived.{IsUnfixed};
+ghost use Rattle.irs_answers.specs.Private.Derived.{IsUnfixedSchedule};
 ghost use Rattle.irs_answers.specs.Outcomes.{Ends};
 ghost use Rattle.irs_answers.specs.Private.Outcomes.{IfAnswered};
 ghost use Rattle.irs_answers.specs.Private.Replying.{IsCarriedOut};
@@ -29,7 +29,7 @@ pub(crate) fn overnight_answer(
     number: u8,
     found: &Found<'_>,
 ) -> Result<Reply, Refusal>
-    requires { IsUnfixed found.now.swap found.now.calendars.now found.now.schedule }
+    requires { IsUnfixedSchedule found.now.swap found.now.calendars.now found.now.schedule }
     ensures due { IfAnswered result
         (Ends (DueOvernight number found.now.swap found.now.calendars.now found.now.fixings.now found.now.schedule)) }
     ensures carried { IfOk result IsCarriedOut }
@@ -53,7 +53,7 @@ pub(crate) fn average_answer(
 ) -> Result<Reply, Refusal>
     requires some { 1 ≤ step }
     requires few { step ≤ most_step }
-    requires unfixed { IsUnfixed found.now.swap found.now.calendars.now found.now.schedule }
+    requires unfixed { IsUnfixedSchedule found.now.swap found.now.calendars.now found.now.schedule }
     ensures due { IfAnswered result
         (Ends (DueAverage number mean step found.now.swap found.now.calendars.now found.now.fixings.now found.now.schedule)) }
     ensures carried { IfOk result IsCarriedOut }
@@ -89,7 +89,7 @@ pub(crate) fn interpolate_answer(
 ) -> Result<Reply, Refusal>
     requires low { IsLawfulTenor low }
     requires high { IsLawfulTenor high }
-    requires unfixed { IsUnfixed found.now.swap found.now.calendars.now found.now.schedule }
+    requires unfixed { IsUnfixedSchedule found.now.swap found.now.calendars.now found.now.schedule }
     ensures due { IfAnswered result
         (Ends (DueInterpolate number side low high found.now.swap found.now.fixings.now found.now.schedule)) }
     ensures carried { IfOk result IsCarriedOut }

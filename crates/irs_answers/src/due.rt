@@ -3,18 +3,18 @@ ghost use Rattle.std.specs.Prelude.{◌≡◌, Some, IfOk, IfErr};
 ghost use Rattle.serde_json.specs.View.{view};
 ghost use Rattle.irs_base.specs.declared.places.Broken.{Broken as BrokenRule};
 ghost use Rattle.irs_read.specs.Documents.{DocumentFault};
-ghost use Rattle.irs_terms.specs.Lawful.{IsLawful};
+ghost use Rattle.irs_terms.specs.Lawful.{IsLawfulSwap};
 ghost use Rattle.irs_answers.specs.Causes.{IsCauseOf, IsJudged, cause_of};
 ghost use Rattle.irs_answers.specs.Common.{AreRead};
-ghost use Rattle.irs_answers.specs.Given.{IsWithin, given_by, given_with};
-ghost use Rattle.irs_answers.specs.Due.{BreaksSides, DueFor, HasSides, Passes, rates_for};
+ghost use Rattle.irs_answers.specs.Given.{IsWithinLimits, files_given_by, given_with};
+ghost use Rattle.irs_answers.specs.Due.{BreaksSides, DueFor, HasSides, PassesEachStep, rates_for};
 ghost use Rattle.irs_answers.specs.Forms.{source_by};
 ghost use Rattle.irs_answers.specs.Found.{facts_by};
 ghost use Rattle.irs_answers.specs.Notes.{IsNoteOf, IsRefusalNote};
 ghost use Rattle.irs_answers.specs.Outcomes.{Ends, IfRefused, IsScheduled, IsUnscheduled, answer_of};
 ghost use Rattle.irs_answers.specs.Replying.{reply_status, reply_text};
 ghost use Rattle.irs_answers.specs.Tasks.{IsLawfulTask};
-ghost use Rattle.irs_answers.specs.Unread.{IsOtherwise, IsPlaced, IsPlacedReply};
+ghost use Rattle.irs_answers.specs.Unread.{IsOtherwise, IsPlacedRefusal, IsPlacedReply};
 ghost use Rattle.irs_answers.specs.declared.replies.Reply.TheVariants.{Refused};
 
 use crate::answers::answer_by;
@@ -55,11 +55,11 @@ pub struct Found<'a> {
 /// the rules of the swap. The task's own step comes last. `Memory` comes where memory ran out.
 pub fn reply_of(alloc: Global, task: Task, files: TaskFiles) -> Result<NotedReply, Memory>
     requires lawful { IsLawfulTask task }
-    requires within { IsWithin (given_by files) }
-    ensures due { IfOk result (λ r. Ends (DueFor task (given_by files)) (reply_status r.reply) (reply_text r.reply)) }
+    requires within { IsWithinLimits (files_given_by files) }
+    ensures due { IfOk result (λ r. Ends (DueFor task (files_given_by files)) (reply_status r.reply) (reply_text r.reply)) }
     ensures cause { IfOk result (λ r. IsCauseOf task (cause_of r.reply) (reply_status r.reply) (reply_text r.reply)) }
-    ensures placed { IfOk result (λ r. IsPlacedReply (given_by files).document (given_by files).flows r.reply) }
-    ensures noted { IfOk result (λ r. IsNoteOf task (given_by files) (cause_of r.reply) r.note) }
+    ensures placed { IfOk result (λ r. IsPlacedReply (files_given_by files).document (files_given_by files).flows r.reply) }
+    ensures noted { IfOk result (λ r. IsNoteOf task (files_given_by files) (cause_of r.reply) r.note) }
 {
     let (own, common) = files.split(alloc);
     let common = Common::read(alloc, common);
@@ -101,7 +101,7 @@ fn refused_reply(
     ensures answer { IfOk result (λ r. answer_of refusal ≡ Some (reply_status r.reply, reply_text r.reply)) }
     ensures judged { IfOk result (λ r. IsJudged r.reply) }
     ensures refused { IfOk result (λ r. r.reply ≡ Refused refusal) }
-    ensures noted { let calendars = (given_by common.now.files).calendars in
+    ensures noted { let calendars = (files_given_by common.now.files).calendars in
         IfOk result (λ r. IsRefusalNote (source_by document.now) calendars refusal r.note) }
 {
     let reply = refusal.reply()?;
@@ -125,7 +125,7 @@ fn carry_out(
     ensures cause { IfOk result (λ r. IsCauseOf task (cause_of r.reply) (reply_status r.reply) (reply_text r.reply)) }
     ensures placed { IfOk result
         (λ r. IsPlacedReply (source_by files.now.document) (source_by files.now.flows) r.reply) }
-    ensures unread { IfErr result (λ r. IsPlaced (source_by files.now.document) (source_by files.now.flows) r) }
+    ensures unread { IfErr result (λ r. IsPlacedRefusal (source_by files.now.document) (source_by files.now.flows) r) }
     ensures noted { let given = given_with files.now common.now.files in
         IfOk result (λ r. IsNoteOf task given (cause_of r.reply) r.note) }
 {
@@ -145,11 +145,11 @@ pub fn find<'a>(
     common: &'a Common,
 ) -> Result<Found<'a>, Refusal>
     requires { AreRead common.now }
-    ensures passes { IfOk result (λ f. Passes task (given_with files.now common.now.files) (facts_by f)) }
-    ensures lawful { IfOk result (λ f. IsLawful f.swap) }
+    ensures passes { IfOk result (λ f. PassesEachStep task (given_with files.now common.now.files) (facts_by f)) }
+    ensures lawful { IfOk result (λ f. IsLawfulSwap f.swap) }
     ensures refused { IfErr result
         (λ r. IfRefused r (Ends (DueFor task (given_with files.now common.now.files)))) }
-    ensures placed { IfErr result (λ r. IsPlaced (source_by files.now.document) (source_by files.now.flows) r) }
+    ensures placed { IfErr result (λ r. IsPlacedRefusal (source_by files.now.document) (source_by files.now.flows) r) }
 {
     let document = read_document(alloc, &files.document)?;
     let swap = read_swap(alloc, &document)?;
@@ -187,7 +187,7 @@ fn schedule_for(
     calendars: &Calendars,
     fixings: &Fixings,
 ) -> Result<Schedule, Refusal>
-    requires { IsLawful swap.now }
+    requires { IsLawfulSwap swap.now }
     ensures schedule { IfOk result (λ s. IsScheduled swap.now calendars.now (rates_for task.now fixings.now) s) }
     ensures refused { IfErr result
         (λ r. IfRefused r (IsUnscheduled swap.now calendars.now (rates_for task.now fixings.now))) }
@@ -207,7 +207,7 @@ pub fn schedule_of(
     calendars: &Calendars,
     fixings: &Fixings,
 ) -> Result<Schedule, Refusal>
-    requires { IsLawful swap.now }
+    requires { IsLawfulSwap swap.now }
     ensures schedule { IfOk result (λ s. IsScheduled swap.now calendars.now fixings.now s) }
     ensures refused { IfErr result (λ r. IfRefused r (IsUnscheduled swap.now calendars.now fixings.now)) }
     ensures placed { IfErr result (λ r. IsOtherwise r) }

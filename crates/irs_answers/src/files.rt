@@ -1,6 +1,6 @@
 //! The files of a task, by what they are to it.
 ghost use Rattle.std.specs.Prelude.{◌≡◌};
-ghost use Rattle.irs_answers.specs.Given.{IsWithin, given_by, given_with, no_files};
+ghost use Rattle.irs_answers.specs.Given.{IsWithinLimits, files_given_by, given_with, no_files};
 
 use crate::forms::Source;
 use std::alloc::Global;
@@ -21,7 +21,7 @@ pub struct TaskFiles {
 impl TaskFiles {
     /// No file.
     pub fn new(alloc: Global) -> TaskFiles
-        ensures { given_by result ≡ no_files }
+        ensures { files_given_by result ≡ no_files }
     {
         TaskFiles {
             document: Source::empty(alloc),
@@ -33,8 +33,8 @@ impl TaskFiles {
 
     /// The document and the flows alone, and the other files alone.
     pub(crate) fn split(self, alloc: Global) -> (TaskFiles, TaskFiles)
-        ensures whole { given_with result.0 result.1 ≡ given_by self }
-        ensures limits { IsWithin (given_by self) → IsWithin (given_by result.1) }
+        ensures whole { given_with result.0 result.1 ≡ files_given_by self }
+        ensures limits { IsWithinLimits (files_given_by self) → IsWithinLimits (files_given_by result.1) }
     {
         let TaskFiles {
             document,

@@ -1,5 +1,5 @@
 //! The two forms of a document's text, and the value that it means.
-ghost use Rattle.irs_answers.specs.Forms.{TextReads, json_text, no_text, source_by, xml_text};
+ghost use Rattle.irs_answers.specs.Forms.{TextReads, json_text, no_source_text, source_by, xml_text};
 ghost use Rattle.irs_answers.specs.Outcomes.{ReadFails, of_json, of_xml};
 ghost use Rattle.irs_json.specs.Reading.{Reads};
 ghost use Rattle.irs_xml.specs.Document.{XmlReads};
@@ -31,7 +31,7 @@ pub struct Source {
 impl Source {
     /// The empty text, as JSON.
     pub(crate) fn empty(alloc: Global) -> Source
-        ensures { source_by result ≡ no_text }
+        ensures { source_by result ≡ no_source_text }
     {
         Source {
             form: Form::Json,

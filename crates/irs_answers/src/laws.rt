@@ -5,7 +5,7 @@ ghost use Rattle.irs_schedule.specs.Parts.{IsWithin, Part};
 ghost use Rattle.irs_emit.specs.Emitted.{emit_text};
 ghost use Rattle.irs_emit_xml.specs.Flows.{flows_text};
 ghost use Rattle.irs_answers.specs.CashFlows.{IsAuditedYes};
-ghost use Rattle.irs_answers.specs.Due.{DueFor, Facts, IsTextOfEach, Passes};
+ghost use Rattle.irs_answers.specs.Due.{DueFor, Facts, IsTextOfEach, PassesEachStep};
 ghost use Rattle.irs_answers.specs.Forms.{json_text, xml_text};
 ghost use Rattle.irs_answers.specs.Given.{Given};
 ghost use Rattle.irs_answers.specs.declared.tasks.Task.TheVariants.{Schedule};
@@ -23,6 +23,6 @@ pub fn emitted_flows_are_audited()
 /// in the relations of dates, fractions and amounts, for what the files say. The function does nothing; its
 /// contract is the law.
 pub fn every_schedule_has_the_printed_text()
-    ensures { (g : Given) (f : Facts) (status : ℕ) (text : List ℕ) → Passes Schedule g f
+    ensures { (g : Given) (f : Facts) (status : ℕ) (text : List ℕ) → PassesEachStep Schedule g f
         → DueFor Schedule g status text → (status ≡ 0) × IsTextOfEach f text }
 {}

@@ -2,8 +2,8 @@
 ghost use Rattle.std.specs.Prelude.{◌≡◌, IfOk, IfSome, take};
 ghost use Rattle.irs_calendar.specs.Sections.{center_names};
 ghost use Rattle.irs_answers.specs.Common.{AreRead};
-ghost use Rattle.irs_answers.specs.Given.{given_by};
-ghost use Rattle.irs_answers.specs.Listed.{IsMaybeListOf, listed, most_listed};
+ghost use Rattle.irs_answers.specs.Given.{files_given_by};
+ghost use Rattle.irs_answers.specs.Listed.{IsMaybeListOf, listed_centers, most_listed};
 
 use crate::common::Common;
 use irs_base::{Memory, Names};
@@ -25,7 +25,7 @@ pub enum Listed {
 /// The centres that the calendar files have. None where there is a file and memory ran out.
 pub(crate) fn listed_centers(alloc: Global, common: &Common) -> Option<Listed>
     requires { AreRead common.now }
-    ensures { IsMaybeListOf (given_by common.now.files).calendars result }
+    ensures { IsMaybeListOf (files_given_by common.now.files).calendars result }
 {
     if common.files.calendars.is_empty() {
         return Some(Listed::NoFile);
@@ -38,7 +38,7 @@ pub(crate) fn listed_centers(alloc: Global, common: &Common) -> Option<Listed>
 
 // The centres of calendars. None where memory ran out.
 fn list_of(alloc: Global, calendars: &Calendars) -> Option<Listed>
-    ensures { IfSome result (λ list. list ≡ listed calendars.now) }
+    ensures { IfSome result (λ list. list ≡ listed_centers calendars.now) }
 {
     let Ok(names) = first_names(alloc, calendars) else {
         return None;

@@ -2,7 +2,7 @@
 //! standard has such a text, so its format is our rule.
 ghost use Rattle.std.specs.Prelude.{◌≡◌, Some, length, IfOk};
 ghost use Rattle.irs_base.specs.Members.{Every};
-ghost use Rattle.irs_net.specs.Nets.{HasPlaces};
+ghost use Rattle.irs_net.specs.Nets.{NetRowHasPlaces};
 ghost use Rattle.irs_answers.specs.Netted.{TellsNet, TellsNetOf, net_page};
 ghost use Rattle.irs_answers.specs.Private.Netted.{IsSided};
 ghost use Rattle.irs_answers.specs.Outcomes.{Ends};
@@ -44,7 +44,7 @@ fn netted_page(alloc: Global, schedule: &Schedule, sides: &Sides) -> Result<Vec<
 
 // The header, the rows and `end`.
 fn rows_page(alloc: Global, rows: &[NetRow]) -> Result<Vec<u8>, Memory>
-    requires { Every HasPlaces rows.now }
+    requires { Every NetRowHasPlaces rows.now }
     ensures { IfOk result (λ t. t.items ≡ net_page rows.now) }
 {
     let mut text = Vec::from_slice(alloc, b"irs-net 1\n")?;

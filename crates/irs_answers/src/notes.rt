@@ -4,13 +4,13 @@ ghost use Rattle.std.specs.Prelude.{◌≡◌, IfOk};
 ghost use Rattle.irs_audit.specs.Verdicts.{unfixed_count};
 ghost use Rattle.irs_unfixed.specs.Counts.{payment_count};
 ghost use Rattle.irs_unfixed.specs.Missing.{IsMadeFrom, made_from};
-ghost use Rattle.irs_unfixed.specs.Missing.{fixing_of as missing_fixing, place_of as missing_place};
+ghost use Rattle.irs_unfixed.specs.Missing.{missing_fixing, missing_place};
 ghost use Rattle.irs_answers.specs.Common.{AreRead};
 ghost use Rattle.irs_answers.specs.Forms.{source_by};
 ghost use Rattle.irs_answers.specs.Found.{facts_by};
-ghost use Rattle.irs_answers.specs.Given.{given_by};
-ghost use Rattle.irs_answers.specs.Notes.{IsAmountsNote, IsFixedNote, IsRefusalNote, IsUnreadNote, fixing_of};
-ghost use Rattle.irs_answers.specs.Notes.{front_note as front_note_of, made_by, place_of};
+ghost use Rattle.irs_answers.specs.Given.{files_given_by};
+ghost use Rattle.irs_answers.specs.Notes.{IsAmountsNote, IsFixedNote, IsRefusalNote, IsUnreadNote, unfixed_fixing};
+ghost use Rattle.irs_answers.specs.Notes.{front_note as front_note_of, made_by, unfixed_place};
 
 use crate::common::Common;
 use crate::due::Found;
@@ -101,8 +101,8 @@ fn amounts_note(alloc: Global, found: &Found<'_>) -> Result<Note, Memory>
 fn counted(alloc: Global, schedule: &Schedule, missing: &Missing<'_>) -> Result<Unfixed, Memory>
     ensures count { IfOk result (λ u. u.count ≡ unfixed_count schedule.now) }
     ensures payments { IfOk result (λ u. u.payments ≡ payment_count schedule.now) }
-    ensures place { IfOk result (λ u. place_of u ≡ missing_place missing.now) }
-    ensures fixing { IfOk result (λ u. fixing_of u ≡ missing_fixing missing.now) }
+    ensures place { IfOk result (λ u. unfixed_place u ≡ missing_place missing.now) }
+    ensures fixing { IfOk result (λ u. unfixed_fixing u ≡ missing_fixing missing.now) }
 {
     let index = missing.index.copy(alloc)?;
     Ok(Unfixed {
@@ -127,7 +127,7 @@ pub(crate) fn refusal_note(
     refusal: &Refusal,
 ) -> Note
     requires { AreRead common.now }
-    ensures { IsRefusalNote (source_by document.now) (given_by common.now.files).calendars refusal.now result }
+    ensures { IsRefusalNote (source_by document.now) (files_given_by common.now.files).calendars refusal.now result }
 {
     match refusal {
         Refusal::Unreadable(unread) => unread_note(document, *unread),

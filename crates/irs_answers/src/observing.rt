@@ -1,7 +1,7 @@
 //! The text of `observations`: the days that each rate of a stream with `calculationParameters` is made of.
 //! No standard has such a text, so its format is our rule.
 ghost use Rattle.std.specs.Prelude.{◌≡◌, ◌-◌, ◌<◌, ◌≤◌, Some, None, length, slice_get, IfOk, IfErr, IfSome, IfNone};
-ghost use Rattle.irs_accrue.specs.DailyAccruals.{HasSpan};
+ghost use Rattle.irs_periods.specs.Outcomes.{HasSpan};
 ghost use Rattle.irs_periods.specs.Spans.{Regular};
 ghost use Rattle.irs_terms.specs.Lawful.{IsLawfulStream};
 ghost use Rattle.irs_terms.specs.Suiting.{FrequencySuits};

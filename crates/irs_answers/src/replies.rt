@@ -6,10 +6,10 @@ ghost use Rattle.irs_answers.specs.Outcomes.{answer_of};
 ghost use Rattle.irs_answers.specs.declared.refusals.Refusal.TheVariants.{Calendars as OfCalendars, Fixings as OfFixings};
 ghost use Rattle.irs_answers.specs.declared.refusals.Refusal.TheVariants.{Flows as OfFlows};
 ghost use Rattle.irs_answers.specs.declared.replies.Reply.TheVariants.{Refused};
-ghost use Rattle.irs_answers.specs.Private.Unread.{IsPlain};
+ghost use Rattle.irs_answers.specs.Private.Unread.{IsOfReadText};
 ghost use Rattle.irs_answers.specs.Replying.{reply_status, reply_text};
 ghost use Rattle.irs_answers.specs.Private.Replying.{IsCarriedOut};
-ghost use Rattle.irs_answers.specs.Replying.{calendars_text, fixings_text, flows_text, refusal_text};
+ghost use Rattle.irs_answers.specs.Replying.{calendars_text, fixings_text, flows_fault_text, refusal_text};
 
 use crate::flow_messages::{bad_flows_line, departure_line, not_read_line, yes_line};
 use crate::messages::{bad_calendar_line, bad_fixings_line, refused_line, unreadable_line};
@@ -41,7 +41,7 @@ impl Reply {
     pub(crate) fn done(alloc: Global, text: &[u8]) -> Result<Reply, Memory>
         ensures done { IfOk result (λ r. (reply_status r ≡ 0) × (reply_text r ≡ text.now)) }
         ensures carried { IfOk result IsCarriedOut }
-        ensures plain { IfOk result (λ r. IsPlain r) }
+        ensures plain { IfOk result (λ r. IsOfReadText r) }
     {
         Ok(Reply::Text(Vec::from_slice(alloc, text)?))
     }
@@ -155,7 +155,7 @@ fn fixings_line(e: FixErr, line: &mut Line)
 
 // The line of faulty cash flows.
 fn flows_line(e: FlowErr, line: &mut Line)
-    ensures { line.new ≡ flows_text e }
+    ensures { line.new ≡ flows_fault_text e }
 {
     match e {
         FlowErr::Shape(kind, place) => bad_flows_line(kind, place, line),

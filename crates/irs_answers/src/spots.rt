@@ -3,7 +3,7 @@
 ghost use Rattle.std.specs.Prelude.{◌≡◌, IfSome};
 ghost use Rattle.irs_answers.specs.Common.{AreRead};
 ghost use Rattle.irs_answers.specs.Forms.{source_by};
-ghost use Rattle.irs_answers.specs.Given.{given_by};
+ghost use Rattle.irs_answers.specs.Given.{files_given_by};
 ghost use Rattle.irs_answers.specs.Spots.{IsCenterIf, IsKindAt, IsKindIf, IsLineIn, IsListIf, IsMemberIf, IsMemberIn};
 ghost use Rattle.irs_answers.specs.Spots.{IsMisfitIf};
 ghost use Rattle.irs_answers.specs.Spots.{IsShapeIf, IsShapeIn, IsSpot, IsTextIf, IsTextIn, is_of_center, is_of_member};
@@ -43,7 +43,7 @@ pub struct Spot {
 /// Where the document breaks a rule. The calendar files were read before.
 pub(crate) fn spot_of(alloc: Global, document: &Source, common: &Common, broken: &Broken) -> Spot
     requires { AreRead common.now }
-    ensures { IsSpot (source_by document.now) (given_by common.now.files).calendars broken.now result }
+    ensures { IsSpot (source_by document.now) (files_given_by common.now.files).calendars broken.now result }
 {
     Spot {
         member: member_in(alloc, document, broken),
@@ -210,7 +210,7 @@ fn center_in(alloc: Global, document: &Source, broken: &Broken) -> Option<Text>
 // The centres that the calendar files have, for a rule that is about the name of a centre.
 fn listed_in(alloc: Global, common: &Common, broken: &Broken) -> Option<Listed>
     requires { AreRead common.now }
-    ensures { IsListIf (is_of_center broken.now.rule) (given_by common.now.files).calendars result }
+    ensures { IsListIf (is_of_center broken.now.rule) (files_given_by common.now.files).calendars result }
 {
     if is_of_center(broken.rule) {
         listed_centers(alloc, common)

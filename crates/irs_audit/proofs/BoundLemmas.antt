@@ -15,12 +15,12 @@ use Rattle.irs_daycount.specs.Fractions.{denominator_of}
 use Rattle.irs_schedule.specs.declared.entries.PaymentEntry.{PaymentEntry}
 use Rattle.irs_schedule.specs.declared.entries.PeriodEntry.{PeriodEntry}
 use Rattle.irs_schedule.specs.declared.views.CalculationPeriod.{CalculationPeriod}
-use Rattle.irs_schedule.specs.Parts.{Part, Covers, KeepsBounds, IsAmount, HasAmount, IsEntry}
+use Rattle.irs_schedule.specs.Parts.{Part, EntriesCover, KeepsBounds, IsAmount, HasAmount, IsEntry}
 use Rattle.irs_schedule.specs.PeriodViews.{period_at, dated_period}
 use Rattle.irs_schedule.proofs.PlaceLemmas.{decimals_few}
 use Rattle.irs_schedule.proofs.WalkLemmas.{covers_within}
-use Rattle.irs_audit.specs.Comparisons.{IsSmall}
-use Rattle.irs_audit.specs.Private.Comparisons.{IsPayment}
+use Rattle.irs_audit.specs.Comparisons.{IsBoundedFraction}
+use Rattle.irs_audit.specs.Private.Comparisons.{IsComparedPayment}
 use Rattle.irs_daycount.specs.Actual.{act_act_denominator}
 use Rattle.irs_base.proofs.MemberLemmas.{every_get}
 use Rattle.irs_base.specs.Members.{Every}
@@ -34,14 +34,14 @@ pub exchange_decimals : (p : Part) (j : ℕ) (x : Exchange) → KeepsBounds p �
 exchange_decimals p j x h e =
     few p.currency x.amount (every_get (λ (y : Exchange). IsAmount p.currency y.amount) p.exchanges j x h.exchanged e)
 
-ordered : (a n : ℕ) (ys : List PaymentEntry) → Covers a ys n
+ordered : (a n : ℕ) (ys : List PaymentEntry) → EntriesCover a ys n
     → Every (λ (y : PaymentEntry). (y.first_period ≤ y.last_period) × (y.last_period ≤ n)) ys
 ordered a n [] h = tt
 ordered a n (y ∷ ys) h = let l = covers_within (y.last_period + 1) n ys h.2 in
     ((h.1, omega (arith, l)), ordered (y.last_period + 1) n ys h.2)
 
 -- a payment of a schedule has its periods in order and within the limit
-pub payment_kept : (p : Part) (j : ℕ) (y : PaymentEntry) → KeepsBounds p → slice_get p.payments j ≡ Some y → IsPayment y
+pub payment_kept : (p : Part) (j : ℕ) (y : PaymentEntry) → KeepsBounds p → slice_get p.payments j ≡ Some y → IsComparedPayment y
 payment_kept p j y h e =
     let order = every_get (λ (y : PaymentEntry). (y.first_period ≤ y.last_period)
     × (y.last_period ≤ length p.periods)) p.payments j y (ordered 1 (length p.periods) p.payments h.covers) e in
@@ -54,7 +54,7 @@ payment_kept p j y h e =
     }
 
 -- payments that cover the periods are at most as many as these
-covering_few : (a n : ℕ) (ys : List PaymentEntry) → Covers a ys n → length ys + a ≤ n + 1
+covering_few : (a n : ℕ) (ys : List PaymentEntry) → EntriesCover a ys n → length ys + a ≤ n + 1
 covering_few a n [] h = omega (arith, h)
 covering_few a n (y ∷ ys) h = omega (arith, h.0, h.1, covering_few (y.last_period + 1) n ys h.2)
 
@@ -72,18 +72,18 @@ small_denominator Thirty360 = (omega (arith, signed_arith), omega (arith, signed
 small_denominator ThirtyE360 = (omega (arith, signed_arith), omega (arith, signed_arith))
 small_denominator ThirtyE360Isda = (omega (arith, signed_arith), omega (arith, signed_arith))
 
-small_entry : (daily : Bool) (code : DayCountCode) (e : PeriodEntry) → IsEntry daily code e → IsSmall e.frac
+small_entry : (daily : Bool) (code : DayCountCode) (e : PeriodEntry) → IsEntry daily code e → IsBoundedFraction e.frac
 small_entry daily code e h =
     let D : ℤ → Type 0 = λ d. (pos 0 <ℤ d) × (d ≤ℤ pos act_act_denominator) in
     record { numerator = h.numerator; denominator = subst D (sym h.denominator) (small_denominator code) }
 
 -- the day count fraction of a period is within the bounds
-pub period_small : (p : Part) (j : ℕ) (x : CalculationPeriod) → KeepsBounds p → period_at p j ≡ Some x → IsSmall x.frac
+pub period_small : (p : Part) (j : ℕ) (x : CalculationPeriod) → KeepsBounds p → period_at p j ≡ Some x → IsBoundedFraction x.frac
 period_small p j x h e = elim (slice_get_cases p.periods j).1 [
   | inl w ↦
       let there = w.2 in
       let same : Some (dated_period p (j + 1) w.0) ≡ Some x = rw there at e in
-      let P : Frac → Type 0 = λ f. IsSmall f in
+      let P : Frac → Type 0 = λ f. IsBoundedFraction f in
       subst P (ap (λ (o : Option CalculationPeriod). (unwrap_or o x).frac) same)
       (small_entry p.daily p.day_count w.0 (every_get (IsEntry p.daily p.day_count) p.periods j w.0 h.entries there))
   | inr w ↦ absurd (let none = w.1 in let bad = rw none at e in cc)

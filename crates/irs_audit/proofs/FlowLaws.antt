@@ -1,8 +1,8 @@
 -- The code's tables of cash flows are those of the specification.
 use Rattle.irs_audit.specs.FlowLines.{flow_elements, flow_names, flow_rows, flow_table, period_elements, period_names}
-use Rattle.irs_audit.specs.FlowLines.{period_rows, period_table}
+use Rattle.irs_audit.specs.FlowLines.{period_table_rows, period_table}
 use Rattle.irs_audit.specs.declared.flow_table.TheConstants.{FLOW_NAMES, FLOW_ROWS, PERIOD_NAMES, PERIOD_ROWS}
-use Rattle.irs_base.specs.PathList.{paths, printed}
+use Rattle.irs_base.specs.PathList.{paths, printed_paths}
 use Rattle.irs_base.specs.declared.places.Broken.{Broken}
 use Rattle.irs_elements.specs.Elements.{FaultAt}
 use Rattle.irs_elements.specs.Lines.{Line}
@@ -22,7 +22,7 @@ period_code_names = map (λ n. n.now) PERIOD_NAMES
 
 -- the rows of cash flows in the code are those of the definition
 pub flow_rows_are : FLOW_ROWS ≡ flow_rows
-unfolding flow_rows flow_table printed paths
+unfolding flow_rows flow_table printed_paths paths
 flow_rows_are = refl
 
 -- the names of cash flows in the code are those of the definition
@@ -31,8 +31,8 @@ unfolding flow_names flow_table
 flow_names_are = refl
 
 -- the rows of calculation periods in the code are those of the definition
-pub period_rows_are : PERIOD_ROWS ≡ period_rows
-unfolding period_rows period_table printed paths
+pub period_rows_are : PERIOD_ROWS ≡ period_table_rows
+unfolding period_table_rows period_table printed_paths paths
 period_rows_are = refl
 
 -- the names of calculation periods in the code are those of the definition
@@ -42,12 +42,12 @@ period_names_are = refl
 
 -- the lines of cash flows are the elements of the table of paths
 pub flow_lines_are : map (λ (l : Line). l.path) flow_table.lines ≡ flow_elements
-unfolding flow_table flow_elements printed paths
+unfolding flow_table flow_elements printed_paths paths
 flow_lines_are = refl
 
 -- the lines of calculation periods are the elements of the table of paths
 pub period_lines_are : map (λ (l : Line). l.path) period_table.lines ≡ period_elements
-unfolding period_table period_elements printed paths
+unfolding period_table period_elements printed_paths paths
 period_lines_are = refl
 
 -- the first fault by the code's table of cash flows is that by the definition's
@@ -61,7 +61,7 @@ flow_first s r k i d a p =
 -- the first fault by the code's table of calculation periods is that by the definition's
 pub period_first : (s r : ℕ) (k : Kind) (i : ℕ) (d : Data) (a : Option Broken)
     → IsFirstBroken (FaultAt PERIOD_ROWS period_code_names s r k i d) a
-    → IsFirstBroken (FaultAt period_rows period_names s r k i d) a
+    → IsFirstBroken (FaultAt period_table_rows period_names s r k i d) a
 period_first s r k i d a p =
-    by_tables (λ rows names. IsFirstBroken (FaultAt rows names s r k i d) a) PERIOD_ROWS period_rows period_code_names
+    by_tables (λ rows names. IsFirstBroken (FaultAt rows names s r k i d) a) PERIOD_ROWS period_table_rows period_code_names
     period_names period_rows_are period_names_are p

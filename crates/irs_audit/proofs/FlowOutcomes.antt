@@ -1,7 +1,7 @@
 -- Reading cash flows has one outcome: a document states one list of flows, or one fault is its first.
 use Rattle.std.proofs.Common.{◌≡◌, List, Option, Some, None, Ok, Err, refl, sym, ap, ◌∙◌}
 use Rattle.irs_audit.specs.FlowFaults.{FlowFault, ended}
-use Rattle.irs_audit.specs.FlowMeaning.{streams_in}
+use Rattle.irs_audit.specs.FlowMeaning.{flow_parts_in}
 use Rattle.irs_audit.specs.FlowOutcomes.{flows_of_document}
 use Rattle.irs_audit.specs.FlowParts.{FlowPart}
 use Rattle.irs_audit.specs.FlowReading.{FlowsOf}
@@ -20,14 +20,14 @@ end_or d (Err f) = d
 
 -- a document states one list of flows at most
 one_stated : (d : Data) (g h : List FlowPart) → FlowsOf d g → FlowsOf d h → g ≡ h
-one_stated d g h p q = p.says ∙ ap streams_in (ap (end_or d) (sym p.found ∙ q.found)) ∙ sym q.says
+one_stated d g h p q = p.says ∙ ap flow_parts_in (ap (end_or d) (sym p.found ∙ q.found)) ∙ sym q.says
 
 clean_determined : (d : Data) (w : Way) → the_swap d ≡ w → ((f : Broken) → FlowFault d f → ⊥)
     → Determined (flows_of_document d)
 clean_determined d (Ok at) found clean =
-    let stated : FlowsOf d (streams_in at) = record { clean = clean; swap = at; found = found; says = refl } in
-    answered (streams_in at)
-    (record { is = stated; only = λ g h. one_stated d g (streams_in at) h stated })
+    let stated : FlowsOf d (flow_parts_in at) = record { clean = clean; swap = at; found = found; says = refl } in
+    answered (flow_parts_in at)
+    (record { is = stated; only = λ g h. one_stated d g (flow_parts_in at) h stated })
     (λ f first. clean f first.0)
 clean_determined d (Err f) found clean = absurd (clean f (ended f found))
 

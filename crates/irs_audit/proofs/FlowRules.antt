@@ -1,9 +1,11 @@
 -- Every fault of cash flows is a rule of the tables of elements.
 use Rattle.irs_audit.specs.FlowFaults.{CashflowsFault, FlowFault, OnceFault, OwnFault, PeriodFault, PeriodsFault}
-use Rattle.irs_audit.specs.FlowFaults.{StreamFault, StreamsFault, SwapFault, at, below, ended, in_period, in_stream}
-use Rattle.irs_audit.specs.FlowFaults.{many_periods, many_streams, no_stream, payments_in, periods_of}
-use Rattle.irs_audit.specs.FlowLines.{flow_names, flow_rows, period_names, period_rows}
-use Rattle.irs_audit.specs.FlowReading.{kind_of}
+use Rattle.irs_audit.specs.FlowFaults.{FlowStreamFault, FlowStreamsFault, FlowSwapFault, flow_broken_at, below, ended}
+use Rattle.irs_audit.specs.FlowFaults.{in_period}
+use Rattle.irs_audit.specs.FlowFaults.{in_stream}
+use Rattle.irs_audit.specs.FlowFaults.{many_periods, many_streams, no_stream, payments_in, flow_periods_of}
+use Rattle.irs_audit.specs.FlowLines.{flow_names, flow_rows, period_names, period_table_rows}
+use Rattle.irs_audit.specs.FlowReading.{shape_kind_of}
 use Rattle.irs_audit.specs.declared.flow_table.TheConstants.{FLOWS, PERIOD}
 use Rattle.irs_audit.specs.declared.error.ShapeKind.TheVariants.{Count, NotJson}
 use Rattle.irs_base.specs.Elements.{cashflows, document, flow_period, swap, swap_stream}
@@ -13,7 +15,7 @@ use Rattle.irs_base.specs.declared.places.Rule.TheVariants.{K2, K3, K4, K5, K6, 
 use Rattle.irs_elements.proofs.TableRules.{of_table}
 use Rattle.irs_elements.specs.Private.Elements.{IsOfTables}
 use Rattle.irs_elements.specs.Find.{values_in}
-use Rattle.irs_json.specs.Names.{names_of}
+use Rattle.irs_json.specs.Names.{element_names}
 use Rattle.irs_read.specs.Documents.{Way, by_root, document_below, has, one_object, one_swap, onward, swap_below}
 use Rattle.irs_read.specs.Documents.{the_swap, trade_below}
 use Rattle.irs_read.specs.Swaps.{outside}
@@ -31,7 +33,7 @@ seven : IsOfTables K7
 seven = tt
 
 -- a rule of the tables has a kind that is reported
-pub told : (k : Rule) → IsOfTables k → kind_of k ≢ NotJson
+pub told : (k : Rule) → IsOfTables k → shape_kind_of k ≢ NotJson
 told K2 h e = cc
 told K3 h e = cc
 told K4 h e = cc
@@ -41,7 +43,7 @@ told K7 h e = cc
 told k h e = absurd h
 
 -- a rule of the tables that is none of K2 to K6 is reported as a wrong count
-pub last_kind : (k : Rule) → IsOfTables k → k ≢ K2 → k ≢ K3 → k ≢ K4 → k ≢ K5 → k ≢ K6 → kind_of k ≡ Count
+pub last_kind : (k : Rule) → IsOfTables k → k ≢ K2 → k ≢ K3 → k ≢ K4 → k ≢ K5 → k ≢ K6 → shape_kind_of k ≡ Count
 last_kind K2 h second third fourth fifth sixth = absurd (second refl)
 last_kind K3 h second third fourth fifth sixth = absurd (third refl)
 last_kind K4 h second third fourth fifth sixth = absurd (fourth refl)
@@ -63,7 +65,7 @@ good_kind d false = three
 
 good_object : (ds : List Data) → Good (one_object ds)
 good_object [] = two
-good_object (x ∷ []) = good_kind x (is_some (names_of x))
+good_object (x ∷ []) = good_kind x (is_some (element_names x))
 good_object (x ∷ y ∷ rest) = seven
 
 good_swap : (ds : List Data) → Good (one_swap ds)
@@ -104,7 +106,7 @@ good_if w false h = three
 good_way : (d : Data) → Good (the_swap d)
 good_way d =
     good_if (by_root (has (codes "swap") d) (has (codes "trade") d) (has (codes "dataDocument") d) d)
-    (is_some (names_of d)) (good_root (has (codes "swap") d) (has (codes "trade") d) (has (codes "dataDocument") d) d)
+    (is_some (element_names d)) (good_root (has (codes "swap") d) (has (codes "trade") d) (has (codes "dataDocument") d) d)
 
 of_way : (w : Way) (f : Broken) → w ≡ Err f → Good w → IsOfTables f.rule
 of_way w f e h = subst (λ (x : Way). Good x) e h
@@ -115,11 +117,11 @@ of_one : (x f : Broken) → IsOfTables x.rule → f ≡ x → IsOfTables f.rule
 of_one x f h is = subst (λ (y : Broken). IsOfTables y.rule) (sym is) h
 
 of_own_fault : (stream elem : ℕ) (d : Data) (f : Broken) → OwnFault stream elem d f → IsOfTables f.rule
-of_own_fault stream elem d f (t, is) = of_one (at stream K3 elem) f three is
+of_own_fault stream elem d f (t, is) = of_one (flow_broken_at stream K3 elem) f three is
 
 of_period : (stream number : ℕ) (d : Data) (f : Broken) → PeriodFault stream number d f → IsOfTables f.rule
-of_period stream number d f (inl q) = of_table period_rows period_names stream 0 number PERIOD d f q
-of_period stream number d f (inr (t, is)) = of_one (at stream K7 flow_period) f seven is
+of_period stream number d f (inl q) = of_table period_table_rows period_names stream 0 number PERIOD d f q
+of_period stream number d f (inr (t, is)) = of_one (flow_broken_at stream K7 flow_period) f seven is
 
 of_periods : (stream : ℕ) (ds : List Data) (f : Broken) → PeriodsFault stream ds f → IsOfTables f.rule
 of_periods stream ds f (many_periods h) = seven
@@ -127,23 +129,23 @@ of_periods stream ds f (in_period _ h (j, (x, (e, q)))) = of_period stream (0 + 
 
 of_cashflows : (stream : ℕ) (d : Data) (f : Broken) → CashflowsFault stream d f → IsOfTables f.rule
 of_cashflows stream d f (inl q) = of_table flow_rows flow_names stream 0 0 FLOWS d f q
-of_cashflows stream d f (inr q) = of_periods stream (periods_of (payments_in (Some d))) f q
+of_cashflows stream d f (inr q) = of_periods stream (flow_periods_of (payments_in (Some d))) f q
 
 of_once : (stream : ℕ) (ds : List Data) (f : Broken) → OnceFault stream ds f → IsOfTables f.rule
-of_once stream [] f is = of_one (at stream K2 cashflows) f two is
+of_once stream [] f is = of_one (flow_broken_at stream K2 cashflows) f two is
 of_once stream (x ∷ []) f q = of_cashflows stream x f q
-of_once stream (x ∷ y ∷ rest) f is = of_one (at stream K7 cashflows) f seven is
+of_once stream (x ∷ y ∷ rest) f is = of_one (flow_broken_at stream K7 cashflows) f seven is
 
-of_stream : (number : ℕ) (d : Data) (f : Broken) → StreamFault number d f → IsOfTables f.rule
+of_stream : (number : ℕ) (d : Data) (f : Broken) → FlowStreamFault number d f → IsOfTables f.rule
 of_stream number d f (inl q) = of_own_fault number swap_stream d f q
 of_stream number d f (inr (t, q)) = of_once number (values_in (codes "cashflows") (Some d)) f q
 
-of_streams : (ds : List Data) (f : Broken) → StreamsFault ds f → IsOfTables f.rule
+of_streams : (ds : List Data) (f : Broken) → FlowStreamsFault ds f → IsOfTables f.rule
 of_streams ds f (no_stream h) = two
 of_streams ds f (many_streams h) = seven
 of_streams ds f (in_stream _ lo hi (j, (x, (e, q)))) = of_stream (j + 1) x f q
 
-of_swap : (d : Data) (f : Broken) → SwapFault d f → IsOfTables f.rule
+of_swap : (d : Data) (f : Broken) → FlowSwapFault d f → IsOfTables f.rule
 of_swap d f (inl q) = of_own_fault 0 swap d f q
 of_swap d f (inr (t, q)) = of_streams (values_in (codes "swapStream") (Some d)) f q
 

@@ -42,7 +42,8 @@ use Rattle.irs_audit.specs.FlowParts.{FlowPart}
 use Rattle.irs_audit.specs.StatedFlows.{stated_number, stated_amount, stated_fraction, stated_exchange, stated_payment}
 use Rattle.irs_audit.specs.StatedFlows.{stated_reset, period_with, stated_period, stated_periods_from, stated_part}
 use Rattle.irs_audit.specs.StatedFlows.{stated_flows}
-use Rattle.irs_audit.specs.StatedValues.{IsNumber, IsAmount, IsFraction, StatedWrongly, NotStatedRightly, WhereKnown}
+use Rattle.irs_audit.specs.StatedValues.{StatesNumber, StatesAmount, StatesFraction, StatedWrongly, NotStatedRightly}
+use Rattle.irs_audit.specs.StatedValues.{WhereKnown}
 use Rattle.irs_base.proofs.MemberLemmas.{every_get}
 use Rattle.irs_audit.proofs.BoundLemmas.{exchange_decimals, payment_kept, period_small}
 use Rattle.irs_audit.proofs.RowLemmas.{resets_few}
@@ -50,10 +51,10 @@ use Rattle.irs_audit.proofs.ValueLemmas.{scaled_up}
 
 -- the values
 
-number_is : (u : ℤ) (p : ℕ) → p ≤ 12 → IsNumber u p (stated_number u p)
+number_is : (u : ℤ) (p : ℕ) → p ≤ 12 → StatesNumber u p (stated_number u p)
 number_is u p h = scaled_up u (stated_number u p) p h refl
 
-fraction_is : (f : Frac) → pos 0 <ℤ f.den → IsFraction f (stated_fraction f)
+fraction_is : (f : Frac) → pos 0 <ℤ f.den → StatesFraction f (stated_fraction f)
 fraction_is f h =
     record {
       decimals = omega arith;
@@ -63,12 +64,12 @@ fraction_is f h =
     }
 
 amount_agrees : (o : Option Dec) → IfSome o (λ v. v.places ≤ 12)
-    → WhereKnown (λ v. NotStatedRightly (IsAmount v) (option_map stated_amount o)) o → ⊥
+    → WhereKnown (λ v. NotStatedRightly (StatesAmount v) (option_map stated_amount o)) o → ⊥
 amount_agrees None h d = d
 amount_agrees (Some v) h d = d (number_is v.units v.places h)
 
 rate_agrees : (o : Option ℤ)
-    → WhereKnown (λ r. StatedWrongly (IsNumber r 9) (option_map (λ q. stated_number q 9) o)) o → ⊥
+    → WhereKnown (λ r. StatedWrongly (StatesNumber r 9) (option_map (λ q. stated_number q 9) o)) o → ⊥
 rate_agrees None d = d
 rate_agrees (Some r) d = d (number_is r 9 (omega arith))
 

@@ -17,7 +17,7 @@ use Rattle.irs_base.specs.declared.rounding.Direction.TheVariants.{Nearest}
 use Rattle.irs_base.proofs.RoundingLaws.{nearest_once}
 use Rattle.irs_terms.specs.declared.results.Frac.{Frac}
 use Rattle.irs_audit.specs.declared.flows.StatedFraction.{StatedFraction}
-use Rattle.irs_audit.specs.StatedValues.{IsNumber, IsFraction}
+use Rattle.irs_audit.specs.StatedValues.{StatesNumber, StatesFraction}
 use Rattle.irs_base.specs.Limits.{most_numerator}
 use Rattle.irs_audit.specs.Private.Comparisons.{most_scaled}
 
@@ -76,19 +76,19 @@ pub both_powers : (p : ℕ) → p ≤ 12 → 10 ^ (12 - p) * 10 ^ p ≡ 10 ^ 12
 both_powers p h = sym (pow-add 10 (12 - p) p) ∙ ap (λ (n : ℕ). 10 ^ n) (sub-add_cancel h)
 
 -- a number converted to units of 10^-12 is the same number
-pub scaled_up : (u s : ℤ) (p : ℕ) → p ≤ 12 → (u *ℤ pos (10 ^ (12 - p))) ≡ s → IsNumber u p s
+pub scaled_up : (u s : ℤ) (p : ℕ) → p ≤ 12 → (u *ℤ pos (10 ^ (12 - p))) ≡ s → StatesNumber u p s
 scaled_up u s p h e =
     ap (λ (z : ℤ). z *ℤ pos (10 ^ p)) (sym e) ∙ twice u (10 ^ (12 - p)) (10 ^ p)
     ∙ ap (λ (n : ℕ). u *ℤ pos n) (both_powers p h)
 
-scaled_down : (u s : ℤ) (p : ℕ) → p ≤ 12 → IsNumber u p s → (u *ℤ pos (10 ^ (12 - p))) ≡ s
+scaled_down : (u s : ℤ) (p : ℕ) → p ≤ 12 → StatesNumber u p s → (u *ℤ pos (10 ^ (12 - p))) ≡ s
 scaled_down u s p h e =
     cancel_signed (u *ℤ pos (10 ^ (12 - p))) s (10 ^ p) (some_power p)
     (twice u (10 ^ (12 - p)) (10 ^ p) ∙ ap (λ (n : ℕ). u *ℤ pos n) (both_powers p h) ∙ sym e)
 
 -- a stated number is the schedule's where both are equal in units of 10^-12
 pub number_decided : (u s : ℤ) (p : ℕ) (r : Bool) → p ≤ 12 → (IsTrue r ↔ ((u *ℤ pos (10 ^ (12 - p))) ≡ s))
-    → (IsTrue r ↔ IsNumber u p s)
+    → (IsTrue r ↔ StatesNumber u p s)
 number_decided u s p r h d = (λ t. scaled_up u s p h (d.0 t), λ e. d.1 (scaled_down u s p h e))
 
 -- p is m times q where the quotient is m and the remainder is 0
@@ -143,7 +143,7 @@ scaled_fits num n h range = let within = scaled_within num n h range in
 
 -- with fewer than four decimals, comparing exactly decides whether the fraction agrees
 pub exact_fraction : (f : Frac) (s : StatedFraction) (r : Bool) → s.places < 4
-    → (IsTrue r ↔ ((s.units *ℤ f.den) ≡ (f.num *ℤ pos (10 ^ s.places)))) → (IsTrue r ↔ IsFraction f s)
+    → (IsTrue r ↔ ((s.units *ℤ f.den) ≡ (f.num *ℤ pos (10 ^ s.places)))) → (IsTrue r ↔ StatesFraction f s)
 exact_fraction f s r h d = (
   λ t. record { decimals = omega (arith, h); exact = λ _. d.0 t; nearest = λ k. absurd (omega (arith, h, k)) },
   λ q. d.1 (q.exact h),
@@ -151,7 +151,7 @@ exact_fraction f s r h d = (
 
 -- with four to twelve decimals, comparing the rounded fraction decides whether it agrees
 pub near_fraction : (f : Frac) (s : StatedFraction) (q : ℤ) (r : Bool) → 4 ≤ s.places → s.places ≤ 12 → pos 0 <ℤ f.den
-    → Rounded Nearest (f.num *ℤ pos (10 ^ s.places)) f.den q → (IsTrue r ↔ (q ≡ s.units)) → (IsTrue r ↔ IsFraction f s)
+    → Rounded Nearest (f.num *ℤ pos (10 ^ s.places)) f.den q → (IsTrue r ↔ (q ≡ s.units)) → (IsTrue r ↔ StatesFraction f s)
 near_fraction f s q r low high den is d = (
   λ t. let R : ℤ → Type 0 = λ m. Rounded Nearest (f.num *ℤ pos (10 ^ s.places)) f.den m in
       record { decimals = high; exact = λ k. absurd (omega (arith, low, k)); nearest = λ _. subst R (d.0 t) is },
@@ -159,5 +159,5 @@ near_fraction f s q r low high den is d = (
 )
 
 -- a fraction with more than twelve decimals agrees with none
-pub not_a_fraction : (f : Frac) (s : StatedFraction) → 12 < s.places → IsFraction f s → ⊥
+pub not_a_fraction : (f : Frac) (s : StatedFraction) → 12 < s.places → StatesFraction f s → ⊥
 not_a_fraction f s h k = let l = k.decimals in omega (arith, h, l)

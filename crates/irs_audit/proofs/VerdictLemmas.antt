@@ -10,7 +10,7 @@ use Rattle.irs_audit.specs.declared.departures.Verdict.{Verdict}
 use Rattle.irs_audit.specs.declared.departures.Verdict.TheVariants.{Yes, No}
 use Rattle.irs_audit.specs.Agreement.{Departs}
 use Rattle.irs_audit.specs.FlowParts.{FlowPart}
-use Rattle.irs_audit.specs.Verdicts.{IsVerdict, IsNo, stream_rows, stream_unfixed, row_count, unfixed_count}
+use Rattle.irs_audit.specs.Verdicts.{IsVerdict, IsNo, stream_row_count, stream_unfixed, row_count, unfixed_count}
 use Rattle.irs_audit.proofs.BoundLemmas.{payments_few}
 use Rattle.irs_audit.proofs.OrderLemmas.{departure_ties}
 use Rattle.irs_audit.specs.DepartureOrder.{departs_before}
@@ -38,7 +38,7 @@ few_if true m n e = omega (arith, e)
 few_if false m n e = omega (arith, e)
 
 -- a stream has no more rows than the limit
-pub rows_few : (p : Part) → KeepsBounds p → stream_rows p ≤ most_stream_rows
+pub rows_few : (p : Part) → KeepsBounds p → stream_row_count p ≤ most_stream_rows
 rows_few p h =
     let payments = payments_few p h in
     let resets = few_if p.floating (length p.resets) (length p.periods) h.resets in
@@ -70,7 +70,7 @@ sum_few f c a (p ∷ ps) each h = let rest = sum_few f c (a + f p) ps each h.1 i
 
 -- the rows of a schedule fit 32 bits
 pub row_count_fits : (s : List Part) → IsWithin s → row_count s < 2 ^ 32
-row_count_fits s h = let few = sum_few stream_rows most_stream_rows 0 s rows_few h.each in omega (arith, few, h.few)
+row_count_fits s h = let few = sum_few stream_row_count most_stream_rows 0 s rows_few h.each in omega (arith, few, h.few)
 
 -- the payments without amount fit 32 bits
 pub unfixed_count_fits : (s : List Part) → IsWithin s → unfixed_count s < 2 ^ 32

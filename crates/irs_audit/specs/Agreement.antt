@@ -20,8 +20,8 @@ RowDeparts Fields None (Some y) field = field ≡ Extra
 RowDeparts Fields None None field = ⊥
 
 -- the reset that the flows state for the calculation period at place j
-abbrev pub stated_reset : FlowPart → ℕ → Option FlowReset
-stated_reset g j = option_and_then (λ y. y.reset) (slice_get g.periods j)
+abbrev pub stated_reset_at : FlowPart → ℕ → Option FlowReset
+stated_reset_at g j = option_and_then (λ y. y.reset) (slice_get g.periods j)
 
 -- what departs between the rows of a kind at place j, from 0, in a stream that both have
 abbrev pub KindDeparts : RowKind → Part → FlowPart → ℕ → Field → Type 0
@@ -30,7 +30,7 @@ KindDeparts Exchange p g j field = RowDeparts ExchangeDeparts (slice_get p.excha
 KindDeparts Payment p g j field =
     RowDeparts (PaymentDeparts p.currency) (slice_get p.payments j) (slice_get g.payments j) field
 KindDeparts Period p g j field = RowDeparts PeriodDeparts (period_at p j) (slice_get g.periods j) field
-KindDeparts Reset p g j field = RowDeparts ResetDeparts (slice_get p.resets j) (stated_reset g j) field
+KindDeparts Reset p g j field = RowDeparts ResetDeparts (slice_get p.resets j) (stated_reset_at g j) field
 
 -- A stream of the schedule and one of the flows, each where there is one. Where only one of them is there, nothing else
 -- departs. Rows count from 1.

@@ -1,5 +1,5 @@
 -- The faults of a document of cash flows.
-use Rattle.irs_audit.specs.FlowLines.{flow_names, flow_rows, period_names, period_rows}
+use Rattle.irs_audit.specs.FlowLines.{flow_names, flow_rows, period_names, period_table_rows}
 use Rattle.irs_base.specs.Elements.{cashflows, flow_period, swap, swap_stream}
 use Rattle.irs_base.specs.declared.places.Broken.{Broken}
 use Rattle.irs_base.specs.declared.places.Rule.{Rule}
@@ -9,7 +9,7 @@ use Rattle.irs_elements.specs.Find.{values_in}
 use Rattle.irs_elements.specs.declared.table.Choice.TheVariants.{Free}
 use Rattle.irs_elements.specs.declared.table.Kind.TheVariants.{Object}
 use Rattle.irs_json.specs.Carrier.{child_of}
-use Rattle.irs_json.specs.Names.{names_of}
+use Rattle.irs_json.specs.Names.{element_names}
 use Rattle.irs_read.specs.Documents.{the_swap}
 use Rattle.irs_read.specs.Swaps.{Among}
 use Rattle.irs_base.specs.Limits.{most_rows, most_streams}
@@ -19,8 +19,8 @@ use Rattle.std.specs.Prelude.{◌≡◌, ◌⊎◌, ℕ, ◌+◌, ◌<◌, ◌�
 use Rattle.std.specs.Prelude.{Some, None, is_some, option_and_then, codes, Ok, Err, if◌then◌else◌}
 
 -- a rule that is broken in a stream, or outside the streams, at an element without index
-abbrev pub at : ℕ → Rule → ℕ → Broken
-at stream rule elem = record { rule = rule; place = record { stream = stream; elem = elem; index = 0 } }
+abbrev pub flow_broken_at : ℕ → Rule → ℕ → Broken
+flow_broken_at stream rule elem = record { rule = rule; place = record { stream = stream; elem = elem; index = 0 } }
 
 -- the fault x, where the test is true
 abbrev pub FaultIf : Bool → Broken → Broken → Type 0
@@ -30,11 +30,11 @@ FaultIf b x f = (b ≡ true) × (f ≡ x)
 
 -- d is an object, and its `@id` and `@href`, where they occur, are texts
 abbrev pub is_sound : Data → Bool
-is_sound d = is_some (names_of d) && not (has_odd d)
+is_sound d = is_some (element_names d) && not (has_odd d)
 
 -- a value that is not such an object breaks K3
 abbrev pub OwnFault : ℕ → ℕ → Data → Broken → Type 0
-OwnFault stream elem d = FaultIf (not (is_sound d)) (at stream K3 elem)
+OwnFault stream elem d = FaultIf (not (is_sound d)) (flow_broken_at stream K3 elem)
 
 -- ---- calculation periods
 
@@ -57,16 +57,16 @@ has_both_rates d = is_some (child_of (codes "fixedRate") d) && has_calculated_ra
 -- the faults of the calculation period with this number: those of its table, and that it has both rates
 abbrev pub PeriodFault : ℕ → ℕ → Data → Broken → Type 0
 PeriodFault stream number d f =
-    FaultAt period_rows period_names stream 0 (Object Free) number d f
-    ⊎ FaultIf (has_both_rates d) (at stream K7 flow_period) f
+    FaultAt period_table_rows period_names stream 0 (Object Free) number d f
+    ⊎ FaultIf (has_both_rates d) (flow_broken_at stream K7 flow_period) f
 
 -- the calculation periods of a payment
 abbrev pub periods_in : Data → List Data
 periods_in d = values_in (codes "calculationPeriod") (Some d)
 
 -- the calculation periods of payments, in order
-abbrev pub periods_of : List Data → List Data
-periods_of payments = flat_map periods_in payments
+abbrev pub flow_periods_of : List Data → List Data
+flow_periods_of payments = flat_map periods_in payments
 
 -- the faults of calculation periods that come after the first `before` of the stream
 abbrev pub PeriodsFrom : ℕ → ℕ → List Data → Broken → Type 0
@@ -75,7 +75,7 @@ PeriodsFrom stream before = Among (λ j. PeriodFault stream (before + j + 1))
 -- the faults of all calculation periods of a stream
 pub data PeriodsFault (stream : ℕ) (ds : List Data) : Broken → Type 0 where
   -- there are too many of them
-  many_periods : most_rows < length ds → PeriodsFault stream ds (at stream K7 flow_period)
+  many_periods : most_rows < length ds → PeriodsFault stream ds (flow_broken_at stream K7 flow_period)
   -- there are not, and one of them has the fault
   in_period : (f : Broken) → length ds ≤ most_rows → PeriodsFrom stream 0 ds f → PeriodsFault stream ds f
 
@@ -93,39 +93,39 @@ payments_in o = few (values_in (codes "paymentCalculationPeriod") o)
 abbrev pub CashflowsFault : ℕ → Data → Broken → Type 0
 CashflowsFault stream d f =
     FaultAt flow_rows flow_names stream 0 (Object Free) 0 d f
-    ⊎ PeriodsFault stream (periods_of (payments_in (Some d))) f
+    ⊎ PeriodsFault stream (flow_periods_of (payments_in (Some d))) f
 
 -- the faults of the values of `cashflows`, which occurs once
 abbrev pub OnceFault : ℕ → List Data → Broken → Type 0
-OnceFault stream [] f = f ≡ at stream K2 cashflows
+OnceFault stream [] f = f ≡ flow_broken_at stream K2 cashflows
 OnceFault stream (x ∷ []) f = CashflowsFault stream x f
-OnceFault stream (x ∷ y ∷ rest) f = f ≡ at stream K7 cashflows
+OnceFault stream (x ∷ y ∷ rest) f = f ≡ flow_broken_at stream K7 cashflows
 
 -- the faults of the stream with this number: its own, and where it is an object those of its cash flows
-abbrev pub StreamFault : ℕ → Data → Broken → Type 0
-StreamFault number d f = OwnFault number swap_stream d f
-    ⊎ ((is_some (names_of d) ≡ true) × OnceFault number (values_in (codes "cashflows") (Some d)) f)
+abbrev pub FlowStreamFault : ℕ → Data → Broken → Type 0
+FlowStreamFault number d f = OwnFault number swap_stream d f
+    ⊎ ((is_some (element_names d) ≡ true) × OnceFault number (values_in (codes "cashflows") (Some d)) f)
 
 -- ---- the document
 
 -- the faults of streams
-pub data StreamsFault (ds : List Data) : Broken → Type 0 where
+pub data FlowStreamsFault (ds : List Data) : Broken → Type 0 where
   -- there is none
-  no_stream : length ds ≡ 0 → StreamsFault ds (at 0 K2 swap_stream)
+  no_stream : length ds ≡ 0 → FlowStreamsFault ds (flow_broken_at 0 K2 swap_stream)
   -- there are more than eight
-  many_streams : most_streams < length ds → StreamsFault ds (at 0 K7 swap_stream)
+  many_streams : most_streams < length ds → FlowStreamsFault ds (flow_broken_at 0 K7 swap_stream)
   -- there are one to eight, and one of them has the fault
-  in_stream : (f : Broken) → 0 < length ds → length ds ≤ most_streams → Among (λ j. StreamFault (j + 1)) ds f
-      → StreamsFault ds f
+  in_stream : (f : Broken) → 0 < length ds → length ds ≤ most_streams → Among (λ j. FlowStreamFault (j + 1)) ds f
+      → FlowStreamsFault ds f
 
 -- the faults of a swap: its own, and where it is an object those of its streams
-abbrev pub SwapFault : Data → Broken → Type 0
-SwapFault d f = OwnFault 0 swap d f
-    ⊎ ((is_some (names_of d) ≡ true) × StreamsFault (values_in (codes "swapStream") (Some d)) f)
+abbrev pub FlowSwapFault : Data → Broken → Type 0
+FlowSwapFault d f = OwnFault 0 swap d f
+    ⊎ ((is_some (element_names d) ≡ true) × FlowStreamsFault (values_in (codes "swapStream") (Some d)) f)
 
 -- the faults of a document of cash flows
 pub data FlowFault (d : Data) : Broken → Type 0 where
   -- a rule ends the way to the swap
   ended : (f : Broken) → the_swap d ≡ Err f → FlowFault d f
   -- the swap has the fault
-  below : (s : Data) (f : Broken) → the_swap d ≡ Ok s → SwapFault s f → FlowFault d f
+  below : (s : Data) (f : Broken) → the_swap d ≡ Ok s → FlowSwapFault s f → FlowFault d f

@@ -2,8 +2,8 @@
 -- how often. Which elements are in the profile, their counts and their order are our rule.
 use Rattle.irs_base.specs.Elements.{cashflows, flow_period}
 use Rattle.irs_base.specs.Limits.{most_rows}
-use Rattle.irs_base.specs.PathList.{printed}
-use Rattle.irs_elements.specs.Lines.{Table, at, leaf, line, line_below, names_of, object, rows_of}
+use Rattle.irs_base.specs.PathList.{printed_paths}
+use Rattle.irs_elements.specs.Lines.{Table, others_at, leaf, line, line_below, table_names, object, table_rows}
 use Rattle.irs_elements.specs.declared.table.Count.TheVariants.{Maybe, UpTo}
 use Rattle.irs_elements.specs.declared.table.Leaf.TheVariants.{Amount, CurrencyName, Date, Fraction, Whole}
 use Rattle.irs_elements.specs.declared.table.Row.{Row}
@@ -28,11 +28,11 @@ flow_table = record {
       ∷ line "paymentCalculationPeriod/forecastPaymentAmount/amount" (leaf Amount) Maybe
       ∷ [];
   passed =
-      at "" ("cashflowsMatchParameters" ∷ [])
-      ∷ at "principalExchange" ("discountFactor" ∷ "presentValuePrincipalExchangeAmount" ∷ [])
-      ∷ at "paymentCalculationPeriod" ("discountFactor" ∷ "presentValueAmount" ∷ "calculationPeriod" ∷ [])
+      others_at "" ("cashflowsMatchParameters" ∷ [])
+      ∷ others_at "principalExchange" ("discountFactor" ∷ "presentValuePrincipalExchangeAmount" ∷ [])
+      ∷ others_at "paymentCalculationPeriod" ("discountFactor" ∷ "presentValueAmount" ∷ "calculationPeriod" ∷ [])
       ∷ [];
-  refused = at "paymentCalculationPeriod" ("fixedPaymentAmount" ∷ []) ∷ [];
+  refused = others_at "paymentCalculationPeriod" ("fixedPaymentAmount" ∷ []) ∷ [];
 }
 
 -- the table of a calculation period
@@ -57,36 +57,36 @@ period_table = record {
       ∷ line "rateObservation/observedRate" (leaf Amount) Maybe
       ∷ [];
   passed =
-      at "calculationPeriod" ("forecastAmount" ∷ "forecastRate" ∷ [])
-      ∷ at "calculationPeriod/floatingRateDefinition" ("floatingRateMultiplier" ∷ "spread" ∷ [])
-      ∷ at "rateObservation" ("treatedRate" ∷ "observationWeight" ∷ "forecastRate" ∷ [])
+      others_at "calculationPeriod" ("forecastAmount" ∷ "forecastRate" ∷ [])
+      ∷ others_at "calculationPeriod/floatingRateDefinition" ("floatingRateMultiplier" ∷ "spread" ∷ [])
+      ∷ others_at "rateObservation" ("treatedRate" ∷ "observationWeight" ∷ "forecastRate" ∷ [])
       ∷ [];
   refused =
-      at "calculationPeriod" ("fxLinkedNotionalAmount" ∷ [])
-      ∷ at "calculationPeriod/floatingRateDefinition" ("capRate" ∷ "floorRate" ∷ [])
+      others_at "calculationPeriod" ("fxLinkedNotionalAmount" ∷ [])
+      ∷ others_at "calculationPeriod/floatingRateDefinition" ("capRate" ∷ "floorRate" ∷ [])
       ∷ [];
 }
 
 -- the elements of `cashflows` in the table of paths, and those of a calculation period after them
 unfoldable pub flow_elements : List (List ℕ)
-flow_elements = take (flow_period - (cashflows + 1)) (drop (cashflows + 1) printed)
+flow_elements = take (flow_period - (cashflows + 1)) (drop (cashflows + 1) printed_paths)
 
 -- the elements below a calculation period
 unfoldable pub period_elements : List (List ℕ)
-period_elements = drop (flow_period + 1) printed
+period_elements = drop (flow_period + 1) printed_paths
 
 -- the rows that the lines of `cashflows` give
 unfoldable pub flow_rows : List Row
-flow_rows = rows_of printed flow_table
+flow_rows = table_rows printed_paths flow_table
 
 -- the names that the lines of `cashflows` give
 unfoldable pub flow_names : List (List ℕ)
-flow_names = names_of flow_table
+flow_names = table_names flow_table
 
 -- the rows that the lines of a calculation period give
-unfoldable pub period_rows : List Row
-period_rows = rows_of printed period_table
+unfoldable pub period_table_rows : List Row
+period_table_rows = table_rows printed_paths period_table
 
 -- the names that the lines of a calculation period give
 unfoldable pub period_names : List (List ℕ)
-period_names = names_of period_table
+period_names = table_names period_table

@@ -1,6 +1,6 @@
 -- The cash flows of a document, and the first fault that it has.
 use Rattle.irs_audit.specs.FlowFaults.{FlowFault}
-use Rattle.irs_audit.specs.FlowMeaning.{streams_in}
+use Rattle.irs_audit.specs.FlowMeaning.{flow_parts_in}
 use Rattle.irs_audit.specs.FlowParts.{FlowPart}
 use Rattle.irs_audit.specs.declared.error.FlowErr.{FlowErr}
 use Rattle.irs_audit.specs.declared.error.FlowErr.TheVariants.{Memory, Shape}
@@ -20,27 +20,27 @@ pub record FlowsOf (d : Data) (flows : List FlowPart) : Type 0 where
   pub clean : (f : Broken) → FlowFault d f → ⊥
   pub swap : Data
   pub found : the_swap d ≡ Ok swap
-  pub says : flows ≡ streams_in swap
+  pub says : flows ≡ flow_parts_in swap
 
 -- the kind of a fault by the rule that is broken; no table of elements has a rule but K2 to K7
-abbrev pub kind_of : Rule → ShapeKind
-kind_of K2 = Missing
-kind_of K3 = Kind
-kind_of K4 = Unknown
-kind_of K5 = Profile
-kind_of K6 = Value
-kind_of K7 = Count
-kind_of k = NotJson
+abbrev pub shape_kind_of : Rule → ShapeKind
+shape_kind_of K2 = Missing
+shape_kind_of K3 = Kind
+shape_kind_of K4 = Unknown
+shape_kind_of K5 = Profile
+shape_kind_of K6 = Value
+shape_kind_of K7 = Count
+shape_kind_of k = NotJson
 
 -- a refusal gives the kind and place of the first fault, and never says that the text is no JSON
 pub record IsFirstShape (d : Data) (kind : ShapeKind) (place : Place) : Type 0 where
   pub fault : Broken
   pub first : IsFirstBroken (FlowFault d) (Some fault)
-  pub kind_is : kind ≡ kind_of fault.rule
+  pub kind_is : kind ≡ shape_kind_of fault.rule
   pub place_is : place ≡ fault.place
   pub read : kind ≢ NotJson
 
 -- the error gives the first fault, or says that memory ran out
-abbrev pub IsFirstFault : Data → FlowErr → Type 0
-IsFirstFault d (Shape kind place) = IsFirstShape d kind place
-IsFirstFault d Memory = Unit {0}
+abbrev pub IsFirstFlowFault : Data → FlowErr → Type 0
+IsFirstFlowFault d (Shape kind place) = IsFirstShape d kind place
+IsFirstFlowFault d Memory = Unit {0}

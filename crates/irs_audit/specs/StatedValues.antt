@@ -7,17 +7,17 @@ use Rattle.irs_terms.specs.declared.results.Frac.{Frac}
 use Rattle.irs_audit.specs.declared.flows.StatedFraction.{StatedFraction}
 
 -- a number stated in units of 10^-12 is equal to `units` units of 10^-places
-abbrev pub IsNumber : ℤ → ℕ → ℤ → Type 0
-IsNumber units places stated = (stated *ℤ pos (10 ^ places)) ≡ (units *ℤ pos (10 ^ 12))
+abbrev pub StatesNumber : ℤ → ℕ → ℤ → Type 0
+StatesNumber units places stated = (stated *ℤ pos (10 ^ places)) ≡ (units *ℤ pos (10 ^ 12))
 
 -- a stated amount is equal to one of a schedule
-abbrev pub IsAmount : Dec → ℤ → Type 0
-IsAmount v stated = IsNumber v.units v.places stated
+abbrev pub StatesAmount : Dec → ℤ → Type 0
+StatesAmount v stated = StatesNumber v.units v.places stated
 
 -- A stated fraction agrees with that of a period. With fewer than four decimals it is equal to it. With four
 -- or more it is the period's fraction rounded to the nearest with that many decimals. No flows are read with
 -- more than twelve.
-pub record IsFraction (f : Frac) (stated : StatedFraction) : Type 0 where
+pub record StatesFraction (f : Frac) (stated : StatedFraction) : Type 0 where
   pub decimals : stated.places ≤ 12
   pub exact : stated.places < 4 → (stated.units *ℤ f.den) ≡ (f.num *ℤ pos (10 ^ stated.places))
   pub nearest : 4 ≤ stated.places → Rounded Nearest (f.num *ℤ pos (10 ^ stated.places)) f.den stated.units

@@ -9,8 +9,8 @@ use Rattle.irs_audit.specs.StatedFlows.{stated_amount}
 use Rattle.irs_audit.specs.declared.summing.Sums.{Sums}
 
 -- how many payments and calculation periods a stream has
-abbrev pub payment_rows : Part → ℕ
-payment_rows p = length p.payments + length p.periods
+abbrev pub payment_row_count : Part → ℕ
+payment_row_count p = length p.payments + length p.periods
 
 -- an amount in units of 10^-12; one that isn't known adds nothing
 abbrev pub known_or_zero : Option Dec → ℤ
@@ -28,23 +28,23 @@ total_from t [] = t
 total_from t (p ∷ ps) = total_from (paid_from t p.payments) ps
 
 -- a sum plus the days of these periods
-abbrev pub days_from : ℤ → List PeriodEntry → ℤ
-days_from t [] = t
-days_from t (e ∷ es) = days_from (t +ℤ e.days) es
+abbrev pub days_added_from : ℤ → List PeriodEntry → ℤ
+days_added_from t [] = t
+days_added_from t (e ∷ es) = days_added_from (t +ℤ e.days) es
 
 -- a sum plus the days of these streams
 abbrev pub all_days_from : ℤ → List Part → ℤ
 all_days_from t [] = t
-all_days_from t (p ∷ ps) = all_days_from (days_from t p.periods) ps
+all_days_from t (p ∷ ps) = all_days_from (days_added_from t p.periods) ps
 
 -- the sums of a schedule
 abbrev pub sums_in : List Part → Sums
-sums_in s = record { rows = sum_by payment_rows s; total = total_from (pos 0) s; days = all_days_from (pos 0) s }
+sums_in s = record { rows = sum_by payment_row_count s; total = total_from (pos 0) s; days = all_days_from (pos 0) s }
 
 -- the greatest size of an amount, in units of 10^-12
-abbrev pub most_amount : ℕ
-most_amount = 10 ^ 26
+abbrev pub most_stated_amount : ℕ
+most_stated_amount = 10 ^ 26
 
 -- the greatest size of what one stream adds to a sum
 abbrev pub most_of_stream : ℕ
-most_of_stream = most_periods * most_amount
+most_of_stream = most_periods * most_stated_amount

@@ -10,8 +10,8 @@ use Rattle.irs_audit.specs.FlowParts.{FlowPart}
 use Rattle.irs_base.specs.Order.{First}
 
 -- how many exchanges, payments, calculation periods and resets a stream has
-abbrev pub stream_rows : Part → ℕ
-stream_rows p = length p.exchanges + length p.payments + length p.periods + length p.resets
+abbrev pub stream_row_count : Part → ℕ
+stream_row_count p = length p.exchanges + length p.payments + length p.periods + length p.resets
 
 -- how many payments of a stream have no amount
 abbrev pub stream_unfixed : Part → ℕ
@@ -19,7 +19,7 @@ stream_unfixed p = count_by (λ (y : PaymentEntry). is_none y.amount) p.payments
 
 -- how many exchanges, payments, calculation periods and resets a schedule has
 abbrev pub row_count : List Part → ℕ
-row_count s = sum_by stream_rows s
+row_count s = sum_by stream_row_count s
 
 -- how many payments of a schedule have no amount
 abbrev pub unfixed_count : List Part → ℕ

@@ -2,7 +2,7 @@
 ghost use Rattle.std.specs.Prelude.{◌≡◌, ◌↔◌, ◌≤◌, length, option_copied, option_map};
 ghost use Rattle.irs_audit.specs.Agreement.{Departs};
 ghost use Rattle.irs_audit.specs.DepartureOrder.{departs_before};
-ghost use Rattle.irs_audit.specs.Private.StatedRows.{rows_in, streams_in};
+ghost use Rattle.irs_audit.specs.Private.StatedRows.{rows_in, flow_parts_of};
 ghost use Rattle.irs_audit.specs.Private.StreamSets.{OfStream};
 ghost use Rattle.irs_audit.specs.StatedFlows.{stated_flows};
 ghost use Rattle.irs_audit.specs.Verdicts.{IsNo, IsVerdict};
@@ -48,7 +48,7 @@ fn first_of_stream(
 // one departs too.
 fn first_departure(ours: &[StreamPart], theirs: StatedStreams<'_>) -> Option<Departure>
     requires { length ours.now ≤ 8 }
-    ensures { IsFirst departs_before (Departs (streams_in theirs.entry) ours.now) result }
+    ensures { IsFirst departs_before (Departs (flow_parts_of theirs.entry) ours.now) result }
 {
     for place in 0..ours.len() + 1 {
         let stream = place as u8 + 1;
@@ -60,7 +60,7 @@ fn first_departure(ours: &[StreamPart], theirs: StatedStreams<'_>) -> Option<Dep
 }
 
 fn verdict(s: &Schedule, theirs: StatedStreams<'_>) -> Verdict
-    ensures { IsVerdict (streams_in theirs.entry) s.now result }
+    ensures { IsVerdict (flow_parts_of theirs.entry) s.now result }
 {
     let parts = s.streams();
     match first_departure(parts, theirs) {

@@ -3,8 +3,9 @@
 ghost use Rattle.std.specs.Prelude.{◌≡◌, ◌^◌, ◌≤◌, pos, ◌*ℤ◌, ◌<ℤ◌, ◌≤ℤ◌, IsTrue, ◌↔◌};
 ghost use Rattle.irs_base.specs.Limits.{most_numerator};
 ghost use Rattle.std.specs.Int.{int_div_euclid, int_rem_euclid};
-ghost use Rattle.irs_audit.specs.StatedValues.{IsNumber, IsAmount, IsFraction, StatedWrongly, NotStatedRightly};
-ghost use Rattle.irs_audit.specs.Comparisons.{IsSmall};
+ghost use Rattle.irs_audit.specs.StatedValues.{StatesNumber, StatesAmount, StatesFraction, StatedWrongly};
+ghost use Rattle.irs_audit.specs.StatedValues.{NotStatedRightly};
+ghost use Rattle.irs_audit.specs.Comparisons.{IsBoundedFraction};
 ghost use Rattle.irs_audit.specs.Private.Comparisons.{most_scaled};
 
 use crate::StatedFraction;
@@ -47,7 +48,7 @@ pub(crate) fn power_of_ten(n: u8) -> i128
 // Whether a stated number is `units` units of 10^-places.
 fn is_number(units: i128, places: u8, stated: i128) -> bool
     requires { places ≤ 12 }
-    ensures { IsTrue result ↔ IsNumber units places stated }
+    ensures { IsTrue result ↔ StatesNumber units places stated }
 {
     is_multiple(stated, power_of_ten(12 - places), units)
 }
@@ -64,8 +65,8 @@ pub(crate) fn scaled(num: i64, places: u8) -> i128
 
 // Whether a stated fraction is that of a period.
 fn is_fraction(frac: Frac, stated: StatedFraction) -> bool
-    requires { IsSmall frac }
-    ensures { IsTrue result ↔ IsFraction frac stated }
+    requires { IsBoundedFraction frac }
+    ensures { IsTrue result ↔ StatesFraction frac stated }
 {
     if stated.places > 12 {
         return false;
@@ -122,7 +123,7 @@ pub fn currency_is_wrong(currency: Currency, stated: Option<Currency>) -> bool
 /// A number is stated, and isn't `units` units of 10^-places.
 pub fn number_is_wrong(units: i128, places: u8, stated: Option<i128>) -> bool
     requires { places ≤ 12 }
-    ensures { IsTrue result ↔ StatedWrongly (IsNumber units places) stated }
+    ensures { IsTrue result ↔ StatedWrongly (StatesNumber units places) stated }
 {
     match stated {
         Some(n) => !is_number(units, places, n),
@@ -133,7 +134,7 @@ pub fn number_is_wrong(units: i128, places: u8, stated: Option<i128>) -> bool
 /// An amount is left out, or is another one.
 pub(crate) fn amount_is_not_right(amount: Dec, stated: Option<i128>) -> bool
     requires { amount.places ≤ 12 }
-    ensures { IsTrue result ↔ NotStatedRightly (IsAmount amount) stated }
+    ensures { IsTrue result ↔ NotStatedRightly (StatesAmount amount) stated }
 {
     match stated {
         Some(n) => !is_number(amount.units, amount.places, n),
@@ -143,8 +144,8 @@ pub(crate) fn amount_is_not_right(amount: Dec, stated: Option<i128>) -> bool
 
 /// A fraction is stated, and isn't that of the period.
 pub fn fraction_is_wrong(frac: Frac, stated: Option<StatedFraction>) -> bool
-    requires { IsSmall frac }
-    ensures { IsTrue result ↔ StatedWrongly (IsFraction frac) stated }
+    requires { IsBoundedFraction frac }
+    ensures { IsTrue result ↔ StatedWrongly (StatesFraction frac) stated }
 {
     match stated {
         Some(f) => !is_fraction(frac, f),

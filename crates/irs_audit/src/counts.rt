@@ -1,11 +1,11 @@
 //! How many rows a schedule has, and how many of its payments have no amount yet.
 ghost use Rattle.std.specs.Prelude.{◌≡◌, ◌<◌, ◌^◌};
-ghost use Rattle.irs_audit.specs.Verdicts.{stream_rows, stream_unfixed, row_count, unfixed_count};
+ghost use Rattle.irs_audit.specs.Verdicts.{stream_row_count, stream_unfixed, row_count, unfixed_count};
 
 use irs_schedule::StreamPart;
 
 fn stream_rows(part: &StreamPart) -> u32
-    ensures { result ≡ stream_rows part.now }
+    ensures { result ≡ stream_row_count part.now }
 {
     let resets = part.resets().len();
     (part.exchanges().len() + part.payments().len() + part.periods() + resets) as u32

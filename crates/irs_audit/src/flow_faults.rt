@@ -4,10 +4,11 @@
 //!
 //! The carrier, the table and the order of faults are our rule.
 ghost use Rattle.irs_audit.specs.FlowFaults.{CashflowsFault, FlowFault, OnceFault, OwnFault, PeriodFault, PeriodsFault};
-ghost use Rattle.irs_audit.specs.FlowFaults.{PeriodsFrom, StreamFault, StreamsFault, SwapFault, at as at_of};
+ghost use Rattle.irs_audit.specs.FlowFaults.{PeriodsFrom, FlowStreamFault, FlowStreamsFault, FlowSwapFault};
+ghost use Rattle.irs_audit.specs.FlowFaults.{flow_broken_at as at_of};
 ghost use Rattle.irs_audit.specs.FlowFaults.{has_both_rates as has_both_rates_of};
 ghost use Rattle.irs_audit.specs.FlowFaults.{has_calculated_rate as has_calculated_rate_of, is_sound as is_sound_of};
-ghost use Rattle.irs_audit.specs.FlowFaults.{payments_in, periods_of, sole as sole_of};
+ghost use Rattle.irs_audit.specs.FlowFaults.{payments_in, flow_periods_of, sole as sole_of};
 ghost use Rattle.irs_base.specs.Elements.{flow_period};
 ghost use Rattle.irs_elements.specs.Elements.{is_odd as is_odd_of};
 ghost use Rattle.irs_elements.specs.Private.Elements.{fault_if};
@@ -139,8 +140,8 @@ fn periods_behind(stream: u8, before: u32, list: &[Value]) -> Option<Broken>
 
 // The first fault of the calculation periods of payments.
 fn each_period_fault(stream: u8, payments: &[Value]) -> Option<Broken>
-    requires { length (periods_of (map view payments.now)) ≤ most_rows }
-    ensures { IsFirstBroken (PeriodsFrom stream 0 (periods_of (map view payments.now))) result }
+    requires { length (flow_periods_of (map view payments.now)) ≤ most_rows }
+    ensures { IsFirstBroken (PeriodsFrom stream 0 (flow_periods_of (map view payments.now))) result }
 {
     let mut first = None;
     let mut before = 0;
@@ -154,7 +155,7 @@ fn each_period_fault(stream: u8, payments: &[Value]) -> Option<Broken>
 
 // Whether payments have at most as many calculation periods as a stream may have.
 fn are_few(payments: &[Value]) -> bool
-    ensures { result ≡ nat_le (length (periods_of (map view payments.now))) most_rows }
+    ensures { result ≡ nat_le (length (flow_periods_of (map view payments.now))) most_rows }
 {
     let mut left = MOST_ROWS as usize;
     for p in 0..payments.len() {
@@ -168,7 +169,7 @@ fn are_few(payments: &[Value]) -> bool
 }
 
 fn periods_fault(stream: u8, payments: &[Value]) -> Option<Broken>
-    ensures { IsFirstBroken (PeriodsFault stream (periods_of (map view payments.now))) result }
+    ensures { IsFirstBroken (PeriodsFault stream (flow_periods_of (map view payments.now))) result }
 {
     if are_few(payments) {
         each_period_fault(stream, payments)
@@ -217,7 +218,7 @@ fn once_fault(stream: u8, list: &[Value]) -> Option<Broken>
 
 // The first fault of the stream with this number.
 fn stream_fault(number: u8, v: &Value) -> Option<Broken>
-    ensures { IsFirstBroken (StreamFault number (view v.now)) result }
+    ensures { IsFirstBroken (FlowStreamFault number (view v.now)) result }
 {
     let own = own_fault(number, Elem::SWAP_STREAM, v);
     match members(v) {
@@ -231,7 +232,7 @@ fn stream_fault(number: u8, v: &Value) -> Option<Broken>
 // The first fault of one to eight streams.
 fn each_stream_fault(list: &[Value]) -> Option<Broken>
     requires { length list.now ≤ most_streams }
-    ensures { IsFirstBroken (Among (λ j. StreamFault (j + 1)) (map view list.now)) result }
+    ensures { IsFirstBroken (Among (λ j. FlowStreamFault (j + 1)) (map view list.now)) result }
 {
     let mut first = None;
     for j in 0..list.len() {
@@ -243,7 +244,7 @@ fn each_stream_fault(list: &[Value]) -> Option<Broken>
 
 // The first fault of streams, and their count.
 fn streams_fault(list: &[Value]) -> Option<Broken>
-    ensures { IsFirstBroken (StreamsFault (map view list.now)) result }
+    ensures { IsFirstBroken (FlowStreamsFault (map view list.now)) result }
 {
     if list.len() == 0 {
         Some(at(0, Rule::K2, Elem::SWAP_STREAM))
@@ -255,7 +256,7 @@ fn streams_fault(list: &[Value]) -> Option<Broken>
 }
 
 fn swap_fault(v: &Value) -> Option<Broken>
-    ensures { IsFirstBroken (SwapFault (view v.now)) result }
+    ensures { IsFirstBroken (FlowSwapFault (view v.now)) result }
 {
     let own = own_fault(0, Elem::SWAP, v);
     match members(v) {

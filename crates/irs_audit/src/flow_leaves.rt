@@ -1,6 +1,6 @@
 //! The values of the leaves of cash flows; `None` where a leaf is absent or has no value.
 ghost use Rattle.irs_audit.specs.FlowMeaning.{stated};
-ghost use Rattle.irs_elements.specs.Dates.{day_at};
+ghost use Rattle.irs_elements.specs.Dates.{leaf_date_at};
 ghost use Rattle.irs_elements.specs.Find.{seen};
 ghost use Rattle.irs_elements.specs.Fractions.{fraction_at};
 ghost use Rattle.irs_elements.specs.Numbers.{amount_at, whole_at};
@@ -18,7 +18,7 @@ use itoa::Buffer;
 
 /// A date.
 pub fn day(v: Option<&Value>) -> Option<Day>
-    ensures { result ≡ said day_at (seen v.entry) }
+    ensures { result ≡ said leaf_date_at (seen v.entry) }
 {
     leaf_value!(v, text => numbers::day(text.as_bytes()))
 }

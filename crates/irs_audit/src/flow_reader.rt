@@ -4,10 +4,10 @@ ghost use Rattle.irs_elements.specs.Find.{values_in};
 ghost use Rattle.irs_audit.specs.FlowBounds.{FlowsAreWithin};
 ghost use Rattle.irs_audit.specs.FlowOutcomes.{HidesNone, flows_of_document};
 ghost use Rattle.irs_base.specs.Outcomes.{Determined};
-ghost use Rattle.irs_audit.specs.FlowMeaning.{stream_in, streams_in};
+ghost use Rattle.irs_audit.specs.FlowMeaning.{flow_part_in, flow_parts_in};
 ghost use Rattle.irs_audit.specs.Private.FlowMeaning.{AllHaveFewPeriods};
 ghost use Rattle.irs_audit.specs.FlowParts.{FlowPart};
-ghost use Rattle.irs_audit.specs.FlowReading.{FlowsOf, IsFirstFault, kind_of as kind_by};
+ghost use Rattle.irs_audit.specs.FlowReading.{FlowsOf, IsFirstFlowFault, shape_kind_of as kind_by};
 ghost use Rattle.irs_audit.specs.FlowsStated.{EachFlowStated};
 ghost use Rattle.irs_audit.specs.declared.error.FlowErr.TheVariants.{Shape};
 ghost use Rattle.serde_json.specs.Data.{Data};
@@ -53,7 +53,7 @@ fn shape(fault: Broken) -> FlowErr
 
 fn each_stream(alloc: Global, found: &[Value]) -> Result<Vec<FlowStream>, Memory>
     requires { AllHaveFewPeriods (map view found.now) }
-    ensures { IfOk result (λ list. list.items ≡ map stream_in (map view found.now)) }
+    ensures { IfOk result (λ list. list.items ≡ map flow_part_in (map view found.now)) }
 {
     let mut list = Vec::new(alloc);
     for j in 0..found.len() {
@@ -65,7 +65,7 @@ fn each_stream(alloc: Global, found: &[Value]) -> Result<Vec<FlowStream>, Memory
 // The flows of a swap that has no fault.
 fn flows_of(alloc: Global, v: &Value) -> Result<Flows, Memory>
     requires { AllHaveFewPeriods (values_in (codes "swapStream") (Some (view v.now))) }
-    ensures { IfOk result (λ flows. flows ≡ streams_in (view v.now)) }
+    ensures { IfOk result (λ flows. flows ≡ flow_parts_in (view v.now)) }
 {
     let streams = each_stream(alloc, values_at(v, "swapStream"))?;
     Ok(Flows::new(streams))
@@ -80,7 +80,7 @@ pub fn read_flows(alloc: Global, v: &Value) -> Result<Flows, FlowErr>
     ensures flows { IfOk result (λ flows. FlowsOf (view v.now) flows) }
     // No field is passed over: each leaf that occurs has a value of its kind.
     ensures stated { IfOk result (λ _. EachFlowStated (view v.now)) }
-    ensures fault { IfErr result (λ e. IsFirstFault (view v.now) e) }
+    ensures fault { IfErr result (λ e. IsFirstFlowFault (view v.now) e) }
     // Running out of memory hides no fault.
     ensures memory { IfErr result (λ e. HidesNone (view v.now) e) }
 {

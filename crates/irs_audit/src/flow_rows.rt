@@ -1,10 +1,10 @@
 //! The rows of cash flows: exchanges, payments with their calculation periods, and resets.
-ghost use Rattle.irs_audit.specs.FlowFaults.{payments_in, periods_in, periods_of};
+ghost use Rattle.irs_audit.specs.FlowFaults.{payments_in, periods_in, flow_periods_of};
 ghost use Rattle.irs_base.specs.Limits.{most_rows};
-ghost use Rattle.irs_audit.specs.FlowMeaning.{exchange_in, flows_in, payment_in, period_in, period_with};
+ghost use Rattle.irs_audit.specs.FlowMeaning.{exchange_in, flows_in, payment_in, period_in, period_from};
 ghost use Rattle.irs_audit.specs.Private.FlowMeaning.{HasFewPeriods};
-ghost use Rattle.irs_audit.specs.FlowMeaning.{reset_at, reset_in, stream_in};
-ghost use Rattle.irs_elements.specs.Codes.{either};
+ghost use Rattle.irs_audit.specs.FlowMeaning.{reset_at, flow_reset_in, flow_part_in};
+ghost use Rattle.irs_elements.specs.Codes.{first_there};
 ghost use Rattle.irs_elements.specs.Find.{seen};
 ghost use Rattle.serde_json.specs.View.{view};
 ghost use Rattle.std.specs.Prelude.{◌≡◌, ◌≤◌, IfOk, length, map};
@@ -18,7 +18,7 @@ use irs_json::Value;
 use std::alloc::Global;
 
 fn reset(v: &Value) -> FlowReset
-    ensures { result ≡ reset_in (view v.now) }
+    ensures { result ≡ flow_reset_in (view v.now) }
 {
     FlowReset {
         reset: day(once(v, "resetDate")),
@@ -39,7 +39,7 @@ fn reset_of(v: &Value) -> Option<FlowReset>
 
 // The first of two amounts that is there.
 fn first_of(a: Option<i128>, b: Option<i128>) -> Option<i128>
-    ensures { result ≡ either a b }
+    ensures { result ≡ first_there a b }
 {
     match a {
         None => b,
@@ -54,7 +54,7 @@ fn period(
     reset: Option<FlowReset>,
     v: &Value,
 ) -> FlowPeriod
-    ensures { result ≡ period_with start fraction reset (view v.now) }
+    ensures { result ≡ period_from start fraction reset (view v.now) }
 {
     let float = once(v, "floatingRateDefinition");
     let fixed = amount(once(v, "fixedRate"));
@@ -97,7 +97,7 @@ fn count_of(v: &Value) -> u32
 }
 
 fn payments(alloc: Global, found: &[Value]) -> Result<Vec<FlowPayment>, Memory>
-    requires { length (periods_of (map view found.now)) ≤ most_rows }
+    requires { length (flow_periods_of (map view found.now)) ≤ most_rows }
     ensures { IfOk result (λ list. list.items ≡ map payment_in (map view found.now)) }
 {
     let mut list = Vec::new(alloc);
@@ -121,7 +121,7 @@ fn payments(alloc: Global, found: &[Value]) -> Result<Vec<FlowPayment>, Memory>
 
 // The calculation periods of all payments.
 fn periods(alloc: Global, payments: &[Value]) -> Result<Vec<FlowPeriod>, Memory>
-    ensures { IfOk result (λ list. list.items ≡ map period_in (periods_of (map view payments.now))) }
+    ensures { IfOk result (λ list. list.items ≡ map period_in (flow_periods_of (map view payments.now))) }
 {
     let mut list = Vec::new(alloc);
     for payment in payments {
@@ -136,7 +136,7 @@ fn periods(alloc: Global, payments: &[Value]) -> Result<Vec<FlowPeriod>, Memory>
 }
 
 fn flows(alloc: Global, v: Option<&Value>) -> Result<FlowStream, Memory>
-    requires { length (periods_of (payments_in (seen v))) ≤ most_rows }
+    requires { length (flow_periods_of (payments_in (seen v))) ≤ most_rows }
     ensures { IfOk result (λ flows. flows ≡ flows_in (seen v.entry)) }
 {
     let found = payments_of(v);
@@ -149,7 +149,7 @@ fn flows(alloc: Global, v: Option<&Value>) -> Result<FlowStream, Memory>
 /// The flows of a stream, where it has no fault.
 pub fn stream_flows(alloc: Global, v: &Value) -> Result<FlowStream, Memory>
     requires { HasFewPeriods (view v.now) }
-    ensures { IfOk result (λ flows. flows ≡ stream_in (view v.now)) }
+    ensures { IfOk result (λ flows. flows ≡ flow_part_in (view v.now)) }
 {
     flows(alloc, once(v, "cashflows"))
 }

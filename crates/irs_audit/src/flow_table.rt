@@ -5,9 +5,9 @@
 //! and each is looked into with that number. The order of the rows, the counts, and which elements
 //! are in the profile, are our rule.
 ghost use Rattle.irs_audit.specs.FlowLines.{flow_elements, flow_names, flow_rows, flow_table, period_elements};
-ghost use Rattle.irs_audit.specs.FlowLines.{period_names, period_rows, period_table};
+ghost use Rattle.irs_audit.specs.FlowLines.{period_names, period_table_rows, period_table};
 ghost use Rattle.irs_elements.specs.Lines.{Line};
-ghost use Rattle.irs_read.specs.Tables.{is_whole};
+ghost use Rattle.irs_read.specs.Tables.{is_whole_table};
 ghost use Rattle.std.specs.Prelude.{◌≡◌, drop, map, true};
 
 use irs_base::MOST_ROWS;
@@ -110,7 +110,7 @@ pub const PERIOD_ENDS: [usize; 25] = period_elements!(ends);
 pub fn flow_tables_listed()
     ensures rows { FLOW_ROWS ≡ flow_rows }
     ensures names { map (λ n. n.now) FLOW_NAMES ≡ flow_names }
-    ensures period_rows { PERIOD_ROWS ≡ period_rows }
+    ensures period_rows { PERIOD_ROWS ≡ period_table_rows }
     ensures period_names { map (λ n. n.now) PERIOD_NAMES ≡ period_names }
 {}
 
@@ -125,10 +125,10 @@ pub fn flow_lines_follow()
 /// The rows of `cashflows` are whole. Each comes after its parent, a choice is among the members of
 /// its row, and no two rows of one parent have one name.
 pub fn flow_rows_whole()
-    ensures { is_whole FLOW_ROWS 1 (drop 1 FLOW_ROWS) (drop 1 (map (λ n. n.now) FLOW_NAMES)) ≡ true }
+    ensures { is_whole_table FLOW_ROWS 1 (drop 1 FLOW_ROWS) (drop 1 (map (λ n. n.now) FLOW_NAMES)) ≡ true }
 {}
 
 /// So are the rows of a calculation period.
 pub fn period_rows_whole()
-    ensures { is_whole PERIOD_ROWS 1 (drop 1 PERIOD_ROWS) (drop 1 (map (λ n. n.now) PERIOD_NAMES)) ≡ true }
+    ensures { is_whole_table PERIOD_ROWS 1 (drop 1 PERIOD_ROWS) (drop 1 (map (λ n. n.now) PERIOD_NAMES)) ≡ true }
 {}

@@ -1,12 +1,12 @@
 //! The first field of a row that departs: each kind of rows is a table of its fields in order, with
 //! whether each departs.
 ghost use Rattle.std.specs.Prelude.{◌≡◌, ◌+◌, ◌-◌, ◌≤◌, IfSome, IsTrue, ◌↔◌};
-ghost use Rattle.irs_audit.specs.Comparisons.{IsSmall};
-ghost use Rattle.irs_audit.specs.Private.Comparisons.{IsPayment};
+ghost use Rattle.irs_audit.specs.Comparisons.{IsBoundedFraction};
+ghost use Rattle.irs_audit.specs.Private.Comparisons.{IsComparedPayment};
 ghost use Rattle.irs_audit.specs.DepartureOrder.{field_before};
 ghost use Rattle.irs_audit.specs.FieldDepartures.{ExchangeDeparts, PaymentDeparts, PeriodDeparts, ResetDeparts};
 ghost use Rattle.irs_audit.specs.Private.FieldTables.{first_true};
-ghost use Rattle.irs_audit.specs.StatedValues.{IsNumber, IsAmount, StatedWrongly, NotStatedRightly, WhereKnown};
+ghost use Rattle.irs_audit.specs.StatedValues.{StatesNumber, StatesAmount, StatedWrongly, NotStatedRightly, WhereKnown};
 ghost use Rattle.irs_base.specs.Order.{IsFirst};
 
 use crate::comparisons::{
@@ -33,7 +33,7 @@ fn first_of(tests: &[(Field, bool)]) -> Option<Field>
 // An amount that the schedule knows is left out, or stated as another one.
 fn known_amount_departs(amount: Option<Dec>, stated: Option<i128>) -> bool
     requires { IfSome amount (λ v. v.places ≤ 12) }
-    ensures { IsTrue result ↔ WhereKnown (λ v. NotStatedRightly (IsAmount v) stated) amount }
+    ensures { IsTrue result ↔ WhereKnown (λ v. NotStatedRightly (StatesAmount v) stated) amount }
 {
     match amount {
         Some(v) => amount_is_not_right(v, stated),
@@ -43,7 +43,7 @@ fn known_amount_departs(amount: Option<Dec>, stated: Option<i128>) -> bool
 
 // A rate that the schedule knows is stated otherwise.
 fn known_rate_departs(rate: Option<i64>, stated: Option<i128>) -> bool
-    ensures { IsTrue result ↔ WhereKnown (λ r. StatedWrongly (IsNumber r 9) stated) rate }
+    ensures { IsTrue result ↔ WhereKnown (λ r. StatedWrongly (StatesNumber r 9) stated) rate }
 {
     match rate {
         Some(r) => number_is_wrong(i128::from(r), 9, stated),
@@ -74,7 +74,7 @@ pub(crate) fn exchange_field(x: &Exchange, y: &FlowExchange) -> Option<Field>
 
 // The stated number of calculation periods is not that of the payment.
 fn has_other_count(x: &PaymentEntry, stated: u32) -> bool
-    requires { IsPayment x.now }
+    requires { IsComparedPayment x.now }
     ensures { IsTrue result ↔ ¬ (stated ≡ x.now.last_period + 1 - x.now.first_period) }
 {
     stated != x.last_period + 1 - x.first_period
@@ -82,7 +82,7 @@ fn has_other_count(x: &PaymentEntry, stated: u32) -> bool
 
 /// The first field of a payment that departs.
 pub(crate) fn payment_field(currency: Currency, x: &PaymentEntry, y: &FlowPayment) -> Option<Field>
-    requires { IsPayment x.now }
+    requires { IsComparedPayment x.now }
     ensures { IsFirst field_before (PaymentDeparts currency x.now y.now) result }
 {
     first_of(&[
@@ -102,7 +102,7 @@ pub(crate) fn payment_field(currency: Currency, x: &PaymentEntry, y: &FlowPaymen
 
 /// The first field of a calculation period that departs.
 pub(crate) fn period_field(x: &CalculationPeriod, y: &FlowPeriod) -> Option<Field>
-    requires { IsSmall x.now.frac }
+    requires { IsBoundedFraction x.now.frac }
     ensures { IsFirst field_before (PeriodDeparts x.now y.now) result }
 {
     first_of(&[

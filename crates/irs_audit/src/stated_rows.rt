@@ -1,8 +1,8 @@
 //! The rows that an audit compares with those of a schedule: of cash flows that were read, or of a schedule
 //! that they would state. A row of a schedule is stated when it is compared.
 ghost use Rattle.std.specs.Prelude.{◌≡◌, option_map, slice_get};
-ghost use Rattle.irs_audit.specs.Agreement.{stated_reset};
-ghost use Rattle.irs_audit.specs.Private.StatedRows.{rows_in, streams_in};
+ghost use Rattle.irs_audit.specs.Agreement.{stated_reset_at};
+ghost use Rattle.irs_audit.specs.Private.StatedRows.{rows_in, flow_parts_of};
 ghost use Rattle.irs_audit.specs.StatedFlows.{stated_part};
 
 use crate::rows::item;
@@ -52,7 +52,7 @@ impl StatedRows<'_> {
 
     /// The reset of the calculation period at a place, from 0.
     pub(crate) fn reset(&self, place: usize) -> Option<FlowReset>
-        ensures { result ≡ stated_reset (rows_in self.now) place }
+        ensures { result ≡ stated_reset_at (rows_in self.now) place }
     {
         match self {
             StatedRows::Flows(flows) => item(flows.periods(), place)?.reset,
@@ -77,7 +77,7 @@ pub(crate) enum StatedStreams<'a> {
 impl<'a> StatedStreams<'a> {
     /// The rows of the stream at a place, from 0.
     pub(crate) fn at(&self, place: usize) -> Option<StatedRows<'a>>
-        ensures { option_map rows_in result ≡ slice_get (streams_in self.now) place }
+        ensures { option_map rows_in result ≡ slice_get (flow_parts_of self.now) place }
     {
         match self {
             StatedStreams::Flows(flows) => flows_at(flows, place),

@@ -3,8 +3,8 @@
 ghost use Rattle.std.specs.Prelude.{◌≡◌, ◌+◌, ◌-◌, ◌<◌, ◌*◌, ◌^◌, ◌*ℤ◌, unsigned_abs, map};
 ghost use Rattle.std.specs.Prelude.{option_map, slice_get, IfOk, IfSome};
 ghost use Rattle.irs_audit.specs.Agreement.{Agrees};
-ghost use Rattle.irs_audit.specs.Comparisons.{IsSmall};
-ghost use Rattle.irs_audit.specs.Private.Comparisons.{IsPayment, IsStatable, IsStatableDec, IsStatablePeriod};
+ghost use Rattle.irs_audit.specs.Comparisons.{IsBoundedFraction};
+ghost use Rattle.irs_audit.specs.Private.Comparisons.{IsComparedPayment, IsStatable, IsStatableDec, IsStatablePeriod};
 ghost use Rattle.irs_audit.specs.Private.Comparisons.{IsStatableRate};
 ghost use Rattle.irs_audit.specs.StatedFlows.{period_with, stated_amount, stated_exchange, stated_flows};
 ghost use Rattle.irs_audit.specs.StatedFlows.{stated_fraction, stated_number, stated_part, stated_payment};
@@ -65,7 +65,7 @@ fn known_rate(rate: Option<i64>) -> Option<i128>
 }
 
 fn fraction(frac: Frac) -> StatedFraction
-    requires { IsSmall frac }
+    requires { IsBoundedFraction frac }
     ensures { result ≡ stated_fraction frac }
 {
     let num = scaled(frac.num, STATED_PLACES);
@@ -77,7 +77,7 @@ fn fraction(frac: Frac) -> StatedFraction
 
 // How many calculation periods a payment has.
 fn period_count(y: &PaymentEntry) -> u32
-    requires { IsPayment y.now }
+    requires { IsComparedPayment y.now }
     ensures { result ≡ y.now.last_period + 1 - y.now.first_period }
 {
     y.last_period + 1 - y.first_period
@@ -107,7 +107,7 @@ pub(crate) fn reset_at(part: &StreamPart, place: usize) -> Option<FlowReset>
 // The period that starts on a day, with its reset, where it has one.
 fn period(start: Day, x: &CalculationPeriod, reset: Option<FlowReset>) -> FlowPeriod
     requires start { start ≡ x.now.start }
-    requires fraction { IsSmall x.now.frac }
+    requires fraction { IsBoundedFraction x.now.frac }
     requires statable { IsStatablePeriod x.now }
     ensures { result ≡ period_with x.now reset }
 {
@@ -136,7 +136,7 @@ fn exchange(x: &Exchange) -> FlowExchange
 }
 
 fn payment(currency: Currency, y: &PaymentEntry) -> FlowPayment
-    requires payment { IsPayment y.now }
+    requires payment { IsComparedPayment y.now }
     requires statable { IfSome y.now.amount IsStatableDec }
     ensures { result ≡ stated_payment currency y.now }
 {

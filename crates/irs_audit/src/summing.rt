@@ -3,8 +3,10 @@ ghost use Rattle.std.specs.Prelude.{◌≡◌, ◌+◌, ◌*◌, ◌<◌, ◌≤
 ghost use Rattle.std.specs.Prelude.{IfSome};
 ghost use Rattle.irs_base.specs.Limits.{most_streams};
 ghost use Rattle.irs_audit.specs.Private.Comparisons.{IsStatableDec};
-ghost use Rattle.irs_audit.specs.Sums.{all_days_from, days_from, known_or_zero, most_amount, most_of_stream, paid_from};
-ghost use Rattle.irs_audit.specs.Sums.{payment_rows, sums_in, total_from};
+ghost use Rattle.irs_audit.specs.Sums.{all_days_from, days_added_from, known_or_zero, most_stated_amount};
+ghost use Rattle.irs_audit.specs.Sums.{most_of_stream};
+ghost use Rattle.irs_audit.specs.Sums.{paid_from};
+ghost use Rattle.irs_audit.specs.Sums.{payment_row_count, sums_in, total_from};
 
 use crate::stating::amount;
 use irs_base::Dec;
@@ -33,7 +35,7 @@ fn sum(a: i128, b: i128) -> i128
 fn known_or_zero(amount_of: Option<Dec>) -> i128
     requires { IfSome amount_of IsStatableDec }
     ensures value { result ≡ known_or_zero amount_of }
-    ensures size { unsigned_abs result ≤ most_amount }
+    ensures size { unsigned_abs result ≤ most_stated_amount }
 {
     match amount_of {
         Some(v) => amount(v),
@@ -42,14 +44,14 @@ fn known_or_zero(amount_of: Option<Dec>) -> i128
 }
 
 fn payment_rows(part: &StreamPart) -> u32
-    ensures { result ≡ payment_rows part.now }
+    ensures { result ≡ payment_row_count part.now }
 {
     (part.payments().len() + part.periods()) as u32
 }
 
 fn rows(parts: &[StreamPart]) -> u32
-    requires { sum_by payment_rows parts.now < 2 ^ 32 }
-    ensures { result ≡ sum_by payment_rows parts.now }
+    requires { sum_by payment_row_count parts.now < 2 ^ 32 }
+    ensures { result ≡ sum_by payment_row_count parts.now }
 {
     parts.iter().map(|part| payment_rows(part)).sum()
 }
@@ -83,7 +85,7 @@ fn total(parts: &[StreamPart]) -> i128
 fn days_at(part: &StreamPart, place: usize) -> i128
     requires { place < length part.now.periods }
     ensures value { IfSome (slice_get part.now.periods place) (λ e. result ≡ e.days) }
-    ensures size { unsigned_abs result ≤ most_amount }
+    ensures size { unsigned_abs result ≤ most_stated_amount }
 {
     match part.days(place) {
         Some(days) => i128::from(days),
@@ -94,7 +96,7 @@ fn days_at(part: &StreamPart, place: usize) -> i128
 // A sum plus the days of a stream.
 fn stream_days(before: i128, part: &StreamPart) -> i128
     requires { unsigned_abs before ≤ most_streams * most_of_stream }
-    ensures value { result ≡ days_from before part.now.periods }
+    ensures value { result ≡ days_added_from before part.now.periods }
     ensures size { unsigned_abs result ≤ unsigned_abs before + most_of_stream }
 {
     let mut days = before;

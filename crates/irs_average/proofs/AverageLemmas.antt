@@ -11,7 +11,7 @@ use Rattle.irs_base.specs.declared.places.Fault.{Fault}
 use Rattle.irs_base.proofs.Firsts.{one_first}
 use Rattle.irs_terms.specs.declared.amounts.FloatTerms.{FloatTerms}
 use Rattle.irs_schedule.specs.Parts.{KeepsBounds, Part, Rises}
-use Rattle.irs_overnight.specs.DerivedRules.{NotAfter, derived_before, not_after_at}
+use Rattle.irs_overnight.specs.DerivedRules.{FixingNotAfter, derived_before, fixing_not_after_at}
 use Rattle.irs_overnight.specs.Private.FileLaw.{IsInRange}
 use Rattle.irs_overnight.specs.Sources.{PaysFloating}
 use Rattle.irs_overnight.specs.declared.derived.DerivedRow.{DerivedRow}
@@ -149,8 +149,8 @@ average_reads_back a h bounds rows average kept good = λ float pays.
     let is = average.has.is in
     let many : length source.adjusted ≡ length source.resets + 1 = rw is (omega (arith, adjusted, resets)) in
     let short : length source.adjusted < 2 ^ 32 = rw is (omega (arith, adjusted, few)) in
-    let none : (n : ℕ) → NotAfter source.resets n → ⊥ =
-    λ n not_after. kept (not_after_at n) (record {
+    let none : (n : ℕ) → FixingNotAfter source.resets n → ⊥ =
+    λ n not_after. kept (fixing_not_after_at n) (record {
       source = source;
       has = average.has;
       breaks =

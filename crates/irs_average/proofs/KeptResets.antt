@@ -6,7 +6,7 @@ use Rattle.irs_base.specs.Faults.{in_stream}
 use Rattle.irs_base.specs.Outcomes.{Spec, each_in_turn, refused_as}
 use Rattle.irs_base.specs.declared.places.Fault.{Fault}
 use Rattle.irs_base.proofs.Outcomes.{answer_there}
-use Rattle.irs_terms.specs.Lawful.{IsLawful}
+use Rattle.irs_terms.specs.Lawful.{IsLawfulSwap}
 use Rattle.irs_terms.specs.declared.stream.Stream.{Stream}
 use Rattle.irs_terms.specs.declared.stream_list.Swap.{Swap}
 use Rattle.irs_calendar.specs.declared.sections.Section.{Section}
@@ -47,7 +47,7 @@ stream_resets sets fix s p h q is f breaks =
     (subst (λ m. BreaksResets (resets_over sets s m) f) same breaks)
 
 -- a schedule of dates that break no rule breaks none on resets
-pub no_resets_broken : (swap : Swap) (cal : List Section) (fix : RateTable) → IsLawful swap → BreaksNone swap cal
+pub no_resets_broken : (swap : Swap) (cal : List Section) (fix : RateTable) → IsLawfulSwap swap → BreaksNone swap cal
     → DatedKept swap cal fix → (i : ℕ) (s : Stream) → slice_get swap.streams i ≡ Some s → (q : Part)
     (is : IsPart (stream_sets cal s) fix s q) (f : Fault)
     → BreaksResets (resets_over (stream_sets cal s) s is.layout) f → ⊥

@@ -11,7 +11,7 @@ use Rattle.irs_overnight.specs.declared.derived.DerivedRow.{DerivedRow}
 use Rattle.irs_overnight.specs.declared.derived.Found.{Found}
 use Rattle.irs_overnight.specs.declared.derived.Found.TheVariants.{Rate, Missing}
 use Rattle.irs_overnight.proofs.RowLemmas.{same_row}
-use Rattle.irs_average.specs.Means.{IsWithin}
+use Rattle.irs_average.specs.Means.{RateLiesBetween}
 use Rattle.irs_average.specs.StubRates.{IsFoundBetween, IsOnLine, IsStubFound, IsStubRow, StubSource, tenor_rate}
 use Rattle.irs_average.proofs.BetweenLemmas.{line_within, rounded_within, small_within, within_small}
 use Rattle.irs_average.proofs.TenorLemmas.{one_tenor}
@@ -28,7 +28,7 @@ inside near far end p q = (omega (arith, signed_arith, p), omega (arith, signed_
 
 -- a rate on the line lies within all bounds of both rates
 pub rounded_on_line : (low high width days x l g : ℤ) → pos 0 <ℤ width → pos 0 ≤ℤ days → days ≤ℤ width
-    → Rounded Nearest (weighed low high width days) width x → IsWithin l g low → IsWithin l g high → IsWithin l g x
+    → Rounded Nearest (weighed low high width days) width x → RateLiesBetween l g low → RateLiesBetween l g high → RateLiesBetween l g x
 rounded_on_line low high width days x l g above from to r a b =
     let within = line_within low high width days l g from to a b in
     rounded_within (weighed low high width days) width x l g above r within.0 within.1
@@ -90,8 +90,8 @@ module _ (source : StubSource) (period : ℕ) where
 
   -- whose rate lies within all bounds of both rates
   pub row_within : (row : DerivedRow) (x low high l g : ℤ) → IsStubRow source period row → row.found ≡ Rate x
-      → tenor_rate source source.low ≡ Some low → tenor_rate source source.high ≡ Some high → IsWithin l g low
-      → IsWithin l g high → IsWithin l g x
+      → tenor_rate source source.low ≡ Some low → tenor_rate source source.high ≡ Some high → RateLiesBetween l g low
+      → RateLiesBetween l g high → RateLiesBetween l g x
   row_within row x low high l g h is at_low at_high first second =
       let line : IsOnLine (tenor_rate source source.low) (tenor_rate source source.high) h.near h.far source.end x =
       subst (IsStubFound source h.near h.far) is h.found in
@@ -100,4 +100,4 @@ module _ (source : StubSource) (period : ℕ) where
       let in_days = inside h.near h.far source.end h.between.from h.between.to in
       rounded_on_line line.low_rate line.high_rate (h.far -ℤ h.near) (source.end -ℤ h.near) x l g
       (wide h.near h.far h.between.order) in_days.0 in_days.1 line.rounded
-      (subst (IsWithin l g) a first) (subst (IsWithin l g) b second)
+      (subst (RateLiesBetween l g) a first) (subst (RateLiesBetween l g) b second)

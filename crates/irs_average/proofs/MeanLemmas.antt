@@ -12,7 +12,7 @@ use Rattle.irs_overnight.specs.declared.derived.Found.{Found}
 use Rattle.irs_overnight.specs.declared.derived.Found.TheVariants.{Rate, Missing}
 use Rattle.irs_overnight.specs.declared.observations.Observation.{Observation}
 use Rattle.irs_overnight.proofs.ObservationLemmas.{known_or}
-use Rattle.irs_average.specs.Means.{IsMean, IsWithin, LiesAmong, counted, divisor, rate_in, sum_over}
+use Rattle.irs_average.specs.Means.{IsMean, RateLiesBetween, LiesAmong, counted_rate, divisor, rate_or_zero, sum_over}
 use Rattle.irs_average.specs.Private.Means.{ShareOut}
 use Rattle.irs_average.specs.MeanPeriods.{IsMeanFound}
 use Rattle.irs_average.specs.declared.means.Mean.{Mean}
@@ -55,14 +55,14 @@ divisor_above Weighted days os above some = above
 
 -- ---- bounds
 
-some_within : (l g : ℤ) (r : Option ℤ) → IsSome r → IfSome r (IsWithin l g) → IsWithin l g (unwrap_or r (pos 0))
+some_within : (l g : ℤ) (r : Option ℤ) → IsSome r → IfSome r (RateLiesBetween l g) → RateLiesBetween l g (unwrap_or r (pos 0))
 some_within l g None some h = absurd (cc)
 some_within l g (Some r) some h = h
 
-counted_within : (l g : ℤ) (kind : Mean) (o : Observation) → pos 0 ≤ℤ o.weight → IsWithin l g (rate_in o)
-    → ((l *ℤ portion kind o) ≤ℤ counted kind o) × (counted kind o ≤ℤ (g *ℤ portion kind o))
+counted_within : (l g : ℤ) (kind : Mean) (o : Observation) → pos 0 ≤ℤ o.weight → RateLiesBetween l g (rate_or_zero o)
+    → ((l *ℤ portion kind o) ≤ℤ counted_rate kind o) × (counted_rate kind o ≤ℤ (g *ℤ portion kind o))
 counted_within l g Plain o some h = (omega (arith, signed_arith, h), omega (arith, signed_arith, h))
-counted_within l g Weighted o some h = (scaled l (rate_in o) o.weight h.0 some, scaled (rate_in o) g o.weight h.1 some)
+counted_within l g Weighted o some h = (scaled l (rate_or_zero o) o.weight h.0 some, scaled (rate_or_zero o) g o.weight h.1 some)
 
 both_sums : (a b s t x : ℤ) → x ≡ a +ℤ b → a ≤ℤ s → b ≤ℤ t → x ≤ℤ (s +ℤ t)
 both_sums a b s t x e h k = omega (arith, signed_arith, e, h, k)
@@ -71,13 +71,13 @@ sums_both : (a b s t x : ℤ) → x ≡ a +ℤ b → s ≤ℤ a → t ≤ℤ b �
 sums_both a b s t x e h k = omega (arith, signed_arith, e, h, k)
 
 sum_within : (l g : ℤ) (kind : Mean) (os : List Observation) → first_absent os ≡ None → All (λ o. pos 0 ≤ℤ o.weight) os
-    → All (λ o. IfSome o.rate (IsWithin l g)) os → ((l *ℤ sum_over (portion kind) os) ≤ℤ sum_over (counted kind) os)
-    × (sum_over (counted kind) os ≤ℤ (g *ℤ sum_over (portion kind) os))
+    → All (λ o. IfSome o.rate (RateLiesBetween l g)) os → ((l *ℤ sum_over (portion kind) os) ≤ℤ sum_over (counted_rate kind) os)
+    × (sum_over (counted_rate kind) os ≤ℤ (g *ℤ sum_over (portion kind) os))
 sum_within l g kind [] known weights within = (omega (arith, signed_arith), omega (arith, signed_arith))
 sum_within l g kind (o ∷ os) known weights within =
     let here = known_or o.rate o.day (first_absent os) known in
     let low : pos 0 ≤ℤ o.weight = weights 0 o (omega arith) in
-    let bounds : IfSome o.rate (IsWithin l g) = within 0 o (omega arith) in
+    let bounds : IfSome o.rate (RateLiesBetween l g) = within 0 o (omega arith) in
     let one = counted_within l g kind o low (some_within l g o.rate here.0 bounds) in
     let rest = sum_within l g kind os here.1 (λ k d less. weights (suc k) d (omega (arith, less)))
     (λ k d less. within (suc k) d (omega (arith, less))) in (
@@ -91,12 +91,12 @@ module _ (kind : Mean) (days : ℤ) (os : List Observation) (above : pos 0 <ℤ 
   mean_within x mean l g within =
       let by = divisor_is kind days os shares in
       let sums = sum_within l g kind os mean.known shares.weights within in
-      rounded_within (sum_over (counted kind) os) (divisor kind days os) x l g
+      rounded_within (sum_over (counted_rate kind) os) (divisor kind days os) x l g
       (divisor_above kind days os above shares.some) mean.rounded
-      (subst (λ (q : ℤ). (l *ℤ q) ≤ℤ sum_over (counted kind) os) (sym by) sums.0)
-      (subst (λ (q : ℤ). sum_over (counted kind) os ≤ℤ (g *ℤ q)) (sym by) sums.1)
+      (subst (λ (q : ℤ). (l *ℤ q) ≤ℤ sum_over (counted_rate kind) os) (sym by) sums.0)
+      (subst (λ (q : ℤ). sum_over (counted_rate kind) os ≤ℤ (g *ℤ q)) (sym by) sums.1)
 
-  rates_within : (r : Option ℤ) → IfSome r IsRate → IfSome r (IsWithin (neg_ℤ (pos most_rate)) (pos most_rate))
+  rates_within : (r : Option ℤ) → IfSome r IsRate → IfSome r (RateLiesBetween (neg_ℤ (pos most_rate)) (pos most_rate))
   rates_within None h = tt
   rates_within (Some r) h = within_small most_rate r h
 
@@ -116,7 +116,7 @@ module _ (kind : Mean) (days : ℤ) (os : List Observation) (above : pos 0 <ℤ 
   -- there is one mean, or one first day without a rate
   pub one_mean_found : (x y : Found) → IsMeanFound kind days os x → IsMeanFound kind days os y → x ≡ y
   one_mean_found (Rate x) (Rate y) p q =
-      ap Rate (nearest_once (sum_over (counted kind) os) (divisor kind days os) x y
+      ap Rate (nearest_once (sum_over (counted_rate kind) os) (divisor kind days os) x y
       (divisor_above kind days os above shares.some) p.rounded q.rounded)
   one_mean_found (Rate x) (Missing d) p q = absurd (apart (first_absent os) d p.known q)
   one_mean_found (Missing d) (Rate x) p q = absurd (apart (first_absent os) d q.known p)
@@ -125,7 +125,7 @@ module _ (kind : Mean) (days : ℤ) (os : List Observation) (above : pos 0 <ℤ 
   mean_by : (absent : Option ℤ) → first_absent os ≡ absent → (found : Found) × IsMeanFound kind days os found
   mean_by (Some d) e = (Missing d, e)
   mean_by None e =
-      let x = nearest_exists (sum_over (counted kind) os) (divisor kind days os)
+      let x = nearest_exists (sum_over (counted_rate kind) os) (divisor kind days os)
       (divisor_above kind days os above shares.some) in
       (Rate x.0, record { known = e; rounded = x.1 })
 

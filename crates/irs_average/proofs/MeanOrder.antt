@@ -6,20 +6,20 @@ use Rattle.irs_base.specs.Order.{First, level}
 use Rattle.irs_base.specs.declared.places.Fault.{Fault}
 use Rattle.irs_base.proofs.Firsts.{level_later, level_same}
 use Rattle.irs_resets.specs.ResetDates.{IsPeriod}
-use Rattle.irs_overnight.specs.DerivedRules.{NotAfter, derived_before, not_after_at}
+use Rattle.irs_overnight.specs.DerivedRules.{FixingNotAfter, derived_before, fixing_not_after_at}
 use Rattle.irs_overnight.proofs.DerivedOrder.{level_none}
-use Rattle.irs_average.specs.MeanRules.{BreaksMeans, BreaksSamples, LacksDay, lacking_at}
+use Rattle.irs_average.specs.MeanRules.{BreaksMeans, BreaksSamples, LacksSampleDay, lacking_at}
 use Rattle.irs_average.specs.MeanSources.{MeanSource, mean_period_at}
 
 -- in no period before this number an observation lacks a day
 abbrev pub KeptBelow : MeanSource → ℕ → Type 0
-KeptBelow source i = (j : ℕ) → IsPeriod source.adjusted j → j < i → LacksDay (mean_period_at source j) → ⊥
+KeptBelow source i = (j : ℕ) → IsPeriod source.adjusted j → j < i → LacksSampleDay (mean_period_at source j) → ⊥
 
 lacking_order : (j i : ℕ) → derived_before (lacking_at j) (lacking_at i) ≡ level j i false
 lacking_order j i = refl
 
 module _ (source : MeanSource) where
-  module _ (i : ℕ) (period : IsPeriod source.adjusted i) (lacks : LacksDay (mean_period_at source i))
+  module _ (i : ℕ) (period : IsPeriod source.adjusted i) (lacks : LacksSampleDay (mean_period_at source i))
       (kept : KeptBelow source i) where
     not_earlier : (f : Fault) → BreaksSamples source f → derived_before f (lacking_at i) ≡ false
     not_earlier f b =
@@ -40,7 +40,7 @@ module _ (source : MeanSource) where
   samples_kept i all kept f b = kept b.number b.period (all b.number b.period) b.lacks
 
   -- where fixing dates rise the first K43 is the first of all
-  pub first_of_samples : ((n : ℕ) → NotAfter source.resets n → ⊥) → (f : Fault)
+  pub first_of_samples : ((n : ℕ) → FixingNotAfter source.resets n → ⊥) → (f : Fault)
       → First derived_before (BreaksSamples source) f → First derived_before (BreaksMeans source) f
   first_of_samples rising f first = (
     inr first.0,
@@ -51,26 +51,26 @@ module _ (source : MeanSource) where
   )
 
   -- where no fixing date is out of order and no observation is lacking, no rule is broken
-  pub means_kept : ((n : ℕ) → NotAfter source.resets n → ⊥) → ((f : Fault) → BreaksSamples source f → ⊥) → (f : Fault)
+  pub means_kept : ((n : ℕ) → FixingNotAfter source.resets n → ⊥) → ((f : Fault) → BreaksSamples source f → ⊥) → (f : Fault)
       → BreaksMeans source f → ⊥
   means_kept rising samples f b = elim b [
     | inl order ↦ rising order.number order.not_after
     | inr lacks ↦ samples f lacks
   ]
 
-  after_order : (j n : ℕ) → derived_before (lacking_at j) (not_after_at n) ≡ false
+  after_order : (j n : ℕ) → derived_before (lacking_at j) (fixing_not_after_at n) ≡ false
   after_order j n = refl
 
   -- the lowest period whose fixing date isn't later is the first of all
-  pub first_order : (n : ℕ) → First nat_lt (NotAfter source.resets) n
-      → First derived_before (BreaksMeans source) (not_after_at n)
+  pub first_order : (n : ℕ) → First nat_lt (FixingNotAfter source.resets) n
+      → First derived_before (BreaksMeans source) (fixing_not_after_at n)
   first_order n first = (
     inl (record { number = n; not_after = first.0; is = refl }),
     λ g b. elim b [
       | inl order ↦
-          subst (λ (h : Fault). derived_before h (not_after_at n) ≡ false) (sym order.is)
+          subst (λ (h : Fault). derived_before h (fixing_not_after_at n) ≡ false) (sym order.is)
           (level_none order.number n (first.1 order.number order.not_after))
       | inr lacks ↦
-          subst (λ (h : Fault). derived_before h (not_after_at n) ≡ false) (sym lacks.is) (after_order lacks.number n)
+          subst (λ (h : Fault). derived_before h (fixing_not_after_at n) ≡ false) (sym lacks.is) (after_order lacks.number n)
     ],
   )

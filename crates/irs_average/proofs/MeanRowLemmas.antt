@@ -12,7 +12,7 @@ use Rattle.irs_overnight.specs.declared.observations.Observation.{Observation}
 use Rattle.irs_overnight.proofs.RowLemmas.{in_order, same_row}
 use Rattle.irs_average.specs.MeanPeriods.{FindsMean, IsMeanFound, MeanPeriod}
 use Rattle.irs_average.specs.MeanRows.{AreMeans, IsMeanRow}
-use Rattle.irs_average.specs.MeanRules.{BreaksMeans, LacksDay, lacking_at}
+use Rattle.irs_average.specs.MeanRules.{BreaksMeans, LacksSampleDay, lacking_at}
 use Rattle.irs_average.specs.MeanSources.{MeanSource, mean_period_at}
 use Rattle.irs_average.proofs.MeanLemmas.{mean_there, one_mean_found}
 use Rattle.irs_average.proofs.SampleLemmas.{one_samples, samples_there, shares_out}
@@ -31,7 +31,7 @@ module _ (p : MeanPeriod) (order : p.start <ℤ p.end) where
       (subst (λ (os : List Observation). IsMeanFound p.kind (p.end -ℤ p.start) os x) same a.is) b.is
 
   -- one whose observations all have a day gives a mean or a missing day
-  pub finds_there : 1 ≤ p.step → (LacksDay p → ⊥) → (found : Found) × FindsMean p found
+  pub finds_there : 1 ≤ p.step → (LacksSampleDay p → ⊥) → (found : Found) × FindsMean p found
   finds_there wide kept =
       let os = samples_there p.lines p.days p.step p.start p.end order wide kept in
       let found = mean_there p.kind (p.end -ℤ p.start) os.0 (longer p.start p.end order)

@@ -22,7 +22,7 @@ use Rattle.irs_average.proofs.KeptResets.{no_resets_broken}
 use Rattle.irs_schedule.specs.DaySets.{reset_days, stream_sets}
 use Rattle.irs_schedule.specs.Schedules.{IsLayout, IsPart}
 use Rattle.irs_schedule.specs.Parts.{Part}
-use Rattle.irs_overnight.specs.Overnight.{Asked, IsAsked, asked}
+use Rattle.irs_overnight.specs.Overnight.{OvernightAsked, IsAsked, asked}
 use Rattle.irs_overnight.specs.declared.derived.DerivedRow.{DerivedRow}
 use Rattle.irs_overnight.proofs.SourceLemmas.{partner, same_stream, some_part}
 use Rattle.irs_average.specs.Interpolations.{BreaksStub, BreaksTenors, IsInterpolated, IsStubBroken, LiesAmongTwo}
@@ -38,7 +38,7 @@ use Rattle.irs_average.proofs.LineLemmas.{one_stub_row, row_within}
 -- ---- the request, as for compounded rates
 
 -- the request, with the business days of the stream's reset dates
-abbrev pub with_days : (a : StubAsked) → IsStubAsked a → Asked
+abbrev pub with_days : (a : StubAsked) → IsStubAsked a → OvernightAsked
 with_days a h = asked a.swap a.number a.parts (reset_days h.calendars h.floats.1.stream) a.rates
 
 -- that request is one for compounded rates

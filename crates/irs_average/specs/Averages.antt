@@ -8,7 +8,7 @@ use Rattle.irs_schedule.specs.Parts.{Part}
 use Rattle.irs_terms.specs.declared.amounts.FloatTerms.{FloatTerms}
 use Rattle.irs_overnight.specs.DerivedRules.{derived_before}
 use Rattle.irs_overnight.specs.FileLaw.{AreFixings}
-use Rattle.irs_overnight.specs.Overnight.{Asked, IsAsked}
+use Rattle.irs_overnight.specs.Overnight.{OvernightAsked, IsAsked}
 use Rattle.irs_overnight.specs.Sources.{PaysFloating}
 use Rattle.irs_overnight.specs.declared.derived.DerivedRow.{DerivedRow}
 use Rattle.irs_overnight.specs.declared.derived.Found.TheVariants.{Rate}
@@ -27,12 +27,12 @@ most_step = 6_993
 
 -- the stream, the schedule, the business days and the rates; the mean, and the days from one observation to the next
 pub record AverageAsked : Type 0 where
-  pub of : Asked
+  pub of : OvernightAsked
   pub kind : Mean
   pub step : ℕ
 
 -- a request for averages, of these parts
-abbrev pub averaged : Asked → Mean → ℕ → AverageAsked
+abbrev pub averaged : OvernightAsked → Mean → ℕ → AverageAsked
 averaged of kind step = record { of = of; kind = kind; step = step }
 
 -- the request for the stream is as for compounded rates, and a step has 1 to 6,993 days

@@ -8,7 +8,7 @@ use Rattle.irs_base.specs.declared.places.Rule.TheVariants.{K45, K46}
 use Rattle.irs_overnight.specs.FileLaw.{AreFixings}
 use Rattle.irs_overnight.specs.declared.derived.DerivedRow.{DerivedRow}
 use Rattle.irs_overnight.specs.declared.derived.Found.TheVariants.{Rate}
-use Rattle.irs_average.specs.Means.{IsWithin}
+use Rattle.irs_average.specs.Means.{RateLiesBetween}
 use Rattle.irs_average.specs.StubRates.{IsStubRow, LiesOutside, tenor_rate}
 use Rattle.irs_average.specs.Stubs.{HasStub, Stub, StubAsked}
 
@@ -56,7 +56,7 @@ abbrev pub LiesAmongTwo : StubAsked → DerivedRow → Type 0
 LiesAmongTwo a row =
     (stub : Stub) → HasStub a stub → (x low high : ℤ) → row.found ≡ Rate x →
     tenor_rate stub.source a.low ≡ Some low → tenor_rate stub.source a.high ≡ Some high →
-    (least greatest : ℤ) → IsWithin least greatest low → IsWithin least greatest high → IsWithin least greatest x
+    (least greatest : ℤ) → RateLiesBetween least greatest low → RateLiesBetween least greatest high → RateLiesBetween least greatest x
 
 -- with the index and the tenor of the stub's `floatingRate` the row prints a fixing file that has exactly its rate
 abbrev pub StubReadsBack : StubAsked → DerivedRow → Type 0

@@ -8,13 +8,13 @@ use Rattle.irs_average.specs.declared.means.Mean.{Mean}
 use Rattle.irs_average.specs.declared.means.Mean.TheVariants.{Plain, Weighted}
 
 -- the rate of an observation, where it is there
-abbrev pub rate_in : Observation → ℤ
-rate_in o = unwrap_or o.rate (pos 0)
+abbrev pub rate_or_zero : Observation → ℤ
+rate_or_zero o = unwrap_or o.rate (pos 0)
 
 -- what an observation adds: its rate, by the weighted mean once for each day of its weight
-abbrev pub counted : Mean → Observation → ℤ
-counted Plain o = rate_in o
-counted Weighted o = rate_in o *ℤ o.weight
+abbrev pub counted_rate : Mean → Observation → ℤ
+counted_rate Plain o = rate_or_zero o
+counted_rate Weighted o = rate_or_zero o *ℤ o.weight
 
 -- a sum over observations
 abbrev pub sum_over : (Observation → ℤ) → List Observation → ℤ
@@ -29,14 +29,14 @@ divisor Weighted days os = days
 -- x is the mean of the rates observed in a period of this number of days, each of which is there
 pub record IsMean (kind : Mean) (days : ℤ) (os : List Observation) (x : ℤ) : Type 0 where
   pub known : first_absent os ≡ None
-  pub rounded : Rounded Nearest (sum_over (counted kind) os) (divisor kind days os) x
+  pub rounded : Rounded Nearest (sum_over (counted_rate kind) os) (divisor kind days os) x
 
 -- the rate lies between these bounds
-abbrev pub IsWithin : ℤ → ℤ → ℤ → Type 0
-IsWithin least greatest x = (least ≤ℤ x) × (x ≤ℤ greatest)
+abbrev pub RateLiesBetween : ℤ → ℤ → ℤ → Type 0
+RateLiesBetween least greatest x = (least ≤ℤ x) × (x ≤ℤ greatest)
 
 -- x lies within all bounds within which the rates of the observations lie, and so between the least and the
 -- greatest of them
 abbrev pub LiesAmong : List Observation → ℤ → Type 0
 LiesAmong os x =
-    (least greatest : ℤ) → All (λ o. IfSome o.rate (IsWithin least greatest)) os → IsWithin least greatest x
+    (least greatest : ℤ) → All (λ o. IfSome o.rate (RateLiesBetween least greatest)) os → RateLiesBetween least greatest x

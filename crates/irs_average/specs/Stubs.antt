@@ -1,7 +1,7 @@
 -- The stub of a stream on one of its two sides, and the index that is given for it.
 use Rattle.std.specs.Prelude.{◌≡◌, ℕ, ◌-◌, ◌≤◌, List, [], length, Option, Some, None, slice_get}
 use Rattle.irs_base.specs.Members.{day_at}
-use Rattle.irs_terms.specs.Lawful.{IsLawful, IsLawfulTenor}
+use Rattle.irs_terms.specs.Lawful.{IsLawfulSwap, IsLawfulTenor}
 use Rattle.irs_terms.specs.declared.amounts.StubRate.{StubRate}
 use Rattle.irs_terms.specs.declared.amounts.StubRate.TheVariants.{Index}
 use Rattle.irs_terms.specs.declared.amounts.StubTerms.{StubTerms}
@@ -11,7 +11,7 @@ use Rattle.irs_terms.specs.declared.stream.Stream.{Stream}
 use Rattle.irs_terms.specs.declared.stream_list.Swap.{Swap}
 use Rattle.irs_calendar.specs.declared.sections.Section.{Section}
 use Rattle.irs_periods.specs.Spans.{Regular}
-use Rattle.irs_resets.specs.ObservedRates.{IsFinal, IsInitial}
+use Rattle.irs_resets.specs.ObservedRates.{IsFinal, IsInitialStub}
 use Rattle.irs_resets.specs.Rates.{RateTable}
 use Rattle.irs_rules.specs.TermsRules.{BreaksNone}
 use Rattle.irs_schedule.specs.DatedRules.{DatedKept}
@@ -44,7 +44,7 @@ pub record GivesIndex (swap : Swap) (number : ℕ) (side : Side) (index : List �
 -- period i of n is the stub on that side. It is the first one where that begins before the regular span, or the last
 -- one where that ends after it
 abbrev pub IsStubOn : Side → Stream → Span → ℕ → ℕ → Type 0
-IsStubOn Initial s span n i = IsInitial s span i
+IsStubOn Initial s span n i = IsInitialStub s span i
 IsStubOn Last s span n i = IsFinal s span n i
 
 -- the stream of a swap by its number, the side, two tenors, the parts of a schedule, and the rates
@@ -65,7 +65,7 @@ stub_asked swap number side low high parts rates =
 -- the stream floats without calculationParameters, and both tenors count 1 to 999 of a unit other than the term. The parts are the schedule of the
 -- swap without fixings, by calendars with which no rule is broken
 pub record IsStubAsked (a : StubAsked) : Type 0 where
-  pub lawful : IsLawful a.swap
+  pub lawful : IsLawfulSwap a.swap
   pub floats : Floats a.swap a.number
   pub calendars : List Section
   pub terms : BreaksNone a.swap calendars

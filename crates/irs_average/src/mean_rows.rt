@@ -9,7 +9,7 @@ ghost use Rattle.irs_overnight.specs.FileLaw.{IsSmallFound};
 ghost use Rattle.irs_overnight.specs.Private.FileLaw.{IsInRange};
 ghost use Rattle.irs_average.specs.MeanPeriods.{FindsMean};
 ghost use Rattle.irs_average.specs.MeanRows.{AreMeans, IsMeanRow};
-ghost use Rattle.irs_average.specs.MeanRules.{BreaksMeans, BreaksSamples, LacksDay, lacking_at};
+ghost use Rattle.irs_average.specs.MeanRules.{BreaksMeans, BreaksSamples, LacksSampleDay, lacking_at};
 ghost use Rattle.irs_average.specs.MeanSources.{averaging_by, mean_period, mean_period_at, mean_source, own_lines};
 
 use crate::means::{Mean, mean_found};
@@ -42,9 +42,9 @@ fn period_mean<G: GoodDays>(
         IfOk result (λ o. IfSome o (FindsMean (mean_period by start end))) }
     ensures small { IfOk result (λ o. IfSome o IsSmallFound) }
     ensures unbroken { let by = averaging_by kind step (G.days days.now) (own_lines fix.now float.now) in
-        IfOk result (λ o. IfSome o (λ _. LacksDay (mean_period by start end) → ⊥)) }
+        IfOk result (λ o. IfSome o (λ _. LacksSampleDay (mean_period by start end) → ⊥)) }
     ensures none { let by = averaging_by kind step (G.days days.now) (own_lines fix.now float.now) in
-        IfOk result (λ o. IfNone o (LacksDay (mean_period by start end))) }
+        IfOk result (λ o. IfNone o (LacksSampleDay (mean_period by start end))) }
 {
     let steps = Steps::of(start, end, step);
     match samples(alloc, days, fix, float, &steps)? {
@@ -71,9 +71,9 @@ fn mean_row<G: GoodDays>(
         IfOk result (λ o. IfSome o (IsMeanRow (mean_source part.now by) number)) }
     ensures range { IfOk result (λ o. IfSome o IsInRange) }
     ensures unbroken { let by = averaging_by kind step (G.days days.now) (own_lines fix.now float.now) in
-        IfOk result (λ o. IfSome o (λ _. LacksDay (mean_period_at (mean_source part.now by) number) → ⊥)) }
+        IfOk result (λ o. IfSome o (λ _. LacksSampleDay (mean_period_at (mean_source part.now by) number) → ⊥)) }
     ensures none { let by = averaging_by kind step (G.days days.now) (own_lines fix.now float.now) in
-        IfOk result (λ o. IfNone o (LacksDay (mean_period_at (mean_source part.now by) number))) }
+        IfOk result (λ o. IfNone o (LacksSampleDay (mean_period_at (mean_source part.now by) number))) }
 {
     let adjusted = part.adjusted();
     let fixing = fixing_date(part, number);

@@ -10,7 +10,7 @@ ghost use Rattle.irs_overnight.specs.Observations.{first_absent};
 ghost use Rattle.irs_base.specs.Rounding.{Rounded};
 ghost use Rattle.irs_base.specs.declared.rounding.Direction.TheVariants.{Nearest};
 ghost use Rattle.irs_average.specs.MeanPeriods.{IsMeanFound};
-ghost use Rattle.irs_average.specs.Means.{IsMean, counted, divisor, sum_over};
+ghost use Rattle.irs_average.specs.Means.{IsMean, counted_rate, divisor, sum_over};
 ghost use Rattle.irs_average.specs.Private.Means.{ShareOut};
 
 use crate::rates::{as_rate, over_days};
@@ -42,7 +42,7 @@ fn rate_or_zero(rate: Option<i64>) -> i64
 // What an observation adds.
 fn counted(kind: Mean, o: Observation) -> i128
     requires { IsSmall o }
-    ensures value { result ≡ counted kind o }
+    ensures value { result ≡ counted_rate kind o }
     ensures size { unsigned_abs result ≤ 2 * 10 ^ 10 * all_days }
 {
     let rate = rate_or_zero(o.rate);
@@ -65,7 +65,7 @@ fn added(sum: i128, more: i128, count: usize) -> i128
 // What the observations add up to.
 fn total(kind: Mean, observations: &[Observation]) -> i128
     requires small { All IsSmall observations.now }
-    ensures value { result ≡ sum_over (counted kind) observations.now }
+    ensures value { result ≡ sum_over (counted_rate kind) observations.now }
     ensures size { unsigned_abs result ≤ length observations.now * (2 * 10 ^ 10 * all_days) }
 {
     let mut sum = 0;
@@ -94,7 +94,7 @@ fn rounded_mean(kind: Mean, days: i64, observations: &[Observation]) -> i128
     requires days { (pos 0 <ℤ days) × (unsigned_abs days < all_days) }
     requires small { All IsSmall observations.now }
     requires some { 0 < length observations.now }
-    ensures { Rounded Nearest (sum_over (counted kind) observations.now) (divisor kind days observations.now) result }
+    ensures { Rounded Nearest (sum_over (counted_rate kind) observations.now) (divisor kind days observations.now) result }
 {
     let sum = total(kind, observations);
     round(Direction::Nearest, sum, divisor(kind, days, observations))

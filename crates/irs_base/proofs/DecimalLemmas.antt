@@ -10,8 +10,9 @@ use Rattle.std.proofs.Math.Nat.{le_of_mul-le-mul_right, pow-le-pow_right}
 use Rattle.std.proofs.lemmas.Bool.Decides.{nat_tests}
 use Rattle.std.proofs.Common.{ℤ, pos, neg_ℤ}
 use Rattle.irs_base.specs.Decimals.DecText.{bare, plus, minus}
-use Rattle.irs_base.specs.Decimals.{DecText, AreDigits, number_after, number_of, padded, is_digit, is_zero}
-use Rattle.irs_base.specs.Decimals.{has_no_point, IsUnsigned, IsCut, AreParts}
+use Rattle.irs_base.specs.Dates.{is_digit}
+use Rattle.irs_base.specs.Decimals.{DecText, AreDigits, number_after, number_of, padded, is_zero}
+use Rattle.irs_base.specs.Decimals.{has_no_point, IsUnsigned, IsCutAtPoint, AreParts}
 
 -- one digit more leaves room for one digit less
 pub room_left : (n c count : ℕ) → 0 < count → c ≤ 9 → (10 * n + c + 1) * 10 ^ (count - 1) ≤ (n + 1) * 10 ^ count
@@ -91,7 +92,7 @@ with_a_point [] f h = point_first f h
 with_a_point (y ∷ ys) f h = with_a_point ys f (no_point_behind y (ys ++ 46 ∷ f) h)
 
 -- a text is cut in one way
-pub cut_once : (text w f x g : List ℕ) → IsCut text w f → IsCut text x g → (w ≡ x) × (f ≡ g)
+pub cut_once : (text w f x g : List ℕ) → IsCutAtPoint text w f → IsCutAtPoint text x g → (w ≡ x) × (f ≡ g)
 cut_once text w f x g a b = elim a.is [
   | inl none ↦ elim b.is [
     | inl other ↦ (sym none.0 ∙ other.0, none.1 ∙ sym other.1)
@@ -106,14 +107,14 @@ cut_once text w f x g a b = elim a.is [
 ]
 
 -- so where its parts are none of a decimal, no other cut's are
-pub not_cut_parts : (text w f : List ℕ) → IsCut text w f → (AreParts w f → ⊥) → (x g : List ℕ) → IsCut text x g
+pub not_cut_parts : (text w f : List ℕ) → IsCutAtPoint text w f → (AreParts w f → ⊥) → (x g : List ℕ) → IsCutAtPoint text x g
     → AreParts x g → ⊥
 not_cut_parts text w f cut none x g other parts =
     let same = cut_once text x g w f other cut in
     none (subst (λ (l : List ℕ). AreParts w l) same.1 (subst (λ (l : List ℕ). AreParts l g) same.0 parts))
 
 -- the parts of a decimal are those at its first point
-pub cut_parts : (text w f : List ℕ) (places v : ℕ) → IsCut text w f → (u : IsUnsigned text places v)
+pub cut_parts : (text w f : List ℕ) (places v : ℕ) → IsCutAtPoint text w f → (u : IsUnsigned text places v)
     → (u.whole ≡ w) × (u.fraction ≡ f)
 cut_parts text w f places v cut u = elim cut.is [
   | inl none ↦ elim u.is [
@@ -201,7 +202,7 @@ zeros_needed v n (suc p) (c ∷ cs) h e =
     zeros_needed v (10 * n + (c - 48)) p cs h.2 (omega (arith, e₂))
 
 -- what isn't refused is a decimal, and its value is what the digits spell
-pub unsigned_is : (text w f : List ℕ) (p : ℕ) → IsCut text w f → AreParts w f → list_all is_zero (drop p f) ≡ true
+pub unsigned_is : (text w f : List ℕ) (p : ℕ) → IsCutAtPoint text w f → AreParts w f → list_all is_zero (drop p f) ≡ true
     → IsUnsigned text p (number_after (number_of w) (padded p f))
 unsigned_is text w f p cut parts zeros =
     let n : ℕ = number_of w in
@@ -218,21 +219,21 @@ unsigned_is text w f p cut parts zeros =
     }
 
 -- and what has no parts is none
-pub no_parts : (text : List ℕ) (p v : ℕ) → ((w f : List ℕ) → IsCut text w f → AreParts w f → ⊥)
+pub no_parts : (text : List ℕ) (p v : ℕ) → ((w f : List ℕ) → IsCutAtPoint text w f → AreParts w f → ⊥)
     → IsUnsigned text p v → ⊥
 no_parts text p v none u =
     none u.whole u.fraction (record { no_point = no_point u.whole u.whole_digits; is = u.is })
     (u.whole_digits, u.fraction_digits, u.some, u.short)
 
 -- and what is refused is none
-pub not_parts : (text w f : List ℕ) (p v : ℕ) → IsCut text w f → (AreParts w f → ⊥) → IsUnsigned text p v → ⊥
+pub not_parts : (text w f : List ℕ) (p v : ℕ) → IsCutAtPoint text w f → (AreParts w f → ⊥) → IsUnsigned text p v → ⊥
 not_parts text w f p v cut h u =
     let parts = cut_parts text w f p v cut u in
     let are : AreParts u.whole u.fraction = (u.whole_digits, u.fraction_digits, u.some, u.short) in
     h (subst (λ (l : List ℕ). AreParts w l) parts.1 (subst (λ (l : List ℕ). AreParts l u.fraction) parts.0 are))
 
 -- a text with another digit than 0 after the last place spells no number of these places
-pub not_zeros : (text w f : List ℕ) (p v : ℕ) → IsCut text w f → (list_all is_zero (drop p f) ≡ true → ⊥)
+pub not_zeros : (text w f : List ℕ) (p v : ℕ) → IsCutAtPoint text w f → (list_all is_zero (drop p f) ≡ true → ⊥)
     → IsUnsigned text p v → ⊥
 not_zeros text w f p v cut h u =
     let parts = cut_parts text w f p v cut u in
@@ -244,7 +245,7 @@ not_zeros text w f p v cut h u =
 -- a text spells one number at most
 pub one_unsigned : (text : List ℕ) (p v k : ℕ) → IsUnsigned text p v → IsUnsigned text p k → v ≡ k
 one_unsigned text p v k a b =
-    let cut : IsCut text b.whole b.fraction = record { no_point = no_point b.whole b.whole_digits; is = b.is } in
+    let cut : IsCutAtPoint text b.whole b.fraction = record { no_point = no_point b.whole b.whole_digits; is = b.is } in
     let parts = cut_parts text b.whole b.fraction p v cut a in
     let e : v * 10 ^ length b.fraction ≡ number_of (b.whole ++ b.fraction) * 10 ^ p =
     rw (sym parts.0, sym parts.1) a.value in

@@ -4,8 +4,8 @@ use Rattle.std.proofs.Common.{codes, refl, sym, ap, subst, arith}
 use Rattle.std.specs.List.{list_all}
 use Rattle.std.proofs.lemmas.Bool.Decides.{nat_tests}
 use Rattle.std.proofs.lemmas.Option.{same_Some}
-use Rattle.irs_base.specs.Elements.{name_in, named}
-use Rattle.irs_base.specs.PathList.{paths, printed}
+use Rattle.irs_base.specs.Elements.{name_or_empty, named_elements}
+use Rattle.irs_base.specs.PathList.{paths, printed_paths}
 use Rattle.irs_base.specs.Paths.{are_whole, path_of, longest_path}
 use Rattle.irs_base.specs.declared.elements.TheConstants.{PATHS}
 use Rattle.irs_base.proofs.Orders.{both_true}
@@ -29,21 +29,21 @@ pub path_short : (i : ℕ) (p : List ℕ) → slice_get (map (λ p. p.now) PATHS
 path_short i p e = let s = short_at (map (λ p. p.now) PATHS) i p all_short e in grind (arith, nat_tests, s)
 
 -- the code's table of paths is that of the specification
-pub paths_are : map (λ p. p.now) PATHS ≡ printed
-unfolding paths printed
+pub paths_are : map (λ p. p.now) PATHS ≡ printed_paths
+unfolding paths printed_paths
 paths_are = refl
 
 -- the path at a place of the code is that of the specification
 pub path_found : (i : ℕ) (p : List ℕ) → slice_get (map (λ p. p.now) PATHS) i ≡ Some p → p ≡ path_of i
 unfolding path_of
-path_found i p e = sym (ap name_in (subst (λ (ps : List (List ℕ)). slice_get ps i ≡ Some p) paths_are e))
+path_found i p e = sym (ap name_or_empty (subst (λ (ps : List (List ℕ)). slice_get ps i ≡ Some p) paths_are e))
 
 -- no path stands twice, and each that is no name continues an earlier one
-pub paths_whole : are_whole [] printed ≡ true
-unfolding paths printed
+pub paths_whole : are_whole [] printed_paths ≡ true
+unfolding paths printed_paths
 paths_whole = refl
 
 -- the elements that are named have their paths
-pub named_paths : map (λ e. path_of e.0) named ≡ map (λ e. codes e.1) named
-unfolding named path_of paths printed
+pub named_paths : map (λ e. path_of e.0) named_elements ≡ map (λ e. codes e.1) named_elements
+unfolding named_elements path_of paths printed_paths
 named_paths = refl

@@ -8,14 +8,14 @@ use Rattle.jiff_core.specs.Calendar.{days_from_civil}
 use Rattle.jiff_core.proofs.SignedLemmas.{signed_arith}
 use Rattle.jiff_core.proofs.CalendarLemmas.{days_in_month_bounds}
 use Rattle.irs_base.specs.Days.{IsDay, HasDate}
-use Rattle.irs_base.specs.Dates.{is_digit, pair_at, is_civil, is_in_range, day_number, date_of_parts, date_at}
+use Rattle.irs_base.specs.Dates.{is_digit, digit_pair, is_civil, is_in_range, day_number, date_of_parts, date_at}
 use Rattle.irs_base.specs.Texts.{two_digits, date_text, IsPlainDate}
 use Rattle.irs_base.proofs.Orders.{both_true}
 use Rattle.irs_base.proofs.Dates.{year_range}
 use Rattle.irs_base.proofs.DateTexts.{plain_text}
 use Rattle.irs_base.proofs.DateLemmas.{day_is, range_is_true, civil_is_true}
 
-pair_two : (n : ℕ) → n < 100 → pair_at (48 + n / 10) (48 + n % 10) ≡ Some n
+pair_two : (n : ℕ) → n < 100 → digit_pair (48 + n / 10) (48 + n % 10) ≡ Some n
 pair_two n h =
     let a : nat_le 48 (48 + n / 10) ≡ true = grind arith in
     let b : nat_le (48 + n / 10) 57 ≡ true = grind (arith, h) in
@@ -47,7 +47,7 @@ plain_is text d day p =
 nat_some : (m n : ℕ) → Some m ≡ Some n → m ≡ n
 nat_some m n e = cc
 
-two_of : (a b n : ℕ) → pair_at a b ≡ Some n → (n < 100) × (two_digits n ≡ a ∷ b ∷ [])
+two_of : (a b n : ℕ) → digit_pair a b ≡ Some n → (n < 100) × (two_digits n ≡ a ∷ b ∷ [])
 two_of a b n e = elim (cases_Bool (is_digit a && is_digit b)) [
   | inl t ↦
       let p = both_true (is_digit a) (is_digit b) t in
@@ -123,9 +123,9 @@ is_plain text d e =
           let len : length text ≡ 10 = grind (arith, nat_tests, b.0) in
           let dash₁ : slice_index text 4 ≡ 45 = grind (arith, nat_tests, c.0) in
           let dash₂ : slice_index text 7 ≡ 45 = grind (arith, nat_tests, c.1) in
-          let p = parts_there (pair_at (slice_index text 0) (slice_index text 1))
-          (pair_at (slice_index text 2) (slice_index text 3)) (pair_at (slice_index text 5) (slice_index text 6))
-          (pair_at (slice_index text 8) (slice_index text 9)) d (rw t at e) in
+          let p = parts_there (digit_pair (slice_index text 0) (slice_index text 1))
+          (digit_pair (slice_index text 2) (slice_index text 3)) (digit_pair (slice_index text 5) (slice_index text 6))
+          (digit_pair (slice_index text 8) (slice_index text 9)) d (rw t at e) in
           let ce = two_of (slice_index text 0) (slice_index text 1) p.century p.is_century in
           let ye = two_of (slice_index text 2) (slice_index text 3) p.year p.is_year in
           let mo = two_of (slice_index text 5) (slice_index text 6) p.month p.is_month in

@@ -7,9 +7,9 @@ abbrev pub count : ℕ
 count = 167
 
 -- a name, where there is one
-abbrev pub name_in : Option (List ℕ) → List ℕ
-name_in None = []
-name_in (Some name) = name
+abbrev pub name_or_empty : Option (List ℕ) → List ℕ
+name_or_empty None = []
+name_or_empty (Some name) = name
 
 -- the places of the elements that rules and readers name
 abbrev pub document : ℕ
@@ -232,8 +232,8 @@ abbrev pub flow_period : ℕ
 flow_period = 152
 
 -- the same with their paths
-unfoldable pub named : List (ℕ × String)
-named =
+unfoldable pub named_elements : List (ℕ × String)
+named_elements =
     (document, "document")
     ∷ (swap, "swap")
     ∷ (swap_stream, "swapStream")

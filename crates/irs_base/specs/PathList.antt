@@ -175,5 +175,5 @@ paths =
     ∷ []
 
 -- the same, as contracts see texts
-unfoldable pub printed : List (List ℕ)
-printed = map codes paths
+unfoldable pub printed_paths : List (List ℕ)
+printed_paths = map codes paths

@@ -4,7 +4,8 @@ ghost use Rattle.std.specs.Prelude.{◌≡◌, ◌+◌, ◌*◌, ◌^◌, ◌<�
 ghost use Rattle.std.specs.Prelude.{unsigned_abs, IfSome, IfNone, IsTrue, ◌↔◌};
 ghost use Rattle.std.specs.List.{list_all};
 ghost use Rattle.irs_base.specs.Texts.{most_places};
-ghost use Rattle.irs_base.specs.Decimals.{AreDigits, AreParts, DecText, IsCut, IsUnsigned, is_digit, is_zero};
+ghost use Rattle.irs_base.specs.Dates.{is_digit};
+ghost use Rattle.irs_base.specs.Decimals.{AreDigits, AreParts, DecText, IsCutAtPoint, IsUnsigned, is_zero};
 ghost use Rattle.irs_base.specs.Decimals.{most_digits, number_after, number_of, padded};
 
 use crate::digits::power_of_ten;
@@ -47,7 +48,7 @@ fn are_zeros_past(digits: &[u8], places: u8) -> bool
 
 // What comes before the first point, and after it.
 fn cut_at_point(text: &[u8]) -> (&[u8], &[u8])
-    ensures { IsCut text.now result.0.now result.1.now }
+    ensures { IsCutAtPoint text.now result.0.now result.1.now }
 {
     for (i, b) in text.iter().enumerate() {
         if *b == b'.' {
@@ -61,9 +62,9 @@ fn cut_at_point(text: &[u8]) -> (&[u8], &[u8])
 /// isn't one: digits with at most one point, at least one digit, at most 18 before the point. The limit is
 /// our rule.
 pub fn decimal_parts(text: &[u8]) -> Option<(&[u8], &[u8])>
-    ensures cut { IfSome result (λ p. IsCut text.now p.0.now p.1.now) }
+    ensures cut { IfSome result (λ p. IsCutAtPoint text.now p.0.now p.1.now) }
     ensures parts { IfSome result (λ p. AreParts p.0.now p.1.now) }
-    ensures none { IfNone result ((w f : List ℕ) → IsCut text.now w f → AreParts w f → ⊥) }
+    ensures none { IfNone result ((w f : List ℕ) → IsCutAtPoint text.now w f → AreParts w f → ⊥) }
 {
     let (whole, fraction) = cut_at_point(text);
     if are_parts(whole, fraction) {

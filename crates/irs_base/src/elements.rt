@@ -4,8 +4,8 @@
 //! streams, then the elements of a stream of a trade (FpML's InterestRateStream), then those of
 //! another party's cash flows. The table and its order are our rule.
 ghost use Rattle.std.specs.Prelude.{◌≡◌, ◌<◌, ◌≤◌, ℕ, [], Some, SomeIff, codes, map, slice_get, length, true};
-ghost use Rattle.irs_base.specs.Elements.{count, named};
-ghost use Rattle.irs_base.specs.PathList.{printed};
+ghost use Rattle.irs_base.specs.Elements.{count, named_elements};
+ghost use Rattle.irs_base.specs.PathList.{printed_paths};
 ghost use Rattle.irs_base.specs.Paths.{are_whole, path_of, longest_path};
 ghost use Rattle.irs_base.specs.declared.elements.TheConstants.{PATHS};
 
@@ -233,18 +233,18 @@ fn path_at(paths: &[&'static str], place: usize) -> &'static str
 
 /// The paths are those that the specification lists, in its order.
 pub fn paths_listed()
-    ensures { map (λ p. p.now) PATHS ≡ printed }
+    ensures { map (λ p. p.now) PATHS ≡ printed_paths }
 {}
 
 /// No path stands twice. Each is a name, or it continues a path before it by a `/` and a name.
 pub fn paths_fit()
-    ensures { are_whole [] printed ≡ true }
+    ensures { are_whole [] printed_paths ≡ true }
 {}
 
 /// The elements that rules and readers name have the paths that the specification states.
 pub fn elements_named() -> [Elem; 55]
-    ensures places { result ≡ map (λ e. e.0) named }
-    ensures paths { map (λ e. path_of e.0) named ≡ map (λ e. codes e.1) named }
+    ensures places { result ≡ map (λ e. e.0) named_elements }
+    ensures paths { map (λ e. path_of e.0) named_elements ≡ map (λ e. codes e.1) named_elements }
 {
     [
         Elem::DOCUMENT,

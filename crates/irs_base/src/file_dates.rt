@@ -2,12 +2,12 @@
 ghost use Rattle.std.specs.Prelude.{◌≡◌, ◌<◌, ℤ, IfSome, IfNone};
 ghost use Rattle.irs_base.specs.Days.{IsDay};
 ghost use Rattle.irs_base.specs.Texts.{IsPlainDate};
-ghost use Rattle.irs_base.specs.Dates.{pair_at, day_number, date_at};
+ghost use Rattle.irs_base.specs.Dates.{digit_pair, day_number, date_at};
 
 use crate::{Civil, Day, day_of};
 
 fn pair(a: u8, b: u8) -> Option<u8>
-    ensures value { result ≡ pair_at a b }
+    ensures value { result ≡ digit_pair a b }
     ensures small { IfSome result (λ n. n < 100) }
 {
     if b'0' <= a && a <= b'9' && b'0' <= b && b <= b'9' {

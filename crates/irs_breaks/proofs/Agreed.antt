@@ -15,7 +15,7 @@ use Rattle.irs_schedule.specs.Parts.{IsWithin, KeepsBounds, Part}
 use Rattle.irs_schedule.specs.PeriodViews.{period_at}
 use Rattle.irs_schedule.specs.declared.entries.PaymentEntry.{PaymentEntry}
 use Rattle.irs_schedule.specs.declared.views.CalculationPeriod.{CalculationPeriod}
-use Rattle.irs_audit.specs.Agreement.{Agrees, KindDeparts, RowDeparts, StreamDeparts, stated_reset}
+use Rattle.irs_audit.specs.Agreement.{Agrees, KindDeparts, RowDeparts, StreamDeparts, stated_reset_at}
 use Rattle.irs_audit.specs.FieldDepartures.{ExchangeDeparts, PaymentDeparts, PeriodDeparts, ResetDeparts}
 use Rattle.irs_audit.specs.FlowParts.{FlowPart}
 use Rattle.irs_audit.specs.StatedValues.{NotStatedRightly}
@@ -28,14 +28,16 @@ use Rattle.irs_audit.specs.declared.flows.FlowPayment.{FlowPayment}
 use Rattle.irs_audit.specs.declared.flows.FlowPeriod.{FlowPeriod}
 use Rattle.irs_audit.specs.declared.flows.FlowReset.{FlowReset}
 use Rattle.irs_breaks.specs.BreakLists.{AreExchangesOf, ArePaymentsOf, IsBreakList, IsStream, StreamAt, first_due}
-use Rattle.irs_breaks.specs.BreakLists.{exchange_dates, payment_dates, stated_exchange_dates, stated_payment_dates}
+use Rattle.irs_breaks.specs.BreakLists.{exchange_dates, payment_row_dates, stated_exchange_dates, stated_payment_dates}
 use Rattle.irs_breaks.specs.Counting.{AreBreaks, TiesTo, counts_in}
 use Rattle.irs_breaks.specs.Fields.{exchange_fields, payment_fields, period_fields, reset_fields}
-use Rattle.irs_breaks.specs.Findings.{Exactly, Findings, OnRow, RowAt, Then, UpTo, counted, joined, nothing}
-use Rattle.irs_breaks.specs.RowFindings.{AreExchanges, AreFieldBreaks, ArePayments, ArePeriods, ArePeriodsOf, AreTold}
-use Rattle.irs_breaks.specs.RowFindings.{IsExchangeRow, IsPaymentRow, IsPeriodRow, IsReset, IsRow, UnlessBare}
+use Rattle.irs_breaks.specs.Findings.{Exactly, Findings, OnRow, RowAt, Then, UpTo, one_pair, joined_findings}
+use Rattle.irs_breaks.specs.Findings.{no_findings}
+use Rattle.irs_breaks.specs.RowFindings.{FindsExchange, AreFieldBreaks, FindsPayment, ArePeriods, ArePeriodsOf}
+use Rattle.irs_breaks.specs.RowFindings.{FindsRows}
+use Rattle.irs_breaks.specs.RowFindings.{IsExchangeRow, IsPaymentRow, IsPeriodRow, FindsReset, IsRow, UnlessBare}
 use Rattle.irs_breaks.specs.RowFindings.{counted_reset, field_breaks, moved, our_starts, payment_counts}
-use Rattle.irs_breaks.specs.RowFindings.{periods_before, place_of, reset_place, their_starts}
+use Rattle.irs_breaks.specs.RowFindings.{periods_before, break_place, reset_place, their_starts}
 use Rattle.irs_breaks.specs.declared.dated.PairedRow.{PairedRow}
 use Rattle.irs_breaks.specs.declared.findings.BreakPlace.{BreakPlace}
 use Rattle.irs_breaks.specs.declared.values.FieldValues.{FieldValues}
@@ -48,8 +50,8 @@ use Rattle.irs_breaks.proofs.RowLemmas.{eq_true, true_eq}
 
 -- a property that holds of no findings, and of two joined findings where it holds of each
 pub record IsClosed (Good : Findings → Type 0) : Type 0 where
-  pub none : Good nothing
-  pub both : (a b : Findings) → Good a → Good b → Good (joined a b)
+  pub none : Good no_findings
+  pub both : (a b : Findings) → Good a → Good b → Good (joined_findings a b)
 
 good_then : (Good : Findings → Type 0) → IsClosed Good → (P Q : Findings → Type 0) (l : Findings)
     → ((a : Findings) → P a → Good a) → ((a : Findings) → Q a → Good a) → Then P Q l → Good l
@@ -74,7 +76,7 @@ good_told : (Good : Findings → Type 0) → IsClosed Good → (from : ℤ) (day
     (Told : PairedRow → Findings → Type 0) (l : Findings) → ours ≡ map (λ (d : ℤ). Some d) days
     → theirs ≡ map (λ (d : ℤ). Some d) days
     → ((m : PairedRow) (a : Findings) → IsSameRow (length ours) m → Told m a → Good a)
-    → AreTold from ours theirs Told l → Good l
+    → FindsRows from ours theirs Told l → Good l
 good_told Good closed from days ours theirs Told l e f each h =
     good_up_to Good closed (RowAt Told h.rows) (length h.rows) l
     (λ k a is. good_on_row Good closed Told (slice_get h.rows k) a
@@ -215,20 +217,20 @@ IsAgreed p g = (kind : RowKind) (j : ℕ) (f : Field) → KindDeparts kind p g j
 -- the counts of each pair are good
 pub record HasGoodCounts (Good : Findings → Type 0) (p : Part) (g : FlowPart) : Type 0 where
   pub exchanges : (n : ℕ) (x : Exchange) (y : FlowExchange) → slice_get p.exchanges n ≡ Some x → slice_get g.exchanges n ≡ Some y
-      → Good (counted (counts_in (exchange_fields x y)))
+      → Good (one_pair (counts_in (exchange_fields x y)))
   pub payments : (n : ℕ) (x : PaymentEntry) (y : FlowPayment) → slice_get p.payments n ≡ Some x → slice_get g.payments n ≡ Some y
-      → Good (counted (payment_counts (y.periods == 0) (counts_in (payment_fields p.currency x y))))
+      → Good (one_pair (payment_counts (y.periods == 0) (counts_in (payment_fields p.currency x y))))
   pub periods : (n : ℕ) (x : CalculationPeriod) (y : FlowPeriod) → period_at p n ≡ Some x → slice_get g.periods n ≡ Some y
-      → Good (counted (counts_in (period_fields x y ++ counted_reset (slice_get p.resets n) y.reset)))
+      → Good (one_pair (counts_in (period_fields x y ++ counted_reset (slice_get p.resets n) y.reset)))
 
 module _ (Good : Findings → Type 0) (closed : IsClosed Good) (p : Part) (g : FlowPart) (bounds : KeepsBounds p)
     (agreed : IsAgreed p g) (counts : HasGoodCounts Good p g) (stream : ℕ) where
   good_exchange : (n : ℕ) (d : ℤ) (l : Findings) → IsExchangeRow stream p g (same_row n d) l → Good l
   good_exchange n d l h =
-      let place = place_of stream row.Exchange (same_row n d) in
-      good_row Good closed ExchangeDeparts (AreExchanges place) _ _ (slice_get p.exchanges n) (slice_get g.exchanges n) l
+      let place = break_place stream row.Exchange (same_row n d) in
+      good_row Good closed ExchangeDeparts (FindsExchange place) _ _ (slice_get p.exchanges n) (slice_get g.exchanges n) l
       (λ f. agreed row.Exchange n f)
-      (λ x y e f agree both. good_then Good closed (Exactly (counted (counts_in (exchange_fields x y))))
+      (λ x y e f agree both. good_then Good closed (Exactly (one_pair (counts_in (exchange_fields x y))))
       (AreFieldBreaks place (exchange_fields x y)) l
       (λ a is. good_exactly Good _ a (counts.exchanges n x y e f) is)
       (λ a is. good_fields Good closed (ExchangeDeparts x y) place (exchange_fields x y) a (exchange_ties x y) agree is) both) h
@@ -244,7 +246,7 @@ module _ (Good : Findings → Type 0) (closed : IsClosed Good) (p : Part) (g : F
       (subst (λ (z : PairedRow). IsExchangeRow stream p g z a) same.is told)) h
 
   good_reset : (place : BreakPlace) (r : Option Reset) (s : Option FlowReset) (l : Findings)
-      → ((f : Field) → RowDeparts ResetDeparts r s f → ⊥) → IsReset place r s l → Good l
+      → ((f : Field) → RowDeparts ResetDeparts r s f → ⊥) → FindsReset place r s l → Good l
   good_reset place (Some r) (Some y) l agree h =
       good_fields Good closed (ResetDeparts r y) (reset_place place) (reset_fields r y) l (reset_ties r y) agree h
   good_reset place (Some r) None l agree h = absurd (agree field.Missing refl)
@@ -253,16 +255,16 @@ module _ (Good : Findings → Type 0) (closed : IsClosed Good) (p : Part) (g : F
 
   good_period : (n : ℕ) (d : ℤ) (l : Findings) → IsPeriodRow stream p g (same_row n d) l → Good l
   good_period n d l h =
-      let place = place_of stream row.Period (same_row n d) in
+      let place = break_place stream row.Period (same_row n d) in
       let reset = slice_get p.resets n in
       good_row Good closed PeriodDeparts (ArePeriods place reset) _ _ (period_at p n) (slice_get g.periods n) l
       (λ f. agreed row.Period n f)
       (λ x y e f agree both.
-      let stated : stated_reset g n ≡ y.reset = ap (λ (o : Option FlowPeriod). option_and_then (λ z. z.reset) o) f in
-      good_then Good closed (Exactly (counted (counts_in (period_fields x y ++ counted_reset reset y.reset))))
-      (Then (AreFieldBreaks place (period_fields x y)) (IsReset place reset y.reset)) l
+      let stated : stated_reset_at g n ≡ y.reset = ap (λ (o : Option FlowPeriod). option_and_then (λ z. z.reset) o) f in
+      good_then Good closed (Exactly (one_pair (counts_in (period_fields x y ++ counted_reset reset y.reset))))
+      (Then (AreFieldBreaks place (period_fields x y)) (FindsReset place reset y.reset)) l
       (λ a is. good_exactly Good _ a (counts.periods n x y e f) is)
-      (λ a is. good_then Good closed (AreFieldBreaks place (period_fields x y)) (IsReset place reset y.reset) a
+      (λ a is. good_then Good closed (AreFieldBreaks place (period_fields x y)) (FindsReset place reset y.reset) a
       (λ b k. good_fields Good closed (PeriodDeparts x y) place (period_fields x y) b (period_ties x y) agree k)
       (λ b k. good_reset place reset y.reset b
       (subst (λ (s : Option FlowReset). (f : Field) → RowDeparts ResetDeparts reset s f → ⊥) stated
@@ -361,12 +363,12 @@ module _ (Good : Findings → Type 0) (closed : IsClosed Good) (p : Part) (g : F
 
   good_payment : (n : ℕ) (d : ℤ) (l : Findings) → IsPaymentRow stream p g (same_row n d) l → Good l
   good_payment n d l h =
-      let place = place_of stream row.Payment (same_row n d) in
+      let place = break_place stream row.Payment (same_row n d) in
       let before = periods_before g n in
-      good_row Good closed (PaymentDeparts p.currency) (ArePayments place p g before) _ _ (slice_get p.payments n)
+      good_row Good closed (PaymentDeparts p.currency) (FindsPayment place p g before) _ _ (slice_get p.payments n)
       (slice_get g.payments n) l (λ f. agreed row.Payment n f)
       (λ x y e f agree both.
-      good_then Good closed (Exactly (counted (payment_counts (y.periods == 0) (counts_in (payment_fields p.currency x y)))))
+      good_then Good closed (Exactly (one_pair (payment_counts (y.periods == 0) (counts_in (payment_fields p.currency x y)))))
       (Then (AreFieldBreaks place (payment_fields p.currency x y))
       (UnlessBare (y.periods == 0) (ArePeriodsOf stream p g x before y))) l
       (λ a is. good_exactly Good _ a (counts.payments n x y e f) is)
@@ -382,7 +384,7 @@ module _ (Good : Findings → Type 0) (closed : IsClosed Good) (p : Part) (g : F
       let dates = dates_same (λ (x : PaymentEntry). Some x.adjusted) (λ (y : FlowPayment). y.adjusted) p.payments g.payments
       (λ k. payment_date p (slice_get p.payments k) (slice_get g.payments k) (λ f. agreed row.Payment k f)) in
       let own = dated (λ (x : PaymentEntry). x.adjusted) p.payments in
-      good_told Good closed from (map (λ (x : PaymentEntry). x.adjusted) p.payments) (payment_dates p.payments)
+      good_told Good closed from (map (λ (x : PaymentEntry). x.adjusted) p.payments) (payment_row_dates p.payments)
       (stated_payment_dates g.payments) (IsPaymentRow stream p g) l own (dates ∙ own)
       (λ m a same told. good_payment same.place same.day a
       (subst (λ (z : PairedRow). IsPaymentRow stream p g z a) same.is told)) h

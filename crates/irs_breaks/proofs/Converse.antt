@@ -15,7 +15,7 @@ use Rattle.irs_terms.specs.Currencies.{decimals_of}
 use Rattle.irs_terms.specs.declared.currency.Currency.{Currency}
 use Rattle.irs_terms.specs.declared.results.Exchange.{Exchange}
 use Rattle.irs_terms.specs.declared.results.Reset.{Reset}
-use Rattle.irs_schedule.specs.Parts.{Covers, IsDatedExchange, IsDatedPayment, IsWithin, KeepsBounds, Part}
+use Rattle.irs_schedule.specs.Parts.{EntriesCover, IsDatedExchange, IsDatedPayment, IsWithin, KeepsBounds, Part}
 use Rattle.irs_schedule.specs.PeriodViews.{dated_period, period_at}
 use Rattle.irs_schedule.specs.declared.entries.PaymentEntry.{PaymentEntry}
 use Rattle.irs_schedule.specs.declared.entries.PeriodEntry.{PeriodEntry}
@@ -24,7 +24,7 @@ use Rattle.irs_audit.specs.Agreement.{Agrees, KindDeparts, RowDeparts, StreamDep
 use Rattle.irs_audit.specs.FieldDepartures.{ExchangeDeparts, PaymentDeparts, PeriodDeparts, ResetDeparts}
 use Rattle.irs_audit.specs.FlowBounds.{FlowsAreWithin, KeepsFlowBounds}
 use Rattle.irs_audit.specs.FlowParts.{FlowPart}
-use Rattle.irs_audit.specs.StatedValues.{IsAmount, IsNumber, NotStatedRightly, StatedWrongly, WhereKnown}
+use Rattle.irs_audit.specs.StatedValues.{StatesAmount, StatesNumber, NotStatedRightly, StatedWrongly, WhereKnown}
 use Rattle.irs_audit.specs.declared.departures.Field.{Field}
 use Rattle.irs_audit.specs.declared.departures.Field.TheVariants as field
 use Rattle.irs_audit.specs.declared.departures.RowKind.{RowKind}
@@ -36,14 +36,15 @@ use Rattle.irs_audit.specs.declared.flows.FlowReset.{FlowReset}
 use Rattle.irs_breaks.specs.BreakLists.{AreExchangesOf, ArePaymentsOf, HasBreak, IsBreakList, IsStream, StreamAt}
 use Rattle.irs_breaks.specs.Dated.{is_due}
 use Rattle.irs_breaks.specs.Counting.{counts_in, number_of, same_standing}
-use Rattle.irs_breaks.specs.Fields.{exchange_fields, notional_of, payment_fields, period_fields, rate_of, reset_fields}
+use Rattle.irs_breaks.specs.Fields.{exchange_fields, notional_of, payment_fields, period_fields, rate_decimal}
+use Rattle.irs_breaks.specs.Fields.{reset_fields}
 use Rattle.irs_breaks.specs.Fields.{reset_or_nothing}
-use Rattle.irs_breaks.specs.Findings.{Exactly, Findings, Then, counted}
+use Rattle.irs_breaks.specs.Findings.{Exactly, Findings, Then, one_pair}
 use Rattle.irs_breaks.specs.OneNumber.{HaveOneNumber, PairsHaveOneNumber, RowsHaveOneNumber}
-use Rattle.irs_breaks.specs.RowFindings.{AreExchanges, AreFieldBreaks, ArePayments, ArePeriods, ArePeriodsOf}
-use Rattle.irs_breaks.specs.RowFindings.{IsExchangeRow, IsPaymentRow, IsPeriodRow, IsReset, IsRow, UnlessBare}
+use Rattle.irs_breaks.specs.RowFindings.{FindsExchange, AreFieldBreaks, FindsPayment, ArePeriods, ArePeriodsOf}
+use Rattle.irs_breaks.specs.RowFindings.{IsExchangeRow, IsPaymentRow, IsPeriodRow, FindsReset, IsRow, UnlessBare}
 use Rattle.irs_breaks.specs.RowFindings.{break_at, counted_reset, extra_reset, member_at, moved, our_starts, ours_alone, payment_counts}
-use Rattle.irs_breaks.specs.RowFindings.{periods_before, place_of, reset_place, their_starts, theirs_alone}
+use Rattle.irs_breaks.specs.RowFindings.{periods_before, break_place, reset_place, their_starts, theirs_alone}
 use Rattle.irs_breaks.specs.Values.{Differ, standing_of, stands_by}
 use Rattle.irs_breaks.specs.declared.counting.Counts.{Counts}
 use Rattle.irs_breaks.specs.declared.dated.PairedRow.{PairedRow}
@@ -68,13 +69,13 @@ must_settled Is (Some y) same told h = same h
 
 -- nor does an amount, whether or not it is known
 amount_settled : (o : Option Dec) (s : Option ℤ) → ¬ (Differ (Numbers o s))
-    → same_standing (standing_of (Numbers o s)) Unstated ≡ false → WhereKnown (λ v. NotStatedRightly (IsAmount v) s) o → ⊥
+    → same_standing (standing_of (Numbers o s)) Unstated ≡ false → WhereKnown (λ v. NotStatedRightly (StatesAmount v) s) o → ⊥
 amount_settled None s same told h = h
-amount_settled (Some v) s same told h = must_settled (IsAmount v) s same told h
+amount_settled (Some v) s same told h = must_settled (StatesAmount v) s same told h
 
 -- nor does a rate
-rate_settled : (o : Option ℤ) (s : Option ℤ) → ¬ (Differ (Numbers (rate_of o) s))
-    → WhereKnown (λ r. StatedWrongly (IsNumber r 9) s) o → ⊥
+rate_settled : (o : Option ℤ) (s : Option ℤ) → ¬ (Differ (Numbers (rate_decimal o) s))
+    → WhereKnown (λ r. StatedWrongly (StatesNumber r 9) s) o → ⊥
 rate_settled None s same h = h
 rate_settled (Some r) s same h = same h
 
@@ -85,7 +86,7 @@ exchange_settled x y h field.UnadjustedPrincipalExchangeDate d = h.0.same d
 exchange_settled x y h field.AdjustedPrincipalExchangeDate d =
     must_settled (λ (e : ℤ). e ≡ x.adjusted) y.adjusted h.1.0.same h.1.0.told d
 exchange_settled x y h field.PrincipalExchangeAmount d =
-    must_settled (IsAmount x.amount) y.amount h.1.1.0.same h.1.1.0.told d
+    must_settled (StatesAmount x.amount) y.amount h.1.1.0.same h.1.1.0.told d
 exchange_settled x y h _ d = absurd d
 
 -- no field of a payment does, where the number of its periods is right
@@ -125,7 +126,7 @@ reset_fields_settled x y h field.ObservedRate d = rate_settled x.observed y.obse
 reset_fields_settled x y h _ d = absurd d
 
 -- a reset without a `rateObservation` leaves its date unstated; a `rateObservation` of a fixed stream breaks
-reset_settled : (place : BreakPlace) (r : Option Reset) (s : Option FlowReset) (a : Findings) → IsReset place r s a
+reset_settled : (place : BreakPlace) (r : Option Reset) (s : Option FlowReset) (a : Findings) → FindsReset place r s a
     → IsQuiet a → number_of Unstated (counted_reset r s) ≡ 0 → (f : Field) → RowDeparts ResetDeparts r s f → ⊥
 reset_settled place (Some r) (Some y) a h q zeros f d =
     reset_fields_settled r y (settled (reset_place place) (reset_fields r y) a h q zeros) f d
@@ -148,10 +149,10 @@ both_rows {X = X} {Y = Y} Both ours theirs (Some z) (Some w) x y a e f h =
     subst (λ (v : Y). Both x v a) (same_Some w y f) (subst (λ (v : X). Both v w a) (same_Some z x e) h)
 
 -- the fields of a pair of exchanges are settled
-exchange_pair : (place : BreakPlace) (x : Exchange) (y : FlowExchange) (a : Findings) → AreExchanges place x y a
+exchange_pair : (place : BreakPlace) (x : Exchange) (y : FlowExchange) (a : Findings) → FindsExchange place x y a
     → IsQuiet a → Every IsSettled (exchange_fields x y)
 exchange_pair place x y a h q =
-    let parts = quiet_then (Exactly (counted (counts_in (exchange_fields x y)))) (AreFieldBreaks place (exchange_fields x y)) a h q in
+    let parts = quiet_then (Exactly (one_pair (counts_in (exchange_fields x y)))) (AreFieldBreaks place (exchange_fields x y)) a h q in
     settled place (exchange_fields x y) h.second h.is_second parts.1
     (quiet_counted (counts_in (exchange_fields x y)) h.first h.is_first parts.0)
 
@@ -188,10 +189,10 @@ fields_zero false fields zeros = omega (arith, zeros)
 
 -- a pair of payments whose findings are quiet
 payment_pair : (place : BreakPlace) (p : Part) (g : FlowPart) (before : ℕ) (x : PaymentEntry) (y : FlowPayment) (a : Findings)
-    → ArePayments place p g before x y a → IsQuiet a → IsPair place.stream p g before x y
+    → FindsPayment place p g before x y a → IsQuiet a → IsPair place.stream p g before x y
 payment_pair place p g before x y a h q =
     let fields = payment_fields p.currency x y in
-    let first = quiet_then (Exactly (counted (payment_counts (y.periods == 0) (counts_in fields))))
+    let first = quiet_then (Exactly (one_pair (payment_counts (y.periods == 0) (counts_in fields))))
     (Then (AreFieldBreaks place fields) (UnlessBare (y.periods == 0) (ArePeriodsOf place.stream p g x before y))) a h q in
     let rest = quiet_then (AreFieldBreaks place fields) (UnlessBare (y.periods == 0) (ArePeriodsOf place.stream p g x before y))
     h.second h.is_second first.1 in
@@ -206,9 +207,9 @@ period_pair : (place : BreakPlace) (reset : Option Reset) (x : CalculationPeriod
     → ((f : Field) → PeriodDeparts x y f → ⊥) × ((f : Field) → RowDeparts ResetDeparts reset y.reset f → ⊥)
 period_pair place reset x y a h q =
     let fields = period_fields x y in
-    let first = quiet_then (Exactly (counted (counts_in (fields ++ counted_reset reset y.reset))))
-    (Then (AreFieldBreaks place fields) (IsReset place reset y.reset)) a h q in
-    let rest = quiet_then (AreFieldBreaks place fields) (IsReset place reset y.reset) h.second h.is_second first.1 in
+    let first = quiet_then (Exactly (one_pair (counts_in (fields ++ counted_reset reset y.reset))))
+    (Then (AreFieldBreaks place fields) (FindsReset place reset y.reset)) a h q in
+    let rest = quiet_then (AreFieldBreaks place fields) (FindsReset place reset y.reset) h.second h.is_second first.1 in
     let zeros = unstated_append fields (counted_reset reset y.reset)
     (quiet_counted (counts_in (fields ++ counted_reset reset y.reset)) h.first h.is_first first.0) in (
       period_settled x y (settled place fields h.is_second.first h.is_second.is_first rest.0 zeros.0),
@@ -233,7 +234,7 @@ due_stated None h = tt
 due_stated (Some d) h = due_first d h
 
 -- each period belongs to a payment
-covering : (from last : ℕ) (xs : List PaymentEntry) (j : ℕ) → Covers from xs last → from ≤ j + 1 → j < last
+covering : (from last : ℕ) (xs : List PaymentEntry) (j : ℕ) → EntriesCover from xs last → from ≤ j + 1 → j < last
     → (n : ℕ) × (x : PaymentEntry) × (slice_get xs n ≡ Some x) × (x.first_period ≤ j + 1) × (j + 1 ≤ x.last_period)
 covering from last [] j h low high = let empty = h in absurd (omega (arith, empty, low, high))
 covering from last (x ∷ xs) j h low high = elim (cases_lt x.last_period (j + 1)) [
@@ -244,7 +245,7 @@ covering from last (x ∷ xs) j h low high = elim (cases_lt x.last_period (j + 1
 ]
 
 -- payments with the right numbers of periods have all periods of the stream together
-all_counted : (from last : ℕ) (xs : List PaymentEntry) (ys : List FlowPayment) → Covers from xs last → Pairs HasCount xs ys
+all_counted : (from last : ℕ) (xs : List PaymentEntry) (ys : List FlowPayment) → EntriesCover from xs last → Pairs HasCount xs ys
     → from + sum_by (λ (y : FlowPayment). y.periods) ys ≡ last + 1
 all_counted from last [] [] h same = let empty = h in omega (arith, empty)
 all_counted from last [] (y ∷ ys) h same = absurd same
@@ -304,12 +305,12 @@ module _ (p : Part) (g : FlowPart) (bounds : KeepsBounds p) (flows : KeepsFlowBo
         (every_get (λ (z : FlowExchange). IfSome z.adjusted IsDay) g.exchanges n y flows.exchanges at);
     missing = λ n x d a at told quiet.
         let m : PairedRow = record { day = Some d; ours = Some n; theirs = None } in
-        missing_loud (AreExchanges (place_of stream row.Exchange m)) (place_of stream row.Exchange m) (λ (z : Exchange). Some z.amount)
+        missing_loud (FindsExchange (break_place stream row.Exchange m)) (break_place stream row.Exchange m) (λ (z : Exchange). Some z.amount)
         _ (slice_get p.exchanges n) x a at told quiet;
     extra = λ n y date a at told quiet.
         let m : PairedRow = record { day = date; ours = None; theirs = Some n } in
-        extra_loud (AreExchanges (place_of stream row.Exchange m))
-        (λ (z : Exchange). ours_alone (place_of stream row.Exchange m) (Some z.amount)) (place_of stream row.Exchange m) (decimals_of p.currency.letters)
+        extra_loud (FindsExchange (break_place stream row.Exchange m))
+        (λ (z : Exchange). ours_alone (break_place stream row.Exchange m) (Some z.amount)) (break_place stream row.Exchange m) (decimals_of p.currency.letters)
         (λ (z : FlowExchange). z.amount) (slice_get g.exchanges n) y a at told quiet;
   }
 
@@ -324,11 +325,11 @@ module _ (p : Part) (g : FlowPart) (bounds : KeepsBounds p) (flows : KeepsFlowBo
       let same : s.place ≡ n = let number = numbers.exchanges _ s pair in omega (arith, number) in
       let there : z ≡ y = same_Some z y (sym at ∙ (ap (λ (k : ℕ). slice_get g.exchanges k) same ∙ f)) in
       let m : PairedRow = record { day = Some x.adjusted; ours = Some n; theirs = Some s.place } in
-      let both = both_rows (AreExchanges (place_of stream row.Exchange m))
-      (λ (w : Exchange). ours_alone (place_of stream row.Exchange m) (Some w.amount))
-      (λ (w : FlowExchange). theirs_alone (place_of stream row.Exchange m) (decimals_of p.currency.letters) w.amount) (slice_get p.exchanges n) (slice_get g.exchanges s.place)
+      let both = both_rows (FindsExchange (break_place stream row.Exchange m))
+      (λ (w : Exchange). ours_alone (break_place stream row.Exchange m) (Some w.amount))
+      (λ (w : FlowExchange). theirs_alone (break_place stream row.Exchange m) (decimals_of p.currency.letters) w.amount) (slice_get p.exchanges n) (slice_get g.exchanges s.place)
       x z a e at told in
-      exchange_settled x z (exchange_pair (place_of stream row.Exchange m) x z a both calm) name
+      exchange_settled x z (exchange_pair (break_place stream row.Exchange m) x z a both calm) name
       (subst (λ (w : FlowExchange). ExchangeDeparts x w name) (sym there) d))
   exchange_agrees l h quiet n (Some x) None e f name d =
       has_partner first_day p.exchanges g.exchanges (λ (x : Exchange). x.adjusted)
@@ -398,13 +399,13 @@ module _ (p : Part) (g : FlowPart) (bounds : KeepsBounds p) (flows : KeepsFlowBo
             let there : period_at p (i + j) ≡ Some (dated_period p (i + j + 1) e.0) =
             ap (λ (o : Option PeriodEntry). option_map (dated_period p (i + j + 1)) o) e.1 in
             let m : PairedRow = moved i b (record { day = Some day; ours = Some j; theirs = None }) in
-            missing_loud (ArePeriods (place_of stream row.Period m) (member_at p.resets m.ours)) (place_of stream row.Period m)
+            missing_loud (ArePeriods (break_place stream row.Period m) (member_at p.resets m.ours)) (break_place stream row.Period m)
             (λ (z : CalculationPeriod). Some (notional_of z.notional)) _ (period_at p (i + j)) _ a there told quiet;
         extra = λ j z date a there told quiet.
             let part = part_member b y.periods j g.periods z there in
             let m : PairedRow = moved i b (record { day = date; ours = None; theirs = Some j }) in
-            extra_loud (ArePeriods (place_of stream row.Period m) (member_at p.resets m.ours))
-            (λ (w : CalculationPeriod). ours_alone (place_of stream row.Period m) (Some (notional_of w.notional))) (place_of stream row.Period m) 4
+            extra_loud (ArePeriods (break_place stream row.Period m) (member_at p.resets m.ours))
+            (λ (w : CalculationPeriod). ours_alone (break_place stream row.Period m) (Some (notional_of w.notional))) (break_place stream row.Period m) 4
             (λ (w : FlowPeriod). w.notional) (slice_get g.periods (b + j)) z a part.1 told quiet;
       }
 
@@ -492,12 +493,12 @@ module _ (p : Part) (g : FlowPart) (bounds : KeepsBounds p) (flows : KeepsFlowBo
         (every_get (λ (z : FlowPayment). IfSome z.adjusted IsDay) g.payments n y flows.payments at);
     missing = λ n x d a at told quiet.
         let m : PairedRow = record { day = Some d; ours = Some n; theirs = None } in
-        missing_loud (ArePayments (place_of stream row.Payment m) p g (periods_before g (unwrap_or m.theirs 0))) (place_of stream row.Payment m)
+        missing_loud (FindsPayment (break_place stream row.Payment m) p g (periods_before g (unwrap_or m.theirs 0))) (break_place stream row.Payment m)
         (λ (z : PaymentEntry). z.amount) _ (slice_get p.payments n) x a at told quiet;
     extra = λ n y date a at told quiet.
         let m : PairedRow = record { day = date; ours = None; theirs = Some n } in
-        extra_loud (ArePayments (place_of stream row.Payment m) p g (periods_before g (unwrap_or m.theirs 0)))
-        (λ (z : PaymentEntry). ours_alone (place_of stream row.Payment m) z.amount) (place_of stream row.Payment m)
+        extra_loud (FindsPayment (break_place stream row.Payment m) p g (periods_before g (unwrap_or m.theirs 0)))
+        (λ (z : PaymentEntry). ours_alone (break_place stream row.Payment m) z.amount) (break_place stream row.Payment m)
         (decimals_of p.currency.letters) (λ (z : FlowPayment). z.amount) (slice_get g.payments n) y a at told quiet;
   }
 
@@ -512,12 +513,12 @@ module _ (p : Part) (g : FlowPart) (bounds : KeepsBounds p) (flows : KeepsFlowBo
       (λ s y a paired at told calm.
       let same : s.place ≡ n = let number = numbers.payments _ s paired in omega (arith, number) in
       let m : PairedRow = record { day = Some x.adjusted; ours = Some n; theirs = Some s.place } in
-      let both = both_rows (ArePayments (place_of stream row.Payment m) p g (periods_before g s.place))
-      (λ (w : PaymentEntry). ours_alone (place_of stream row.Payment m) w.amount)
-      (λ (w : FlowPayment). theirs_alone (place_of stream row.Payment m) (decimals_of p.currency.letters) w.amount) (slice_get p.payments n)
+      let both = both_rows (FindsPayment (break_place stream row.Payment m) p g (periods_before g s.place))
+      (λ (w : PaymentEntry). ours_alone (break_place stream row.Payment m) w.amount)
+      (λ (w : FlowPayment). theirs_alone (break_place stream row.Payment m) (decimals_of p.currency.letters) w.amount) (slice_get p.payments n)
       (slice_get g.payments s.place) x y a e at told in
       let one = numbers.periods _ s paired x y e at in
-      let pair = payment_pair (place_of stream row.Payment m) p g (periods_before g s.place) x y a both calm in
+      let pair = payment_pair (break_place stream row.Payment m) p g (periods_before g s.place) x y a both calm in
       next y (subst (λ (k : ℕ). slice_get g.payments k ≡ Some y) same at) (subst (λ (k : ℕ). HaveOneStart x k y) same one)
       (subst (λ (k : ℕ). IsPair stream p g (periods_before g k) x y) same pair))
 
@@ -592,11 +593,11 @@ module _ (p : Part) (g : FlowPart) (bounds : KeepsBounds p) (flows : KeepsFlowBo
       ap (λ (o : Option PeriodEntry). option_map (dated_period p (j + 1)) o) e.1 in
       let m : PairedRow = moved i b (record { day = Some d.0; ours = Some q; theirs = Some s.place }) in
       let own2 : period_at p (i + q) ≡ Some (dated_period p (j + 1) e.0) = ap (λ (c : ℕ). period_at p c) ours ∙ own in
-      let both = both_rows (ArePeriods (place_of stream row.Period m) (slice_get p.resets (i + q)))
-      (λ (w : CalculationPeriod). ours_alone (place_of stream row.Period m) (Some (notional_of w.notional)))
-      (λ (w : FlowPeriod). theirs_alone (place_of stream row.Period m) 4 w.notional) (period_at p (i + q))
+      let both = both_rows (ArePeriods (break_place stream row.Period m) (slice_get p.resets (i + q)))
+      (λ (w : CalculationPeriod). ours_alone (break_place stream row.Period m) (Some (notional_of w.notional)))
+      (λ (w : FlowPeriod). theirs_alone (break_place stream row.Period m) 4 w.notional) (period_at p (i + q))
       (slice_get g.periods (b + s.place)) (dated_period p (j + 1) e.0) z a own2 part.1 told in
-      let fields = period_pair (place_of stream row.Period m) (slice_get p.resets (i + q)) (dated_period p (j + 1) e.0) z a both calm in
+      let fields = period_pair (break_place stream row.Period m) (slice_get p.resets (i + q)) (dated_period p (j + 1) e.0) z a both calm in
       next (dated_period p (j + 1) e.0) z own (subst (λ (c : ℕ). slice_get g.periods c ≡ Some z) theirs part.1) fields.0
       (subst (λ (c : ℕ). (f : Field) → RowDeparts ResetDeparts (slice_get p.resets c) z.reset f → ⊥) ours fields.1)))
 

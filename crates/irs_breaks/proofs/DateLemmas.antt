@@ -6,7 +6,7 @@ use Rattle.std.specs.Ordering.{int_cmp, int_eq, is_lt}
 use Rattle.std.proofs.lemmas.Bool.{and_parts, cases_Bool, cond-false, cond-true, or_cases, not-true, not_from_false, both_ways, false_from_ne_true}
 use Rattle.jiff_core.proofs.SignedLemmas.{signed_arith}
 use Rattle.irs_base.proofs.Orders.{lt_true, true_lt}
-use Rattle.irs_breaks.specs.Private.Blocks.{AreInGap, AreTogether, HasDate, IsBetween, IsCommon}
+use Rattle.irs_breaks.specs.Private.Blocks.{AreInGap, AreTogether, HasRowOfDate, IsBetween, IsCommon}
 use Rattle.irs_breaks.specs.Pairing.{are_cut, are_in_gap, are_together, has_date, is_common, lies_between}
 use Rattle.irs_breaks.specs.declared.dated.DatedRow.{DatedRow}
 use Rattle.irs_breaks.proofs.RowLemmas.{any_at, any_true, eq_true, true_eq}
@@ -20,12 +20,12 @@ or_either true b h = refl
 or_either false b (inl h) = absurd (cc)
 or_either false b (inr h) = h
 
-dated_true : (rows : List DatedRow) (d : ℤ) → has_date rows d ≡ true → HasDate rows d
+dated_true : (rows : List DatedRow) (d : ℤ) → has_date rows d ≡ true → HasRowOfDate rows d
 dated_true rows d h =
     let found = any_true (λ (r : DatedRow). int_eq r.day d) rows h in
     (found.0, found.1, found.2, eq_true found.1.day d found.3)
 
-true_dated : (rows : List DatedRow) (d : ℤ) → HasDate rows d → has_date rows d ≡ true
+true_dated : (rows : List DatedRow) (d : ℤ) → HasRowOfDate rows d → has_date rows d ≡ true
 true_dated rows d h = any_at (λ (r : DatedRow). int_eq r.day d) rows h.0 h.1 h.2 (true_eq h.1.day d h.3)
 
 -- a date that passes the test is common

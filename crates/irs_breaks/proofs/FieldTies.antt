@@ -1,9 +1,10 @@
 -- A field differs exactly where it is compared and the audit says that it departs.
 use Rattle.std.proofs.Common.{◌≡◌, ◌≤◌, Option, Some, None, ℤ, arith, refl}
 use Rattle.std.specs.Prelude.{IfSome}
-use Rattle.irs_audit.specs.Comparisons.{IsSmall}
+use Rattle.irs_audit.specs.Comparisons.{IsBoundedFraction}
 use Rattle.irs_audit.specs.FieldDepartures.{ExchangeDeparts, PaymentDeparts, PeriodDeparts, ResetDeparts}
-use Rattle.irs_audit.specs.StatedValues.{IsAmount, IsFraction, IsNumber, NotStatedRightly, StatedWrongly, WhereKnown}
+use Rattle.irs_audit.specs.StatedValues.{StatesAmount, StatesFraction, StatesNumber, NotStatedRightly, StatedWrongly}
+use Rattle.irs_audit.specs.StatedValues.{WhereKnown}
 use Rattle.irs_audit.specs.declared.flows.FlowExchange.{FlowExchange}
 use Rattle.irs_audit.specs.declared.flows.FlowPayment.{FlowPayment}
 use Rattle.irs_audit.specs.declared.flows.FlowPeriod.{FlowPeriod}
@@ -16,7 +17,7 @@ use Rattle.irs_terms.specs.declared.currency.Currency.{Currency}
 use Rattle.irs_terms.specs.declared.results.Exchange.{Exchange}
 use Rattle.irs_terms.specs.declared.results.Reset.{Reset}
 use Rattle.irs_breaks.specs.Counting.{IsComparable, TiesTo}
-use Rattle.irs_breaks.specs.Fields.{exchange_fields, payment_fields, period_fields, rate_of, reset_fields}
+use Rattle.irs_breaks.specs.Fields.{exchange_fields, payment_fields, period_fields, rate_decimal, reset_fields}
 use Rattle.irs_breaks.specs.Values.{CanBeCompared, standing_of, stands_by}
 use Rattle.irs_breaks.specs.declared.values.Standing.TheVariants.{Compared}
 use Rattle.irs_breaks.specs.declared.values.Values.TheVariants.{Numbers}
@@ -38,32 +39,32 @@ must_back Is (Some y) e h = h
 
 -- ---- amounts and rates that the schedule may not know
 
-amount_stated : (o : Option Dec) (s : Option ℤ) → WhereKnown (λ v. StatedWrongly (IsAmount v) s) o
+amount_stated : (o : Option Dec) (s : Option ℤ) → WhereKnown (λ v. StatedWrongly (StatesAmount v) s) o
     → standing_of (Numbers o s) ≡ Compared
 amount_stated None s h = absurd h
-amount_stated (Some v) s h = stated (IsAmount v) s h
+amount_stated (Some v) s h = stated (StatesAmount v) s h
 
-amount_must : (o : Option Dec) (s : Option ℤ) → WhereKnown (λ v. StatedWrongly (IsAmount v) s) o
-    → WhereKnown (λ v. NotStatedRightly (IsAmount v) s) o
+amount_must : (o : Option Dec) (s : Option ℤ) → WhereKnown (λ v. StatedWrongly (StatesAmount v) s) o
+    → WhereKnown (λ v. NotStatedRightly (StatesAmount v) s) o
 amount_must None s h = absurd h
-amount_must (Some v) s h = must (IsAmount v) s h
+amount_must (Some v) s h = must (StatesAmount v) s h
 
 amount_back : (o : Option Dec) (s : Option ℤ) → standing_of (Numbers o s) ≡ Compared
-    → WhereKnown (λ v. NotStatedRightly (IsAmount v) s) o → WhereKnown (λ v. StatedWrongly (IsAmount v) s) o
+    → WhereKnown (λ v. NotStatedRightly (StatesAmount v) s) o → WhereKnown (λ v. StatedWrongly (StatesAmount v) s) o
 amount_back None s e h = absurd h
-amount_back (Some v) s e h = must_back (IsAmount v) s e h
+amount_back (Some v) s e h = must_back (StatesAmount v) s e h
 
-rate_stated : (o : Option ℤ) (s : Option ℤ) → WhereKnown (λ v. StatedWrongly (IsAmount v) s) (rate_of o)
-    → standing_of (Numbers (rate_of o) s) ≡ Compared
-rate_stated o s h = amount_stated (rate_of o) s h
+rate_stated : (o : Option ℤ) (s : Option ℤ) → WhereKnown (λ v. StatedWrongly (StatesAmount v) s) (rate_decimal o)
+    → standing_of (Numbers (rate_decimal o) s) ≡ Compared
+rate_stated o s h = amount_stated (rate_decimal o) s h
 
-rate_departs : (o : Option ℤ) (s : Option ℤ) → WhereKnown (λ v. StatedWrongly (IsAmount v) s) (rate_of o)
-    → WhereKnown (λ r. StatedWrongly (IsNumber r 9) s) o
+rate_departs : (o : Option ℤ) (s : Option ℤ) → WhereKnown (λ v. StatedWrongly (StatesAmount v) s) (rate_decimal o)
+    → WhereKnown (λ r. StatedWrongly (StatesNumber r 9) s) o
 rate_departs None s h = absurd h
 rate_departs (Some r) s h = h
 
-rate_back : (o : Option ℤ) (s : Option ℤ) → WhereKnown (λ r. StatedWrongly (IsNumber r 9) s) o
-    → WhereKnown (λ v. StatedWrongly (IsAmount v) s) (rate_of o)
+rate_back : (o : Option ℤ) (s : Option ℤ) → WhereKnown (λ r. StatedWrongly (StatesNumber r 9) s) o
+    → WhereKnown (λ v. StatedWrongly (StatesAmount v) s) (rate_decimal o)
 rate_back None s h = absurd h
 rate_back (Some r) s h = h
 
@@ -76,7 +77,7 @@ exchange_ties x y = (
   (
     record { compared = stated (λ d. d ≡ x.adjusted) y.adjusted; departs = must (λ d. d ≡ x.adjusted) y.adjusted; back = must_back (λ d. d ≡ x.adjusted) y.adjusted },
     (
-      record { compared = stated (IsAmount x.amount) y.amount; departs = must (IsAmount x.amount) y.amount; back = must_back (IsAmount x.amount) y.amount },
+      record { compared = stated (StatesAmount x.amount) y.amount; departs = must (StatesAmount x.amount) y.amount; back = must_back (StatesAmount x.amount) y.amount },
       tt,
     ),
   ),
@@ -112,11 +113,11 @@ period_ties x y = (
         (
           record { compared = stated (λ n. n ≡ x.days) y.days; departs = λ h. h; back = λ e h. h },
           (
-            record { compared = stated (IsNumber x.notional 4) y.notional; departs = λ h. h; back = λ e h. h },
+            record { compared = stated (StatesNumber x.notional 4) y.notional; departs = λ h. h; back = λ e h. h },
             (
               record { compared = rate_stated x.rate y.rate; departs = rate_departs x.rate y.rate; back = λ e h. rate_back x.rate y.rate h },
               (
-                record { compared = stated (IsFraction x.frac) y.fraction; departs = λ h. h; back = λ e h. h },
+                record { compared = stated (StatesFraction x.frac) y.fraction; departs = λ h. h; back = λ e h. h },
                 tt,
               ),
             ),
@@ -142,7 +143,7 @@ reset_ties x y = (
 
 -- ---- what can be compared
 
-rate_comparable : (o : Option ℤ) (s : Option ℤ) → CanBeCompared (Numbers (rate_of o) s)
+rate_comparable : (o : Option ℤ) (s : Option ℤ) → CanBeCompared (Numbers (rate_decimal o) s)
 rate_comparable None s = tt
 rate_comparable (Some r) s = omega arith
 
@@ -160,7 +161,7 @@ pub payment_comparable : (currency : Currency) (x : PaymentEntry) (y : FlowPayme
 payment_comparable currency x y h = (tt, (tt, (tt, (amount_comparable x.amount y.amount h, tt))))
 
 -- the fields of a calculation period can be compared
-pub period_comparable : (x : CalculationPeriod) (y : FlowPeriod) → IsSmall x.frac → Every IsComparable (period_fields x y)
+pub period_comparable : (x : CalculationPeriod) (y : FlowPeriod) → IsBoundedFraction x.frac → Every IsComparable (period_fields x y)
 period_comparable x y h =
     (tt, (tt, (tt, (tt, (tt, (omega arith, (rate_comparable x.rate y.rate, (h, tt))))))))
 

@@ -4,7 +4,8 @@ use Rattle.std.proofs.Common.{arith, get_or}
 use Rattle.std.specs.Prelude.{slice_get}
 use Rattle.std.proofs.lemmas.List.{append-nil, append_assoc}
 use Rattle.std.proofs.lemmas.Option.{slice_get-get_or}
-use Rattle.irs_breaks.specs.Findings.{EachRow, Exactly, Findings, OnRow, RowAt, Then, UpTo, joined, nothing}
+use Rattle.irs_breaks.specs.Findings.{EachRow, Exactly, Findings, OnRow, RowAt, Then, UpTo, joined_findings}
+use Rattle.irs_breaks.specs.Findings.{no_findings}
 use Rattle.irs_breaks.specs.Private.Findings.{Adds}
 use Rattle.irs_breaks.specs.declared.counting.Counts.{Counts}
 use Rattle.irs_breaks.specs.declared.findings.Break.{Break}
@@ -14,27 +15,27 @@ abbrev made : List Break → List Counts → Findings
 made b p = record { breaks = b; pairs = p }
 
 -- findings followed by none are the same findings
-pub joined_nothing : (a : Findings) → joined a nothing ≡ a
+pub joined_nothing : (a : Findings) → joined_findings a no_findings ≡ a
 joined_nothing a = ap₂ made (append-nil a.breaks) (append-nil a.pairs)
 
 -- findings can be joined in any grouping
-pub joined_assoc : (a b c : Findings) → joined (joined a b) c ≡ joined a (joined b c)
+pub joined_assoc : (a b c : Findings) → joined_findings (joined_findings a b) c ≡ joined_findings a (joined_findings b c)
 joined_assoc a b c = ap₂ made (append_assoc a.breaks b.breaks c.breaks) (append_assoc a.pairs b.pairs c.pairs)
 
 -- before the first place nothing has been added
 pub adds_none : (Is : ℕ → Findings → Type 0) (a : Findings) → Adds (UpTo Is 0) a a
-adds_none Is a = (nothing, refl, sym (joined_nothing a))
+adds_none Is a = (no_findings, refl, sym (joined_nothing a))
 
 -- no findings add nothing
-pub adds_nothing : (a : Findings) → Adds (Exactly nothing) a a
-adds_nothing a = (nothing, refl, sym (joined_nothing a))
+pub adds_nothing : (a : Findings) → Adds (Exactly no_findings) a a
+adds_nothing a = (no_findings, refl, sym (joined_nothing a))
 
 -- findings that are added in two steps
 pub adds_then : (P Q : Findings → Type 0) (a b c : Findings) → Adds P a b → Adds Q b c → Adds (Then P Q) a c
 adds_then P Q a b c h k = (
-  joined h.0 k.0,
+  joined_findings h.0 k.0,
   record { first = h.0; second = k.0; is_first = h.1; is_second = k.1; is = refl },
-  k.2 ∙ (ap (λ (z : Findings). joined z k.0) h.2 ∙ joined_assoc a h.0 k.0),
+  k.2 ∙ (ap (λ (z : Findings). joined_findings z k.0) h.2 ∙ joined_assoc a h.0 k.0),
 )
 
 -- the findings of one more place are added

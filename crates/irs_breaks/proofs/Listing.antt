@@ -11,7 +11,7 @@ use Rattle.irs_breaks.specs.Blocks.{At}
 use Rattle.irs_breaks.specs.Private.Blocks.{IsPartner}
 use Rattle.irs_breaks.specs.Dated.{rows_from}
 use Rattle.irs_breaks.specs.Private.Merging.{IsDatedRow, IsMergedTo}
-use Rattle.irs_breaks.specs.PairedRows.{Ahead, ComesBefore, IsListed, IsPairing, row_of_ours}
+use Rattle.irs_breaks.specs.PairedRows.{Ahead, ComesBefore, IsListedRow, IsPairing, row_of_ours}
 use Rattle.irs_breaks.specs.PairedRows.{extra, missing, paired, undated, undated_extra, undated_ours, undated_theirs}
 use Rattle.irs_breaks.specs.Pairing.{ArePaired}
 use Rattle.irs_breaks.specs.Private.Undated.{AreListedTo, ListsUndated, ListsUndatedExtras}
@@ -25,7 +25,7 @@ use Rattle.irs_breaks.proofs.Merging.{order_push, push_every}
 -- a merged row is listed, where the merged lists are those of the dates in order
 listed_row : (from : ℤ) (ours theirs : List (Option ℤ)) (s t : List DatedRow) (m : PairedRow)
     → IsPermutation (rows_from from 0 ours) s → IsPermutation (rows_from from 0 theirs) t → IsDatedRow s t m
-    → IsListed from ours theirs m
+    → IsListedRow from ours theirs m
 listed_row from ours theirs s t m a b (inl (x, None, inside, alone, is)) =
     missing x (Contains-permutation s (rows_from from 0 ours) x (IsPermutation-sym _ s a) inside)
     (λ y h. alone y (arranged_paired (rows_from from 0 ours) s (rows_from from 0 theirs) t x y a b h)) is
@@ -53,7 +53,7 @@ has_none s t rows x (Some n) alone partner c = absurd (alone partner.0 partner.1
 -- each listed row with a date is among the merged rows
 dated_row : (from : ℤ) (ours theirs : List (Option ℤ)) (s t : List DatedRow) (rows : List PairedRow)
     → IsPermutation (rows_from from 0 ours) s → IsPermutation (rows_from from 0 theirs) t
-    → IsMergedTo s t (length s) (length t) rows → (m : PairedRow) → IsListed from ours theirs m → m.day ≢ None
+    → IsMergedTo s t (length s) (length t) rows → (m : PairedRow) → IsListedRow from ours theirs m → m.day ≢ None
     → Contains rows m
 dated_row from ours theirs s t rows a b h m (paired x y pair is) day =
     let here = arranged_paired (rows_from from 0 ours) s (rows_from from 0 theirs) t x y a b pair in
@@ -116,7 +116,7 @@ pub listed_ours : (from : ℤ) (ours theirs : List (Option ℤ)) (i : ℕ) (rows
     → AreListedTo from ours theirs i 0 rows → At ours i None
     → AreListedTo from ours theirs (i + 1) 0 (rows ++ undated_ours i ∷ [])
 listed_ours from ours theirs i rows h at = record {
-  sound = push_every (IsListed from ours theirs) rows (undated_ours i) h.sound (undated i at refl);
+  sound = push_every (IsListedRow from ours theirs) rows (undated_ours i) h.sound (undated i at refl);
   dated = λ m is day. Contains-append_left rows (undated_ours i ∷ []) m (h.dated m is day);
   of_ours = λ n l atn. elim (earlier_or i n l) [
     | inl old ↦ Contains-append_left rows (undated_ours i ∷ []) (undated_ours n) (h.of_ours n old atn)
@@ -154,7 +154,7 @@ pub listed_theirs : (from : ℤ) (ours theirs : List (Option ℤ)) (j : ℕ) (ro
     → AreListedTo from ours theirs (length ours) j rows → At theirs j None
     → AreListedTo from ours theirs (length ours) (j + 1) (rows ++ undated_theirs j ∷ [])
 listed_theirs from ours theirs j rows h at = record {
-  sound = push_every (IsListed from ours theirs) rows (undated_theirs j) h.sound (undated_extra j at refl);
+  sound = push_every (IsListedRow from ours theirs) rows (undated_theirs j) h.sound (undated_extra j at refl);
   dated = λ m is day. Contains-append_left rows (undated_theirs j ∷ []) m (h.dated m is day);
   of_ours = λ n l atn. Contains-append_left rows (undated_theirs j ∷ []) (undated_ours n) (h.of_ours n l atn);
   of_theirs = λ n l atn. elim (earlier_or j n l) [
@@ -186,7 +186,7 @@ listed_theirs_skip from ours theirs j rows d h at = record {
 }
 
 whole : (from : ℤ) (ours theirs : List (Option ℤ)) (rows : List PairedRow)
-    → AreListedTo from ours theirs (length ours) (length theirs) rows → (m : PairedRow) → IsListed from ours theirs m
+    → AreListedTo from ours theirs (length ours) (length theirs) rows → (m : PairedRow) → IsListedRow from ours theirs m
     → Contains rows m
 whole from ours theirs rows h m (paired x y pair is) =
     h.dated m (paired x y pair is) (λ e. none-some x.day (sym e ∙ ap (λ (r : PairedRow). r.day) is))

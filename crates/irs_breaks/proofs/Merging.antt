@@ -15,7 +15,7 @@ use Rattle.jiff_core.proofs.SignedLemmas.{signed_arith}
 use Rattle.irs_breaks.specs.Blocks.{At}
 use Rattle.irs_breaks.specs.Private.Blocks.{AreRising, IsEarlier, IsPartner}
 use Rattle.irs_breaks.specs.Private.Merging.{IsAlone, IsBeforeAll, IsDatedRow, IsMergedBefore, IsMergedTo, IsNotBefore}
-use Rattle.irs_breaks.specs.PairedRows.{AreInOrder, ComesBefore, row_of_ours, row_of_theirs}
+use Rattle.irs_breaks.specs.PairedRows.{AreRowsInOrder, ComesBefore, row_of_ours, row_of_theirs}
 use Rattle.irs_breaks.specs.Pairing.{ArePaired}
 use Rattle.irs_breaks.specs.declared.dated.DatedRow.{DatedRow}
 use Rattle.irs_breaks.specs.declared.dated.PairedRow.{PairedRow}
@@ -35,8 +35,8 @@ at_push_cases (z ∷ zs) y (suc k) x at =
     (at_push_cases zs y k x at)
 
 -- a list stays in order where a row that comes after all others is appended
-pub order_push : (rows : List PairedRow) (n : PairedRow) → AreInOrder rows
-    → ((m : PairedRow) → Contains rows m → ComesBefore m n) → AreInOrder (rows ++ n ∷ [])
+pub order_push : (rows : List PairedRow) (n : PairedRow) → AreRowsInOrder rows
+    → ((m : PairedRow) → Contains rows m → ComesBefore m n) → AreRowsInOrder (rows ++ n ∷ [])
 order_push rows n ordered before p q a b less ata atb =
     elim (at_push_cases rows n q b atb) [
       | inl old ↦

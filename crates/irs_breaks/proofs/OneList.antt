@@ -9,14 +9,15 @@ use Rattle.irs_audit.specs.FlowParts.{FlowPart}
 use Rattle.irs_audit.specs.declared.flows.FlowReset.{FlowReset}
 use Rattle.irs_audit.specs.declared.departures.RowKind.TheVariants as row
 use Rattle.irs_breaks.specs.BreakLists.{AreExchangesOf, ArePaymentsOf, IsBreakList, IsStream, StreamAt, first_due}
-use Rattle.irs_breaks.specs.BreakLists.{exchange_dates, payment_dates, stated_exchange_dates, stated_payment_dates}
+use Rattle.irs_breaks.specs.BreakLists.{exchange_dates, payment_row_dates, stated_exchange_dates, stated_payment_dates}
 use Rattle.irs_breaks.specs.Counting.{AreBreaks, counts_in}
 use Rattle.irs_breaks.specs.Fields.{exchange_fields, payment_fields, period_fields, reset_fields, reset_or_nothing}
-use Rattle.irs_breaks.specs.Findings.{EachRow, Exactly, Findings, OnRow, RowAt, Then, UpTo, counted, joined}
-use Rattle.irs_breaks.specs.RowFindings.{AreExchanges, AreFieldBreaks, ArePayments, ArePeriods, ArePeriodsOf, AreTold}
-use Rattle.irs_breaks.specs.RowFindings.{IsExchangeRow, IsPaymentRow, IsPeriodRow, IsReset, IsRow, UnlessBare}
+use Rattle.irs_breaks.specs.Findings.{EachRow, Exactly, Findings, OnRow, RowAt, Then, UpTo, one_pair, joined_findings}
+use Rattle.irs_breaks.specs.RowFindings.{FindsExchange, AreFieldBreaks, FindsPayment, ArePeriods, ArePeriodsOf}
+use Rattle.irs_breaks.specs.RowFindings.{FindsRows}
+use Rattle.irs_breaks.specs.RowFindings.{IsExchangeRow, IsPaymentRow, IsPeriodRow, FindsReset, IsRow, UnlessBare}
 use Rattle.irs_breaks.specs.RowFindings.{counted_reset, field_breaks, member_at, moved, payment_counts, reset_place}
-use Rattle.irs_breaks.specs.RowFindings.{periods_before, place_of, our_starts, their_starts}
+use Rattle.irs_breaks.specs.RowFindings.{periods_before, break_place, our_starts, their_starts}
 use Rattle.irs_base.specs.Days.{first_day}
 use Rattle.irs_breaks.specs.declared.dated.PairedRow.{PairedRow}
 use Rattle.irs_breaks.specs.declared.findings.BreakPlace.{BreakPlace}
@@ -34,7 +35,7 @@ only_exactly wanted a b h k = h ∙ sym k
 
 only_then : (P Q : Findings → Type 0) → Only P → Only Q → Only (Then P Q)
 only_then P Q p q a b h k =
-    h.is ∙ (ap₂ joined (p h.first k.first h.is_first k.is_first) (q h.second k.second h.is_second k.is_second) ∙ sym k.is)
+    h.is ∙ (ap₂ joined_findings (p h.first k.first h.is_first k.is_first) (q h.second k.second h.is_second k.is_second) ∙ sym k.is)
 
 only_up_to : (Is : ℕ → Findings → Type 0) → ((n : ℕ) → Only (Is n)) → (n : ℕ) → Only (UpTo Is n)
 only_up_to Is each zero a b h k = h ∙ sym k
@@ -76,7 +77,7 @@ only_row Both ours theirs each None (Some y) a b h k = h ∙ sym k
 only_row Both ours theirs each None None a b h k = h ∙ sym k
 
 only_told : (from : ℤ) (ours theirs : List (Option ℤ)) (Told : PairedRow → Findings → Type 0)
-    → ((m : PairedRow) → Only (Told m)) → Only (AreTold from ours theirs Told)
+    → ((m : PairedRow) → Only (Told m)) → Only (FindsRows from ours theirs Told)
 only_told from ours theirs Told each a b h k =
     let same = one_pairing from ours theirs h.rows k.rows h.paired k.paired in
     only_each Told each k.rows a b (subst (λ (rows : List PairedRow). EachRow Told rows a) same h.each) k.each
@@ -85,27 +86,27 @@ only_told from ours theirs Told each a b h k =
 
 only_exchange : (stream : ℕ) (p : Part) (g : FlowPart) (m : PairedRow) → Only (IsExchangeRow stream p g m)
 only_exchange stream p g m a b h k =
-    only_row (AreExchanges (place_of stream row.Exchange m)) _ _
-    (λ x y. only_then (Exactly (counted (counts_in (exchange_fields x y))))
-    (AreFieldBreaks (place_of stream row.Exchange m) (exchange_fields x y)) (only_exactly _)
-    (only_fields (place_of stream row.Exchange m) (exchange_fields x y)))
+    only_row (FindsExchange (break_place stream row.Exchange m)) _ _
+    (λ x y. only_then (Exactly (one_pair (counts_in (exchange_fields x y))))
+    (AreFieldBreaks (break_place stream row.Exchange m) (exchange_fields x y)) (only_exactly _)
+    (only_fields (break_place stream row.Exchange m) (exchange_fields x y)))
     (member_at p.exchanges m.ours) (member_at g.exchanges m.theirs) a b h k
 
 -- ---- calculation periods
 
-only_reset : (place : BreakPlace) (r : Option Reset) (s : Option FlowReset) → Only (IsReset place r s)
+only_reset : (place : BreakPlace) (r : Option Reset) (s : Option FlowReset) → Only (FindsReset place r s)
 only_reset place (Some r) s a b h k = only_fields (reset_place place) (reset_fields r (reset_or_nothing s)) a b h k
 only_reset place None (Some y) a b h k = h ∙ sym k
 only_reset place None None a b h k = h ∙ sym k
 
 only_period : (stream : ℕ) (p : Part) (g : FlowPart) (m : PairedRow) → Only (IsPeriodRow stream p g m)
 only_period stream p g m a b h k =
-    let place = place_of stream row.Period m in
+    let place = break_place stream row.Period m in
     let reset = member_at p.resets m.ours in
     only_row (ArePeriods place reset) _ _
-    (λ x y. only_then (Exactly (counted (counts_in (period_fields x y ++ counted_reset reset y.reset))))
-    (Then (AreFieldBreaks place (period_fields x y)) (IsReset place reset y.reset)) (only_exactly _)
-    (only_then (AreFieldBreaks place (period_fields x y)) (IsReset place reset y.reset)
+    (λ x y. only_then (Exactly (one_pair (counts_in (period_fields x y ++ counted_reset reset y.reset))))
+    (Then (AreFieldBreaks place (period_fields x y)) (FindsReset place reset y.reset)) (only_exactly _)
+    (only_then (AreFieldBreaks place (period_fields x y)) (FindsReset place reset y.reset)
     (only_fields place (period_fields x y)) (only_reset place reset y.reset)))
     (option_and_then (period_at p) m.ours) (member_at g.periods m.theirs) a b h k
 
@@ -123,10 +124,10 @@ only_bare false Told one a b h k = one a b h k
 
 only_payment : (stream : ℕ) (p : Part) (g : FlowPart) (m : PairedRow) → Only (IsPaymentRow stream p g m)
 only_payment stream p g m a b h k =
-    let place = place_of stream row.Payment m in
+    let place = break_place stream row.Payment m in
     let before = periods_before g (unwrap_or m.theirs 0) in
-    only_row (ArePayments place p g before) _ _
-    (λ x y. only_then (Exactly (counted (payment_counts (y.periods == 0) (counts_in (payment_fields p.currency x y)))))
+    only_row (FindsPayment place p g before) _ _
+    (λ x y. only_then (Exactly (one_pair (payment_counts (y.periods == 0) (counts_in (payment_fields p.currency x y)))))
     (Then (AreFieldBreaks place (payment_fields p.currency x y))
     (UnlessBare (y.periods == 0) (ArePeriodsOf stream p g x before y))) (only_exactly _)
     (only_then (AreFieldBreaks place (payment_fields p.currency x y))
@@ -141,7 +142,7 @@ only_stream from stream (Some p) (Some g) a b h k =
     only_then (AreExchangesOf from stream p g) (ArePaymentsOf from stream p g)
     (only_told from (exchange_dates p.exchanges) (stated_exchange_dates g.exchanges) (IsExchangeRow stream p g)
     (only_exchange stream p g))
-    (only_told from (payment_dates p.payments) (stated_payment_dates g.payments) (IsPaymentRow stream p g)
+    (only_told from (payment_row_dates p.payments) (stated_payment_dates g.payments) (IsPaymentRow stream p g)
     (only_payment stream p g)) a b h k
 only_stream from stream (Some p) None a b h k = h ∙ sym k
 only_stream from stream None (Some g) a b h k = h ∙ sym k

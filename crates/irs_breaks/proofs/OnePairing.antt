@@ -5,7 +5,7 @@ use Rattle.std.specs.List.{Contains}
 use Rattle.std.proofs.lemmas.Option.{same_Some, slice_get-get_or}
 use Rattle.jiff_core.proofs.SignedLemmas.{signed_arith}
 use Rattle.irs_breaks.specs.Blocks.{At}
-use Rattle.irs_breaks.specs.PairedRows.{Ahead, AreInOrder, ComesBefore, IsPairing}
+use Rattle.irs_breaks.specs.PairedRows.{Ahead, AreRowsInOrder, ComesBefore, IsPairing}
 use Rattle.irs_breaks.specs.declared.dated.PairedRow.{PairedRow}
 use Rattle.irs_breaks.proofs.Merging.{contains_at}
 
@@ -41,7 +41,7 @@ before_back m n h k =
 
 -- ---- lists in order
 
-order_rest : (m : PairedRow) (ms : List PairedRow) → AreInOrder (m ∷ ms) → AreInOrder ms
+order_rest : (m : PairedRow) (ms : List PairedRow) → AreRowsInOrder (m ∷ ms) → AreRowsInOrder ms
 order_rest m ms h p q a b less ata atb = h (suc p) (suc q) a b (omega (arith, less)) ata atb
 
 at_rest : (m n : PairedRow) (ms : List PairedRow) (k : ℕ) → At (m ∷ ms) k n → (m ≡ n) ⊎ Contains ms n
@@ -58,11 +58,11 @@ contains_more : (m n : PairedRow) (ms : List PairedRow) → Contains ms n → Co
 contains_more m n ms c = let place = at_contains ms n c in contains_at (m ∷ ms) (suc place.0) n place.1
 
 -- the first row comes before each other
-first_before : (m n : PairedRow) (ms : List PairedRow) → AreInOrder (m ∷ ms) → Contains ms n → ComesBefore m n
+first_before : (m n : PairedRow) (ms : List PairedRow) → AreRowsInOrder (m ∷ ms) → Contains ms n → ComesBefore m n
 first_before m n ms h c =
     let place = at_contains ms n c in h zero (suc place.0) m n (omega arith) refl place.1
 
-first_same : (m n : PairedRow) (ms ns : List PairedRow) → AreInOrder (m ∷ ms) → AreInOrder (n ∷ ns)
+first_same : (m n : PairedRow) (ms ns : List PairedRow) → AreRowsInOrder (m ∷ ms) → AreRowsInOrder (n ∷ ns)
     → Contains (n ∷ ns) m → Contains (m ∷ ms) n → m ≡ n
 first_same m n ms ns h k c d = elim (contains_rest n m ns c) [
   | inl same ↦ sym same
@@ -73,7 +73,7 @@ first_same m n ms ns h k c d = elim (contains_rest n m ns c) [
 ]
 
 -- a member of both that isn't the first of one isn't the first of the other
-in_rest : (m n x : PairedRow) (ms ns : List PairedRow) → AreInOrder (m ∷ ms) → m ≡ n → Contains ms x → Contains (n ∷ ns) x
+in_rest : (m n x : PairedRow) (ms ns : List PairedRow) → AreRowsInOrder (m ∷ ms) → m ≡ n → Contains ms x → Contains (n ∷ ns) x
     → Contains ns x
 in_rest m n x ms ns h same inside c = elim (contains_rest n x ns c) [
   | inl first ↦
@@ -83,7 +83,7 @@ in_rest m n x ms ns h same inside c = elim (contains_rest n x ns c) [
 ]
 
 -- two ordered lists with the same members are the same
-pub one_in_order : (ms ns : List PairedRow) → AreInOrder ms → AreInOrder ns
+pub one_in_order : (ms ns : List PairedRow) → AreRowsInOrder ms → AreRowsInOrder ns
     → ((x : PairedRow) → Contains ms x → Contains ns x) → ((x : PairedRow) → Contains ns x → Contains ms x) → ms ≡ ns
 one_in_order [] [] h k to back = refl
 one_in_order [] (n ∷ ns) h k to back = let c = (back n (contains_first n ns)).1 in absurd (omega (arith, c))

@@ -6,10 +6,10 @@ use Rattle.std.specs.List.{Contains}
 use Rattle.std.proofs.lemmas.Option.{cond_some, none-some, same_Some, slice_get-get_or, slice_get-map}
 use Rattle.irs_breaks.specs.Dated.{dated_row, in_front, is_due, rows_from}
 use Rattle.irs_breaks.specs.Findings.{Findings, OnRow, RowAt}
-use Rattle.irs_breaks.specs.PairedRows.{IsListed, row_of_ours, row_of_theirs, undated_theirs}
+use Rattle.irs_breaks.specs.PairedRows.{IsListedRow, row_of_ours, row_of_theirs, undated_theirs}
 use Rattle.irs_breaks.specs.PairedRows.{extra, missing, paired, undated_extra}
 use Rattle.irs_breaks.specs.Pairing.{ArePaired}
-use Rattle.irs_breaks.specs.RowFindings.{AreTold}
+use Rattle.irs_breaks.specs.RowFindings.{FindsRows}
 use Rattle.irs_breaks.specs.declared.dated.DatedRow.{DatedRow}
 use Rattle.irs_breaks.specs.declared.dated.PairedRow.{PairedRow}
 use Rattle.irs_breaks.proofs.Quiet.{IsQuiet, quiet_up_to}
@@ -86,7 +86,7 @@ date_at from dates r c =
 
 -- each listed row reports nothing, where all of them together do
 quiet_row : (from : ℤ) (ours theirs : List (Option ℤ)) (Told : PairedRow → Findings → Type 0) (l : Findings)
-    → AreTold from ours theirs Told l → IsQuiet l → (m : PairedRow) → IsListed from ours theirs m
+    → FindsRows from ours theirs Told l → IsQuiet l → (m : PairedRow) → IsListedRow from ours theirs m
     → (a : Findings) × Told m a × IsQuiet a
 quiet_row from ours theirs Told l h q m listed =
     let c = h.paired.complete m listed in
@@ -99,7 +99,7 @@ quiet_row from ours theirs Told l h q m listed =
 pub record AreQuiet {X Y : Type 0} (from : ℤ) (xs : List X) (ys : List Y) (day : X → ℤ) (stated : Y → Option ℤ)
     (Told : PairedRow → Findings → Type 0) : Type 0 where
   pub all : Findings
-  pub are_told : AreTold from (map (λ (x : X). Some (day x)) xs) (map stated ys) Told all
+  pub are_told : FindsRows from (map (λ (x : X). Some (day x)) xs) (map stated ys) Told all
   pub quiet : IsQuiet all
   pub our_dates : (n : ℕ) (x : X) → slice_get xs n ≡ Some x → is_due from (day x) ≡ true
   pub their_dates : (n : ℕ) (y : Y) → slice_get ys n ≡ Some y → IfSome (stated y) (λ d. is_due from d ≡ true)

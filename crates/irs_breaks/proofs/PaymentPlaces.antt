@@ -5,7 +5,7 @@ use Rattle.std.specs.Prelude.{slice_get, sum_by}
 use Rattle.std.proofs.lemmas.List.Sums.{sum_by-cons}
 use Rattle.std.proofs.lemmas.Option.{none-some, same_Some}
 use Rattle.irs_base.specs.Members.{Pairs}
-use Rattle.irs_schedule.specs.Parts.{Covers, KeepsBounds, Part}
+use Rattle.irs_schedule.specs.Parts.{EntriesCover, KeepsBounds, Part}
 use Rattle.irs_schedule.specs.declared.entries.PaymentEntry.{PaymentEntry}
 use Rattle.irs_schedule.proofs.WalkLemmas.{covers_within}
 use Rattle.irs_audit.specs.declared.flows.FlowPayment.{FlowPayment}
@@ -17,7 +17,7 @@ pub record HasPeriods (from last : ℕ) (x : PaymentEntry) : Type 0 where
   pub within : x.last_period ≤ last
 
 -- a payment of a list that covers the periods has periods of the stream
-pub covers_at : (from last : ℕ) (xs : List PaymentEntry) (n : ℕ) (x : PaymentEntry) → Covers from xs last
+pub covers_at : (from last : ℕ) (xs : List PaymentEntry) (n : ℕ) (x : PaymentEntry) → EntriesCover from xs last
     → slice_get xs n ≡ Some x → HasPeriods from last x
 covers_at from last [] n x h at = absurd (none-some x at)
 covers_at from last (y ∷ ys) zero x h at =
@@ -43,7 +43,7 @@ HasCount x y = y.periods ≡ x.last_period + 1 - x.first_period
 
 -- where the counts agree, their payments before one of ours have as many periods as come before its first one
 pub covers_sum : (from last : ℕ) (xs : List PaymentEntry) (ys : List FlowPayment) (n : ℕ) (x : PaymentEntry)
-    → Covers from xs last → Pairs HasCount xs ys → slice_get xs n ≡ Some x
+    → EntriesCover from xs last → Pairs HasCount xs ys → slice_get xs n ≡ Some x
     → from + sum_by (λ (y : FlowPayment). y.periods) (take n ys) ≡ x.first_period
 covers_sum from last [] ys n x h same at = absurd (none-some x at)
 covers_sum from last (z ∷ zs) [] n x h same at = absurd same

@@ -12,7 +12,7 @@ use Rattle.irs_schedule.specs.Parts.{KeepsBounds, Part}
 use Rattle.irs_schedule.specs.PeriodViews.{period_at}
 use Rattle.irs_schedule.specs.declared.entries.PaymentEntry.{PaymentEntry}
 use Rattle.irs_schedule.specs.declared.views.CalculationPeriod.{CalculationPeriod}
-use Rattle.irs_audit.specs.Comparisons.{IsSmall}
+use Rattle.irs_audit.specs.Comparisons.{IsBoundedFraction}
 use Rattle.irs_audit.specs.FlowParts.{FlowPart}
 use Rattle.irs_audit.specs.declared.flows.FlowPayment.{FlowPayment}
 use Rattle.irs_audit.specs.declared.flows.FlowPeriod.{FlowPeriod}
@@ -20,9 +20,9 @@ use Rattle.irs_audit.specs.declared.flows.FlowReset.{FlowReset}
 use Rattle.irs_audit.proofs.BoundLemmas.{payment_kept, period_small}
 use Rattle.irs_breaks.specs.Counting.{counts_in}
 use Rattle.irs_breaks.specs.Fields.{payment_fields, period_fields}
-use Rattle.irs_breaks.specs.Findings.{Findings, Then, counted, joined, nothing, told}
+use Rattle.irs_breaks.specs.Findings.{Findings, Then, one_pair, joined_findings, no_findings, one_break}
 use Rattle.irs_breaks.specs.Private.Findings.{Adds}
-use Rattle.irs_breaks.specs.RowFindings.{AreFieldBreaks, ArePayments, ArePeriods, ArePeriodsOf, IsReset, UnlessBare}
+use Rattle.irs_breaks.specs.RowFindings.{AreFieldBreaks, FindsPayment, ArePeriods, ArePeriodsOf, FindsReset, UnlessBare}
 use Rattle.irs_breaks.specs.Private.RowFindings.{AreStarts}
 use Rattle.irs_breaks.specs.RowFindings.{counted_reset, extra_reset, member_at, payment_counts, periods_before}
 use Rattle.irs_breaks.specs.declared.counting.Counts.{Counts}
@@ -48,7 +48,7 @@ payment_few p (Some n) x h e = let kept = payment_kept p n x h (sym e) in kept.d
 
 -- the fraction of a period of the schedule is within its bounds
 pub small_there : (p : Part) (n : ℕ) (o : Option CalculationPeriod) → KeepsBounds p → o ≡ period_at p n
-    → IfSome o (λ x. IsSmall x.frac)
+    → IfSome o (λ x. IsBoundedFraction x.frac)
 small_there p n None h e = tt
 small_there p n (Some x) h e = period_small p n x h (sym e)
 
@@ -118,7 +118,7 @@ start_there g starts (Some n) y h e = ap (λ (o : Option ℕ). unwrap_or o 0) (h
 -- a payment of theirs without periods adds no findings of periods
 pub bare_told : (bare : Bool) (Told : Findings → Type 0) (a : Findings) → bare ≡ true → Adds (UnlessBare bare Told) a a
 bare_told bare Told a e =
-    subst (λ (b : Bool). Adds (UnlessBare b Told) a a) (sym e) (nothing, refl, sym (joined_nothing a))
+    subst (λ (b : Bool). Adds (UnlessBare b Told) a a) (sym e) (no_findings, refl, sym (joined_nothing a))
 
 -- a payment of theirs with periods adds their findings
 pub periods_told : (bare : Bool) (Told : Findings → Type 0) (a b : Findings) → bare ≡ false → Adds Told a b
@@ -128,18 +128,18 @@ periods_told bare Told a b e h = subst (λ (z : Bool). Adds (UnlessBare z Told) 
 -- the findings of a pair of payments: its counts, its fields and its periods
 pub payments_told : (place : BreakPlace) (p : Part) (g : FlowPart) (before : ℕ) (x : PaymentEntry) (y : FlowPayment)
     (fields : List FieldValues) (counts : Counts) (a b c d : Findings) → fields ≡ payment_fields p.currency x y
-    → counts ≡ payment_counts (y.periods == 0) (counts_in fields) → b ≡ joined a (counted counts)
+    → counts ≡ payment_counts (y.periods == 0) (counts_in fields) → b ≡ joined_findings a (one_pair counts)
     → Adds (AreFieldBreaks place fields) b c
     → Adds (UnlessBare (y.periods == 0) (ArePeriodsOf place.stream p g x before y)) c d
-    → Adds (ArePayments place p g before x y) a d
+    → Adds (FindsPayment place p g before x y) a d
 payments_told place p g before x y fields counts a b c d e f first second third =
     let wanted = payment_fields p.currency x y in
     let bare = y.periods == 0 in
     let total = payment_counts bare (counts_in wanted) in
     let is : counts ≡ total = f ∙ ap (λ (z : List FieldValues). payment_counts bare (counts_in z)) e in
-    counted_then (counted total)
+    counted_then (one_pair total)
     (Then (AreFieldBreaks place wanted) (UnlessBare bare (ArePeriodsOf place.stream p g x before y))) a b d
-    (first ∙ ap (λ (z : Counts). joined a (counted z)) is)
+    (first ∙ ap (λ (z : Counts). joined_findings a (one_pair z)) is)
     (adds_then (AreFieldBreaks place wanted) (UnlessBare bare (ArePeriodsOf place.stream p g x before y)) b c d
     (subst (λ (z : List FieldValues). Adds (AreFieldBreaks place z) b c) e second) third)
 
@@ -148,34 +148,34 @@ payments_told place p g before x y fields counts a b c d e f first second third 
 -- the findings of a pair of calculation periods: its counts, its fields and its reset
 pub pair_told : (place : BreakPlace) (reset : Option Reset) (x : CalculationPeriod) (y : FlowPeriod)
     (fields : List FieldValues) (counts : Counts) (a b c d : Findings) → fields ≡ period_fields x y
-    → counts ≡ counts_in (fields ++ counted_reset reset y.reset) → b ≡ joined a (counted counts)
-    → Adds (AreFieldBreaks place fields) b c → Adds (IsReset place reset y.reset) c d
+    → counts ≡ counts_in (fields ++ counted_reset reset y.reset) → b ≡ joined_findings a (one_pair counts)
+    → Adds (AreFieldBreaks place fields) b c → Adds (FindsReset place reset y.reset) c d
     → Adds (ArePeriods place reset x y) a d
 pair_told place reset x y fields counts a b c d e f first second third =
     let wanted = period_fields x y in
     let total = counts_in (wanted ++ counted_reset reset y.reset) in
     let is : counts ≡ total = f ∙ ap (λ (z : List FieldValues). counts_in (z ++ counted_reset reset y.reset)) e in
-    counted_then (counted total) (Then (AreFieldBreaks place wanted) (IsReset place reset y.reset)) a b d
-    (first ∙ ap (λ (z : Counts). joined a (counted z)) is)
-    (adds_then (AreFieldBreaks place wanted) (IsReset place reset y.reset) b c d
+    counted_then (one_pair total) (Then (AreFieldBreaks place wanted) (FindsReset place reset y.reset)) a b d
+    (first ∙ ap (λ (z : Counts). joined_findings a (one_pair z)) is)
+    (adds_then (AreFieldBreaks place wanted) (FindsReset place reset y.reset) b c d
     (subst (λ (z : List FieldValues). Adds (AreFieldBreaks place z) b c) e second) third)
 
 -- a reset that only theirs has is a break
 pub reset_extra : (place : BreakPlace) (o : Option Reset) (q : Option FlowReset) (y : FlowReset) (a b : Findings)
-    → None ≡ o → Some y ≡ q → b ≡ joined a (told (extra_reset place y)) → Adds (IsReset place o q) a b
+    → None ≡ o → Some y ≡ q → b ≡ joined_findings a (one_break (extra_reset place y)) → Adds (FindsReset place o q) a b
 reset_extra place o q y a b e f h =
-    subst (λ (o : Option Reset). Adds (IsReset place o q) a b) e
-    (subst (λ (q : Option FlowReset). Adds (IsReset place None q) a b) f (told (extra_reset place y), refl, h))
+    subst (λ (o : Option Reset). Adds (FindsReset place o q) a b) e
+    (subst (λ (q : Option FlowReset). Adds (FindsReset place None q) a b) f (one_break (extra_reset place y), refl, h))
 
 -- where neither has a reset there is nothing to add
 pub reset_none : (place : BreakPlace) (o : Option Reset) (q : Option FlowReset) (a : Findings) → None ≡ o → None ≡ q
-    → Adds (IsReset place o q) a a
+    → Adds (FindsReset place o q) a a
 reset_none place o q a e f =
-    subst (λ (o : Option Reset). Adds (IsReset place o q) a a) e
-    (subst (λ (q : Option FlowReset). Adds (IsReset place None q) a a) f (nothing, refl, sym (joined_nothing a)))
+    subst (λ (o : Option Reset). Adds (FindsReset place o q) a a) e
+    (subst (λ (q : Option FlowReset). Adds (FindsReset place None q) a a) f (no_findings, refl, sym (joined_nothing a)))
 
 -- findings that were added to none meet the property themselves
-pub added_to_nothing : (P : Findings → Type 0) (b : Findings) → Adds P nothing b → P b
+pub added_to_nothing : (P : Findings → Type 0) (b : Findings) → Adds P no_findings b → P b
 added_to_nothing P b h = subst P (sym h.2) h.1
 
 -- ---- whether a payment has periods

@@ -8,7 +8,7 @@ use Rattle.irs_base.specs.Members.{Every}
 use Rattle.irs_base.proofs.MemberLemmas.{every_get}
 use Rattle.irs_breaks.specs.Blocks.{At}
 use Rattle.irs_breaks.specs.Dated.{dated_row, in_front, is_due, rows_from}
-use Rattle.irs_breaks.specs.PairedRows.{IsListed, IsPairing, IsPlaced, row_of_ours}
+use Rattle.irs_breaks.specs.PairedRows.{IsListedRow, IsPairing, IsPlacedRow, row_of_ours}
 use Rattle.irs_breaks.specs.PairedRows.{extra, missing, paired, undated, undated_extra}
 use Rattle.irs_breaks.specs.Pairing.{ArePaired, are_together, has_date}
 use Rattle.irs_breaks.specs.declared.dated.DatedRow.{DatedRow}
@@ -48,27 +48,27 @@ below from dates r c =
     let at = at_contains (rows_from from 0 dates) r c in
     every_get (IsBelow (length dates)) (rows_from from 0 dates) at.0 r (rows_below from 0 (length dates) dates (omega arith)) at.1
 
-listed_placed : (from : ℤ) (ours theirs : List (Option ℤ)) (m : PairedRow) → IsListed from ours theirs m
-    → IsPlaced (length ours) (length theirs) m
+listed_placed : (from : ℤ) (ours theirs : List (Option ℤ)) (m : PairedRow) → IsListedRow from ours theirs m
+    → IsPlacedRow (length ours) (length theirs) m
 listed_placed from ours theirs m (paired x y pair is) =
-    subst (IsPlaced (length ours) (length theirs)) (sym is)
+    subst (IsPlacedRow (length ours) (length theirs)) (sym is)
     (record { of_ours = below from ours x pair.one_of_ours; of_theirs = below from theirs y pair.one_of_theirs })
 listed_placed from ours theirs m (missing x inside alone is) =
-    subst (IsPlaced (length ours) (length theirs)) (sym is) (record { of_ours = below from ours x inside; of_theirs = tt })
+    subst (IsPlacedRow (length ours) (length theirs)) (sym is) (record { of_ours = below from ours x inside; of_theirs = tt })
 listed_placed from ours theirs m (extra y inside alone is) =
-    subst (IsPlaced (length ours) (length theirs)) (sym is) (record { of_ours = tt; of_theirs = below from theirs y inside })
+    subst (IsPlacedRow (length ours) (length theirs)) (sym is) (record { of_ours = tt; of_theirs = below from theirs y inside })
 listed_placed from ours theirs m (undated n at is) =
-    subst (IsPlaced (length ours) (length theirs)) (sym is)
+    subst (IsPlacedRow (length ours) (length theirs)) (sym is)
     (record { of_ours = slice_get_within ours n None at; of_theirs = tt })
 listed_placed from ours theirs m (undated_extra n at is) =
-    subst (IsPlaced (length ours) (length theirs)) (sym is)
+    subst (IsPlacedRow (length ours) (length theirs)) (sym is)
     (record { of_ours = tt; of_theirs = slice_get_within theirs n None at })
 
 -- the places of the rows of a pairing are places of the two lists
 pub rows_placed : (from : ℤ) (ours theirs : List (Option ℤ)) (rows : List PairedRow) → IsPairing from ours theirs rows
-    → Every (IsPlaced (length ours) (length theirs)) rows
+    → Every (IsPlacedRow (length ours) (length theirs)) rows
 rows_placed from ours theirs rows h =
-    every_at (IsPlaced (length ours) (length theirs)) rows
+    every_at (IsPlacedRow (length ours) (length theirs)) rows
     (λ k m at. listed_placed from ours theirs m (h.sound m (contains_at rows k m at)))
 
 -- ---- a list that is paired with itself
@@ -108,7 +108,7 @@ all_dated (d ∷ days) zero at = none-some d (sym (same_Some (Some d) None at))
 all_dated (d ∷ days) (suc n) at = all_dated days n at
 
 listed_same : (from : ℤ) (days : List ℤ) (m : PairedRow)
-    → IsListed from (map (λ (d : ℤ). Some d) days) (map (λ (d : ℤ). Some d) days) m
+    → IsListedRow from (map (λ (d : ℤ). Some d) days) (map (λ (d : ℤ). Some d) days) m
     → IsSameRow (length (map (λ (d : ℤ). Some d) days)) m
 listed_same from days m (paired x y pair is) =
     let dates = map (λ (d : ℤ). Some d) days in
@@ -133,7 +133,7 @@ pub same_rows : (from : ℤ) (days : List ℤ) (ours theirs : List (Option ℤ))
     → (k : ℕ) (m : PairedRow) → At rows k m → IsSameRow (length ours) m
 same_rows from days ours theirs rows e f h k m at =
     let dates = map (λ (d : ℤ). Some d) days in
-    let listed : IsListed from dates dates m =
-    subst (λ (z : List (Option ℤ)). IsListed from z dates m) e
-    (subst (λ (z : List (Option ℤ)). IsListed from ours z m) f (h.sound m (contains_at rows k m at))) in
+    let listed : IsListedRow from dates dates m =
+    subst (λ (z : List (Option ℤ)). IsListedRow from z dates m) e
+    (subst (λ (z : List (Option ℤ)). IsListedRow from ours z m) f (h.sound m (contains_at rows k m at))) in
     subst (λ (z : List (Option ℤ)). IsSameRow (length z) m) (sym e) (listed_same from days m listed)

@@ -8,8 +8,9 @@ use Rattle.std.proofs.lemmas.Option.{none-some}
 use Rattle.irs_base.specs.Members.{Every}
 use Rattle.irs_base.specs.declared.line.Dec.{Dec}
 use Rattle.irs_breaks.specs.Counting.{AreBreaks, number_of, same_standing}
-use Rattle.irs_breaks.specs.Findings.{Findings, Then, UpTo, counted, joined, told}
-use Rattle.irs_breaks.specs.RowFindings.{AreFieldBreaks, IsRow, alone, break_at, field_breaks, ours_alone, theirs_alone}
+use Rattle.irs_breaks.specs.Findings.{Findings, Then, UpTo, one_pair, joined_findings, one_break}
+use Rattle.irs_breaks.specs.RowFindings.{AreFieldBreaks, IsRow, unpaired, break_at, field_breaks, ours_alone}
+use Rattle.irs_breaks.specs.RowFindings.{theirs_alone}
 use Rattle.irs_breaks.specs.Values.{Differ, standing_of}
 use Rattle.irs_breaks.specs.declared.counting.Counts.{Counts}
 use Rattle.irs_breaks.specs.declared.findings.Break.{Break}
@@ -32,7 +33,7 @@ append_none [] ys h = (refl, h)
 append_none (x ∷ xs) ys h = absurd (cc)
 
 -- parts of quiet findings are quiet
-quiet_parts : (a b : Findings) → IsQuiet (joined a b) → IsQuiet a × IsQuiet b
+quiet_parts : (a b : Findings) → IsQuiet (joined_findings a b) → IsQuiet a × IsQuiet b
 quiet_parts a b q =
     let none = append_none a.breaks b.breaks q.unbroken in
     let sum = sum_by-append (λ (c : Counts). c.unstated) a.pairs b.pairs in
@@ -57,13 +58,13 @@ quiet_up_to Is (suc n) l h q k low =
     ]
 
 -- a break isn't quiet
-pub told_loud : (b : Break) (a : Findings) → a ≡ told b → IsQuiet a → ⊥
+pub told_loud : (b : Break) (a : Findings) → a ≡ one_break b → IsQuiet a → ⊥
 told_loud b a is q =
     let none : b ∷ [] ≡ [] = sym (ap (λ (l : Findings). l.breaks) is) ∙ q.unbroken in
     absurd (cc)
 
 -- a quiet pair leaves no field unstated
-pub quiet_counted : (c : Counts) (a : Findings) → a ≡ counted c → IsQuiet a → c.unstated ≡ 0
+pub quiet_counted : (c : Counts) (a : Findings) → a ≡ one_pair c → IsQuiet a → c.unstated ≡ 0
 quiet_counted c a is q =
     let quiet = subst IsQuiet is q in
     let whole = quiet.whole in
@@ -135,4 +136,4 @@ pub extra_loud : {X Y : Type 0} (Both : X → Y → Findings → Type 0) (ours :
     → IsRow Both ours (λ z. theirs_alone place places (value z)) None o a → IsQuiet a → ⊥
 extra_loud Both ours place places value None y a at h q = absurd (none-some y at)
 extra_loud Both ours place places value (Some z) y a at h q =
-    told_loud (break_at place (alone place.day places (value z))) a h q
+    told_loud (break_at place (unpaired place.day places (value z))) a h q

@@ -2,13 +2,13 @@
 use Rattle.std.proofs.Common.{◌≡◌, ℕ, ◌+◌, ◌<◌, ◌≤◌, List, [], ◌∷◌, ◌++◌, length, take, get_or, Option, Some, None}
 use Rattle.std.proofs.Common.{ℤ, refl, sym, subst, ap, ◌∙◌}
 use Rattle.std.proofs.lemmas.List.{map-append, take_all}
-use Rattle.irs_breaks.specs.Findings.{EachRow, Exactly, Findings, Then, joined, nothing, told}
+use Rattle.irs_breaks.specs.Findings.{EachRow, Exactly, Findings, Then, joined_findings, no_findings, one_break}
 use Rattle.irs_breaks.specs.Private.Findings.{Adds}
 use Rattle.std.proofs.lemmas.Option.{none-some}
 use Rattle.irs_terms.specs.declared.results.Exchange.{Exchange}
 use Rattle.irs_schedule.specs.Parts.{KeepsBounds, Part}
 use Rattle.irs_audit.proofs.BoundLemmas.{exchange_decimals}
-use Rattle.irs_breaks.specs.RowFindings.{AreFieldBreaks, AreTold, IsRow, break_at, field_breaks, member_at}
+use Rattle.irs_breaks.specs.RowFindings.{AreFieldBreaks, FindsRows, IsRow, break_at, field_breaks, member_at}
 use Rattle.irs_breaks.specs.PairedRows.{IsPairing}
 use Rattle.irs_breaks.specs.declared.dated.PairedRow.{PairedRow}
 use Rattle.irs_breaks.specs.Values.{Differ}
@@ -30,7 +30,7 @@ adds_both Both ours theirs o q x y a b e f h =
 
 -- where only ours has the row, its finding is added
 pub adds_ours : {X Y : Type 0} (Both : X → Y → Findings → Type 0) (ours : X → Findings) (theirs : Y → Findings)
-    (o : Option X) (q : Option Y) (x : X) (a b : Findings) → Some x ≡ o → None ≡ q → b ≡ joined a (ours x)
+    (o : Option X) (q : Option Y) (x : X) (a b : Findings) → Some x ≡ o → None ≡ q → b ≡ joined_findings a (ours x)
     → Adds (IsRow Both ours theirs o q) a b
 adds_ours Both ours theirs o q x a b e f h =
     subst (λ o. Adds (IsRow Both ours theirs o q) a b) e
@@ -38,7 +38,7 @@ adds_ours Both ours theirs o q x a b e f h =
 
 -- where only theirs has the row, its finding is added
 pub adds_theirs : {X Y : Type 0} (Both : X → Y → Findings → Type 0) (ours : X → Findings) (theirs : Y → Findings)
-    (o : Option X) (q : Option Y) (y : Y) (a b : Findings) → None ≡ o → Some y ≡ q → b ≡ joined a (theirs y)
+    (o : Option X) (q : Option Y) (y : Y) (a b : Findings) → None ≡ o → Some y ≡ q → b ≡ joined_findings a (theirs y)
     → Adds (IsRow Both ours theirs o q) a b
 adds_theirs Both ours theirs o q y a b e f h =
     subst (λ o. Adds (IsRow Both ours theirs o q) a b) e
@@ -49,20 +49,20 @@ pub adds_neither : {X Y : Type 0} (Both : X → Y → Findings → Type 0) (ours
     (o : Option X) (q : Option Y) (a : Findings) → None ≡ o → None ≡ q → Adds (IsRow Both ours theirs o q) a a
 adds_neither Both ours theirs o q a e f =
     subst (λ o. Adds (IsRow Both ours theirs o q) a a) e
-    (subst (λ q. Adds (IsRow Both ours theirs None q) a a) f (nothing, refl, sym (joined_nothing a)))
+    (subst (λ q. Adds (IsRow Both ours theirs None q) a a) f (no_findings, refl, sym (joined_nothing a)))
 
 -- ---- fields
 
 -- no fields add nothing
 pub fields_none : (place : BreakPlace) (a : Findings) → Adds (AreFieldBreaks place []) a a
-fields_none place a = (nothing, ([], refl, refl), sym (joined_nothing a))
+fields_none place a = (no_findings, ([], refl, refl), sym (joined_nothing a))
 
 -- each of these fields breaks at the place
 abbrev broken : BreakPlace → List FieldValues → Findings
 broken place fields = record { breaks = field_breaks place fields; pairs = [] }
 
 broken_more : (place : BreakPlace) (fields : List FieldValues) (f : FieldValues)
-    → joined (broken place fields) (told (break_at place (what.Field f))) ≡ broken place (fields ++ f ∷ [])
+    → joined_findings (broken place fields) (one_break (break_at place (what.Field f))) ≡ broken place (fields ++ f ∷ [])
 broken_more place fields f =
     ap (λ (z : List Break). record { breaks = z; pairs = [] })
     (sym (map-append (λ (g : FieldValues). break_at place (what.Field g)) fields (f ∷ [])))
@@ -70,13 +70,13 @@ broken_more place fields f =
 -- one more field that differs is a break
 pub field_more : (place : BreakPlace) (fields : List FieldValues) (i : ℕ) (f : FieldValues) (a b c : Findings) → i < length fields
     → f ≡ get_or fields i f → Adds (AreFieldBreaks place (take i fields)) a b → Differ f.values
-    → c ≡ joined b (told (break_at place (what.Field f))) → Adds (AreFieldBreaks place (take (i + 1) fields)) a c
+    → c ≡ joined_findings b (one_break (break_at place (what.Field f))) → Adds (AreFieldBreaks place (take (i + 1) fields)) a c
 field_more place fields i f a b c within is h differs e =
-    let new = told (break_at place (what.Field f)) in (
+    let new = one_break (break_at place (what.Field f)) in (
       broken place (h.1.0 ++ f ∷ []),
       (h.1.0 ++ f ∷ [], break_read fields h.1.0 i f within is h.1.1 differs, refl),
-      e ∙ (ap (λ (z : Findings). joined z new) h.2 ∙ (joined_assoc a h.0 new
-          ∙ ap (joined a) (ap (λ (z : Findings). joined z new) h.1.2 ∙ broken_more place h.1.0 f))),
+      e ∙ (ap (λ (z : Findings). joined_findings z new) h.2 ∙ (joined_assoc a h.0 new
+          ∙ ap (joined_findings a) (ap (λ (z : Findings). joined_findings z new) h.1.2 ∙ broken_more place h.1.0 f))),
     )
 
 -- one more field that doesn't differ adds nothing
@@ -93,7 +93,7 @@ fields_all place fields i a b h k =
     subst (λ (z : List FieldValues). Adds (AreFieldBreaks place z) a b) (take_all i fields h) k
 
 -- known findings, followed by others that were added
-pub counted_then : (wanted : Findings) (Q : Findings → Type 0) (a b c : Findings) → b ≡ joined a wanted → Adds Q b c
+pub counted_then : (wanted : Findings) (Q : Findings → Type 0) (a b c : Findings) → b ≡ joined_findings a wanted → Adds Q b c
     → Adds (Then (Exactly wanted) Q) a c
 counted_then wanted Q a b c e h = adds_then (Exactly wanted) Q a b c (wanted, refl, e) h
 
@@ -105,5 +105,5 @@ exchange_few p (Some n) x h e = exchange_decimals p n x h (sym e)
 
 -- the findings of all rows of a pairing have been added
 pub adds_told : (from : ℤ) (ours theirs : List (Option ℤ)) (Told : PairedRow → Findings → Type 0) (rows : List PairedRow)
-    (a b : Findings) → IsPairing from ours theirs rows → Adds (EachRow Told rows) a b → Adds (AreTold from ours theirs Told) a b
+    (a b : Findings) → IsPairing from ours theirs rows → Adds (EachRow Told rows) a b → Adds (FindsRows from ours theirs Told) a b
 adds_told from ours theirs Told rows a b paired h = (h.0, record { rows = rows; paired = paired; each = h.1 }, h.2)

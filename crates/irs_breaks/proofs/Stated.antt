@@ -24,8 +24,8 @@ use Rattle.irs_audit.specs.declared.flows.FlowPeriod.{FlowPeriod}
 use Rattle.irs_audit.proofs.StatedLemmas.{flows_agree, stated_at, stated_get}
 use Rattle.irs_breaks.specs.BreakLists.{IsBreakList}
 use Rattle.irs_breaks.specs.Counting.{counts_in, number_of, same_standing}
-use Rattle.irs_breaks.specs.Fields.{exchange_fields, payment_fields, period_fields, rate_of}
-use Rattle.irs_breaks.specs.Findings.{Findings, counted}
+use Rattle.irs_breaks.specs.Fields.{exchange_fields, payment_fields, period_fields, rate_decimal}
+use Rattle.irs_breaks.specs.Findings.{Findings, one_pair}
 use Rattle.irs_breaks.specs.RowFindings.{counted_reset, payment_counts}
 use Rattle.irs_breaks.specs.Values.{standing_of}
 use Rattle.irs_breaks.specs.declared.counting.Counts.{Counts}
@@ -56,7 +56,7 @@ amount_told None = refl
 amount_told (Some v) = refl
 
 rate_told : (o : Option ℤ)
-    → same_standing (standing_of (Numbers (rate_of o) (option_map (λ r. stated_number r 9) o))) Unstated ≡ false
+    → same_standing (standing_of (Numbers (rate_decimal o) (option_map (λ r. stated_number r 9) o))) Unstated ≡ false
 rate_told None = refl
 rate_told (Some r) = refl
 
@@ -85,7 +85,7 @@ whole_closed = record {
   both = λ a b h k. let sum = sum_by-append (λ (c : Counts). c.unstated) a.pairs b.pairs in omega (arith, sum, h, k);
 }
 
-whole_pair : (c : Counts) → c.unstated ≡ 0 → IsWhole (counted c)
+whole_pair : (c : Counts) → c.unstated ≡ 0 → IsWhole (one_pair c)
 whole_pair c h = omega (arith, h)
 
 mapped : {X Y : Type 0} (f : X → Y) (xs : List X) (n : ℕ) (x : X) (y : Y) → slice_get xs n ≡ Some x
@@ -94,7 +94,7 @@ mapped f xs n x y e h =
     same_Some (f x) y (ap (λ o. option_map f o) (sym e) ∙ (sym (slice_get-map f xs n) ∙ h))
 
 payment_whole : (currency : Currency) (x : PaymentEntry) (bare : Bool) → bare ≡ false
-    → IsWhole (counted (payment_counts bare (counts_in (payment_fields currency x (stated_payment currency x)))))
+    → IsWhole (one_pair (payment_counts bare (counts_in (payment_fields currency x (stated_payment currency x)))))
 payment_whole currency x true e = absurd (cc)
 payment_whole currency x false e =
     let none = none_unstated (payment_fields currency x (stated_payment currency x)) (payment_told currency x) in
@@ -113,7 +113,7 @@ not_bare p n x bounds at = elim (cases_Bool ((x.last_period + 1 - x.first_period
 
 period_whole : (p : Part) (n : ℕ) (x : CalculationPeriod) (y : FlowPeriod) → period_at p n ≡ Some x
     → slice_get (stated_periods_from p 0 p.periods) n ≡ Some y
-    → IsWhole (counted (counts_in (period_fields x y ++ counted_reset (slice_get p.resets n) y.reset)))
+    → IsWhole (one_pair (counts_in (period_fields x y ++ counted_reset (slice_get p.resets n) y.reset)))
 period_whole p n x y here there = elim (slice_get_cases p.periods n).1 [
   | inl w ↦
       let reset = slice_get p.resets n in
@@ -126,12 +126,12 @@ period_whole p n x y here there = elim (slice_get_cases p.periods n).1 [
       let told : Every IsTold (period_fields own (stated_period own reset) ++ counted_reset reset (option_map stated_reset reset)) =
       every_append IsTold (period_fields own (stated_period own reset)) (counted_reset reset (option_map stated_reset reset))
       (period_told own reset) (reset_told reset) in
-      let whole : IsWhole (counted (counts_in (period_fields own (stated_at p n w.0)
+      let whole : IsWhole (one_pair (counts_in (period_fields own (stated_at p n w.0)
       ++ counted_reset reset (stated_at p n w.0).reset))) =
       whole_pair (counts_in (period_fields own (stated_period own reset) ++ counted_reset reset (option_map stated_reset reset)))
       (none_unstated (period_fields own (stated_period own reset) ++ counted_reset reset (option_map stated_reset reset)) told) in
-      subst (λ (z : FlowPeriod). IsWhole (counted (counts_in (period_fields x z ++ counted_reset reset z.reset)))) stated
-      (subst (λ (z : CalculationPeriod). IsWhole (counted (counts_in (period_fields z (stated_at p n w.0)
+      subst (λ (z : FlowPeriod). IsWhole (one_pair (counts_in (period_fields x z ++ counted_reset reset z.reset)))) stated
+      (subst (λ (z : CalculationPeriod). IsWhole (one_pair (counts_in (period_fields z (stated_at p n w.0)
       ++ counted_reset reset (stated_at p n w.0).reset)))) is whole)
   | inr w ↦
       let none = w.1 in
@@ -141,12 +141,12 @@ period_whole p n x y here there = elim (slice_get_cases p.periods n).1 [
 whole_counts : (p : Part) → KeepsBounds p → HasGoodCounts IsWhole p (stated_part p)
 whole_counts p bounds = record {
   exchanges = λ n x y e f.
-      subst (λ (z : FlowExchange). IsWhole (counted (counts_in (exchange_fields x z))))
+      subst (λ (z : FlowExchange). IsWhole (one_pair (counts_in (exchange_fields x z))))
       (mapped stated_exchange p.exchanges n x y e f)
       (whole_pair (counts_in (exchange_fields x (stated_exchange x)))
       (none_unstated (exchange_fields x (stated_exchange x)) (exchange_told x)));
   payments = λ n x y e f.
-      subst (λ (z : FlowPayment). IsWhole (counted (payment_counts (z.periods == 0) (counts_in (payment_fields p.currency x z)))))
+      subst (λ (z : FlowPayment). IsWhole (one_pair (payment_counts (z.periods == 0) (counts_in (payment_fields p.currency x z)))))
       (mapped (stated_payment p.currency) p.payments n x y e f)
       (payment_whole p.currency x ((x.last_period + 1 - x.first_period) == 0) (not_bare p n x bounds e));
   periods = λ n x y e f. period_whole p n x y e f;

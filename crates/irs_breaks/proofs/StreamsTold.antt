@@ -6,7 +6,7 @@ use Rattle.std.proofs.lemmas.Option.{slice_get_past, slice_get_read}
 use Rattle.irs_schedule.specs.Parts.{Part}
 use Rattle.irs_audit.specs.FlowParts.{FlowPart}
 use Rattle.irs_breaks.specs.BreakLists.{AreExchangesOf, ArePaymentsOf, IsStream, StreamAt, whole_stream}
-use Rattle.irs_breaks.specs.Findings.{Findings, UpTo, joined, nothing}
+use Rattle.irs_breaks.specs.Findings.{Findings, UpTo, joined_findings, no_findings}
 use Rattle.irs_breaks.specs.Private.Findings.{Adds}
 use Rattle.irs_breaks.specs.declared.findings.What.TheVariants as what
 use Rattle.irs_breaks.proofs.Joining.{adds_then, joined_nothing}
@@ -23,7 +23,7 @@ both_told from stream o q p g a b c e f h k =
 
 -- a stream that only ours has is missing
 pub ours_told : (from : ℤ) (stream : ℕ) (o : Option Part) (q : Option FlowPart) (p : Part) (a b : Findings)
-    → Some p ≡ o → None ≡ q → b ≡ joined a (whole_stream stream (what.Missing None)) → Adds (IsStream from stream o q) a b
+    → Some p ≡ o → None ≡ q → b ≡ joined_findings a (whole_stream stream (what.Missing None)) → Adds (IsStream from stream o q) a b
 ours_told from stream o q p a b e f h =
     subst (λ (o : Option Part). Adds (IsStream from stream o q) a b) e
     (subst (λ (q : Option FlowPart). Adds (IsStream from stream (Some p) q) a b) f
@@ -31,7 +31,7 @@ ours_told from stream o q p a b e f h =
 
 -- a stream that only theirs has is extra
 pub theirs_told : (from : ℤ) (stream : ℕ) (o : Option Part) (q : Option FlowPart) (g : FlowPart) (a b : Findings)
-    → None ≡ o → Some g ≡ q → b ≡ joined a (whole_stream stream (what.Extra 0 None)) → Adds (IsStream from stream o q) a b
+    → None ≡ o → Some g ≡ q → b ≡ joined_findings a (whole_stream stream (what.Extra 0 None)) → Adds (IsStream from stream o q) a b
 theirs_told from stream o q g a b e f h =
     subst (λ (o : Option Part). Adds (IsStream from stream o q) a b) e
     (subst (λ (q : Option FlowPart). Adds (IsStream from stream None q) a b) f
@@ -42,7 +42,7 @@ pub neither_told : (from : ℤ) (stream : ℕ) (o : Option Part) (q : Option Flo
     → Adds (IsStream from stream o q) a a
 neither_told from stream o q a e f =
     subst (λ (o : Option Part). Adds (IsStream from stream o q) a a) e
-    (subst (λ (q : Option FlowPart). Adds (IsStream from stream None q) a a) f (nothing, refl, sym (joined_nothing a)))
+    (subst (λ (q : Option FlowPart). Adds (IsStream from stream None q) a a) f (no_findings, refl, sym (joined_nothing a)))
 
 -- ---- the list
 
@@ -53,11 +53,11 @@ there xs i (Some x) h = sym (slice_get_read xs (length xs) i x.now refl h.3.0 h.
 
 -- the list of all streams
 pub list_of : (from first : ℤ) (s t : List Part) (f g : List FlowPart) (a b : Findings) → from ≡ first → s ≡ t → f ≡ g
-    → a ≡ nothing → Adds (UpTo (StreamAt from s f) (max (length s) (length f))) a b
+    → a ≡ no_findings → Adds (UpTo (StreamAt from s f) (max (length s) (length f))) a b
     → UpTo (StreamAt first t g) (max (length t) (length g)) b
 list_of from first s t f g a b d e k n h =
     added_to_nothing (UpTo (StreamAt first t g) (max (length t) (length g))) b
-    (subst (λ (z : ℤ). Adds (UpTo (StreamAt z t g) (max (length t) (length g))) nothing b) d
-    (subst (λ (z : List Part). Adds (UpTo (StreamAt from z g) (max (length z) (length g))) nothing b) e
-    (subst (λ (z : List FlowPart). Adds (UpTo (StreamAt from s z) (max (length s) (length z))) nothing b) k
+    (subst (λ (z : ℤ). Adds (UpTo (StreamAt z t g) (max (length t) (length g))) no_findings b) d
+    (subst (λ (z : List Part). Adds (UpTo (StreamAt from z g) (max (length z) (length g))) no_findings b) e
+    (subst (λ (z : List FlowPart). Adds (UpTo (StreamAt from s z) (max (length s) (length z))) no_findings b) k
     (subst (λ (z : Findings). Adds (UpTo (StreamAt from s f) (max (length s) (length f))) z b) n h))))

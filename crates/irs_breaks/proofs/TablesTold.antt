@@ -6,22 +6,22 @@ use Rattle.irs_audit.specs.FlowParts.{FlowPart}
 use Rattle.irs_audit.specs.declared.flows.FlowPeriod.{FlowPeriod}
 use Rattle.irs_breaks.specs.Findings.{EachRow, Findings}
 use Rattle.irs_breaks.specs.Private.Findings.{Adds}
-use Rattle.irs_breaks.specs.PairedRows.{IsPairing, IsPlaced}
-use Rattle.irs_breaks.specs.RowFindings.{AreTold}
+use Rattle.irs_breaks.specs.PairedRows.{IsPairing, IsPlacedRow}
+use Rattle.irs_breaks.specs.RowFindings.{FindsRows}
 use Rattle.irs_breaks.specs.declared.dated.PairedRow.{PairedRow}
 use Rattle.irs_breaks.proofs.RowsTold.{adds_told}
 
 -- the places of rows are places of any lists of the same lengths
-pub same_placed : (a b n m : ℕ) (rows all : List PairedRow) → a ≡ n → b ≡ m → all ≡ rows → Every (IsPlaced a b) rows
-    → Every (IsPlaced n m) all
+pub same_placed : (a b n m : ℕ) (rows all : List PairedRow) → a ≡ n → b ≡ m → all ≡ rows → Every (IsPlacedRow a b) rows
+    → Every (IsPlacedRow n m) all
 same_placed a b n m rows all e f g h =
-    subst (λ (k : ℕ). Every (IsPlaced k m) all) e
-    (subst (λ (k : ℕ). Every (IsPlaced a k) all) f (subst (λ (z : List PairedRow). Every (IsPlaced a b) z) (sym g) h))
+    subst (λ (k : ℕ). Every (IsPlacedRow k m) all) e
+    (subst (λ (k : ℕ). Every (IsPlacedRow a k) all) f (subst (λ (z : List PairedRow). Every (IsPlacedRow a b) z) (sym g) h))
 
 -- the findings of a pairing are those of equal lists of dates
 pub told_of : (from first : ℤ) (ours theirs dates others : List (Option ℤ)) (Told : PairedRow → Findings → Type 0)
     (rows all : List PairedRow) (a b : Findings) → from ≡ first → ours ≡ dates → theirs ≡ others → all ≡ rows
-    → IsPairing from ours theirs rows → Adds (EachRow Told all) a b → Adds (AreTold first dates others Told) a b
+    → IsPairing from ours theirs rows → Adds (EachRow Told all) a b → Adds (FindsRows first dates others Told) a b
 told_of from first ours theirs dates others Told rows all a b d e f g paired h =
     adds_told first dates others Told rows a b
     (subst (λ (z : ℤ). IsPairing z dates others rows) d

@@ -8,8 +8,8 @@ use Rattle.irs_audit.specs.FlowParts.{FlowPart}
 use Rattle.irs_audit.specs.declared.departures.RowKind.TheVariants as row
 use Rattle.irs_audit.specs.declared.flows.FlowExchange.{FlowExchange}
 use Rattle.irs_audit.specs.declared.flows.FlowPayment.{FlowPayment}
-use Rattle.irs_breaks.specs.Findings.{Findings, Then, UpTo, nothing, told}
-use Rattle.irs_breaks.specs.RowFindings.{AreTold, IsExchangeRow, IsPaymentRow, break_at}
+use Rattle.irs_breaks.specs.Findings.{Findings, Then, UpTo, no_findings, one_break}
+use Rattle.irs_breaks.specs.RowFindings.{FindsRows, IsExchangeRow, IsPaymentRow, break_at}
 use Rattle.irs_breaks.specs.declared.findings.What.{What}
 use Rattle.irs_breaks.specs.declared.findings.What.TheVariants as what
 
@@ -22,8 +22,8 @@ abbrev pub stated_exchange_dates : List FlowExchange → List (Option ℤ)
 stated_exchange_dates ys = map (λ (y : FlowExchange). y.adjusted) ys
 
 -- the dates of the payments of ours
-abbrev pub payment_dates : List PaymentEntry → List (Option ℤ)
-payment_dates xs = map (λ (x : PaymentEntry). Some x.adjusted) xs
+abbrev pub payment_row_dates : List PaymentEntry → List (Option ℤ)
+payment_row_dates xs = map (λ (x : PaymentEntry). Some x.adjusted) xs
 
 -- the dates of the payments of theirs, where they are stated
 abbrev pub stated_payment_dates : List FlowPayment → List (Option ℤ)
@@ -32,17 +32,17 @@ stated_payment_dates ys = map (λ (y : FlowPayment). y.adjusted) ys
 -- the findings of the exchanges of a stream that both have, from a day on
 abbrev pub AreExchangesOf : ℤ → ℕ → Part → FlowPart → Findings → Type 0
 AreExchangesOf from stream p g list =
-    AreTold from (exchange_dates p.exchanges) (stated_exchange_dates g.exchanges) (IsExchangeRow stream p g) list
+    FindsRows from (exchange_dates p.exchanges) (stated_exchange_dates g.exchanges) (IsExchangeRow stream p g) list
 
 -- the findings of the payments of a stream that both have, from a day on
 abbrev pub ArePaymentsOf : ℤ → ℕ → Part → FlowPart → Findings → Type 0
 ArePaymentsOf from stream p g list =
-    AreTold from (payment_dates p.payments) (stated_payment_dates g.payments) (IsPaymentRow stream p g) list
+    FindsRows from (payment_row_dates p.payments) (stated_payment_dates g.payments) (IsPaymentRow stream p g) list
 
 -- the finding of a stream that only one side has
 abbrev pub whole_stream : ℕ → What → Findings
 whole_stream stream w =
-    told (break_at (record { stream = stream; kind = row.Stream; day = None; ours = None; theirs = None }) w)
+    one_break (break_at (record { stream = stream; kind = row.Stream; day = None; ours = None; theirs = None }) w)
 
 -- A stream of ours and one of theirs, each where there is one: the exchanges, then the payments. For a stream
 -- of one side alone, nothing below it is reported.
@@ -50,7 +50,7 @@ abbrev pub IsStream : ℤ → ℕ → Option Part → Option FlowPart → Findin
 IsStream from stream (Some p) (Some g) list = Then (AreExchangesOf from stream p g) (ArePaymentsOf from stream p g) list
 IsStream from stream (Some p) None list = list ≡ whole_stream stream (what.Missing None)
 IsStream from stream None (Some g) list = list ≡ whole_stream stream (what.Extra 0 None)
-IsStream from stream None None list = list ≡ nothing
+IsStream from stream None None list = list ≡ no_findings
 
 -- the findings of the streams at a place; streams are numbered from 1
 abbrev pub StreamAt : ℤ → List Part → List FlowPart → ℕ → Findings → Type 0

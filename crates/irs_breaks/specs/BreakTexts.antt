@@ -106,8 +106,8 @@ break_text b =
     place_fields b.place ++ 32 ∷ what_name b.what ++ 32 ∷ ours_text b.what ++ 32 ∷ theirs_text b.what ++ codes "\n"
 
 -- the first line, with the first day to be compared, or `-`
-abbrev pub first_line : Option ℤ → List ℕ
-first_line from = codes "irs-breaks 1" ++ 32 ∷ or_dash day_text from ++ codes "\n"
+abbrev pub breaks_first_line : Option ℤ → List ℕ
+breaks_first_line from = codes "irs-breaks 1" ++ 32 ∷ or_dash day_text from ++ codes "\n"
 
 -- the last line: how many breaks and pairs there are, and how many fields are compared, unstated and unknown
 abbrev pub last_line : Findings → List ℕ
@@ -119,4 +119,4 @@ last_line list =
 
 -- the whole text
 abbrev pub breaks_text : Option ℤ → Findings → List ℕ
-breaks_text from list = first_line from ++ flat_map break_text list.breaks ++ last_line list
+breaks_text from list = breaks_first_line from ++ flat_map break_text list.breaks ++ last_line list

@@ -25,9 +25,9 @@ abbrev pub notional_of : ℤ → Dec
 notional_of units = record { units = units; places = 4 }
 
 -- a rate in units of 10^-9, where it is known
-abbrev pub rate_of : Option ℤ → Option Dec
-rate_of None = None
-rate_of (Some r) = Some (record { units = r; places = 9 })
+abbrev pub rate_decimal : Option ℤ → Option Dec
+rate_decimal None = None
+rate_decimal (Some r) = Some (record { units = r; places = 9 })
 
 -- the fields of a principal exchange
 abbrev pub exchange_fields : Exchange → FlowExchange → List FieldValues
@@ -52,7 +52,7 @@ period_fields x y =
     ∷ of field.AdjustedEndDate (Dates x.adjusted_end y.adjusted_end)
     ∷ of field.CalculationPeriodNumberOfDays (Counts x.days y.days)
     ∷ of field.NotionalAmount (Numbers (Some (notional_of x.notional)) y.notional)
-    ∷ of field.Rate (Numbers (rate_of x.rate) y.rate) ∷ of field.DayCountYearFraction (Fractions x.frac y.fraction) ∷ []
+    ∷ of field.Rate (Numbers (rate_decimal x.rate) y.rate) ∷ of field.DayCountYearFraction (Fractions x.frac y.fraction) ∷ []
 
 -- what a period without a `rateObservation` states of its reset
 abbrev pub reset_or_nothing : Option FlowReset → FlowReset
@@ -63,4 +63,4 @@ reset_or_nothing None = record { reset = None; fixing = None; observed = None }
 abbrev pub reset_fields : Reset → FlowReset → List FieldValues
 reset_fields x y =
     of field.ResetDate (Dates x.reset y.reset) ∷ of field.AdjustedFixingDate (Dates x.fixing y.fixing)
-    ∷ of field.ObservedRate (Numbers (rate_of x.observed) y.observed) ∷ []
+    ∷ of field.ObservedRate (Numbers (rate_decimal x.observed) y.observed) ∷ []

@@ -12,20 +12,20 @@ pub record Findings : Type 0 where
   pub pairs : List Counts
 
 -- no break and no pair
-abbrev pub nothing : Findings
-nothing = record { breaks = []; pairs = [] }
+abbrev pub no_findings : Findings
+no_findings = record { breaks = []; pairs = [] }
 
 -- some findings, followed by others
-abbrev pub joined : Findings → Findings → Findings
-joined a b = record { breaks = a.breaks ++ b.breaks; pairs = a.pairs ++ b.pairs }
+abbrev pub joined_findings : Findings → Findings → Findings
+joined_findings a b = record { breaks = a.breaks ++ b.breaks; pairs = a.pairs ++ b.pairs }
 
 -- a single break
-abbrev pub told : Break → Findings
-told b = record { breaks = b ∷ []; pairs = [] }
+abbrev pub one_break : Break → Findings
+one_break b = record { breaks = b ∷ []; pairs = [] }
 
 -- a single pair
-abbrev pub counted : Counts → Findings
-counted c = record { breaks = []; pairs = c ∷ [] }
+abbrev pub one_pair : Counts → Findings
+one_pair c = record { breaks = []; pairs = c ∷ [] }
 
 -- the findings are exactly these
 abbrev pub Exactly : Findings → Findings → Type 0
@@ -37,16 +37,16 @@ pub record Then (P Q : Findings → Type 0) (list : Findings) : Type 0 where
   pub second : Findings
   pub is_first : P first
   pub is_second : Q second
-  pub is : list ≡ joined first second
+  pub is : list ≡ joined_findings first second
 
 -- the findings of the places below n, one after the other; Is says which they are at a place
 abbrev pub UpTo : (ℕ → Findings → Type 0) → ℕ → Findings → Type 0
-UpTo Is zero list = list ≡ nothing
+UpTo Is zero list = list ≡ no_findings
 UpTo Is (suc n) list = Then (UpTo Is n) (Is n) list
 
 -- the findings of a row, where there is one
 abbrev pub OnRow : {X : Type 0} → (X → Findings → Type 0) → Option X → Findings → Type 0
-OnRow Told None list = list ≡ nothing
+OnRow Told None list = list ≡ no_findings
 OnRow Told (Some x) list = Told x list
 
 -- the findings of the row at a place of a list

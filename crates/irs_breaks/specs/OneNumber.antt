@@ -5,7 +5,7 @@ use Rattle.irs_schedule.specs.Parts.{Part}
 use Rattle.irs_schedule.specs.declared.entries.PaymentEntry.{PaymentEntry}
 use Rattle.irs_audit.specs.FlowParts.{FlowPart}
 use Rattle.irs_audit.specs.declared.flows.FlowPayment.{FlowPayment}
-use Rattle.irs_breaks.specs.BreakLists.{exchange_dates, first_due, payment_dates, stated_exchange_dates}
+use Rattle.irs_breaks.specs.BreakLists.{exchange_dates, first_due, payment_row_dates, stated_exchange_dates}
 use Rattle.irs_breaks.specs.BreakLists.{stated_payment_dates}
 use Rattle.irs_breaks.specs.Dated.{rows_from}
 use Rattle.irs_breaks.specs.Pairing.{ArePaired}
@@ -22,9 +22,9 @@ PairsHaveOneNumber from ours_before theirs_before ours theirs =
 -- are counted through the stream on either side.
 pub record RowsHaveOneNumber (from : ℤ) (p : Part) (g : FlowPart) : Type 0 where
   pub exchanges : PairsHaveOneNumber from 0 0 (exchange_dates p.exchanges) (stated_exchange_dates g.exchanges)
-  pub payments : PairsHaveOneNumber from 0 0 (payment_dates p.payments) (stated_payment_dates g.payments)
+  pub payments : PairsHaveOneNumber from 0 0 (payment_row_dates p.payments) (stated_payment_dates g.payments)
   pub periods : (x y : DatedRow)
-      → ArePaired (rows_from from 0 (payment_dates p.payments)) (rows_from from 0 (stated_payment_dates g.payments)) x y
+      → ArePaired (rows_from from 0 (payment_row_dates p.payments)) (rows_from from 0 (stated_payment_dates g.payments)) x y
       → (ours : PaymentEntry) (theirs : FlowPayment) → slice_get p.payments x.place ≡ Some ours
       → slice_get g.payments y.place ≡ Some theirs
       → PairsHaveOneNumber first_day (ours.first_period - 1) (periods_before g y.place) (our_starts p ours)

@@ -21,7 +21,7 @@ use Rattle.irs_audit.specs.declared.flows.FlowReset.{FlowReset}
 use Rattle.irs_breaks.specs.Counting.{AreBreaks, counts_in}
 use Rattle.irs_breaks.specs.Fields.{exchange_fields, payment_fields, period_fields, reset_fields, reset_or_nothing}
 use Rattle.irs_breaks.specs.Fields.{notional_of}
-use Rattle.irs_breaks.specs.Findings.{EachRow, Exactly, Findings, Then, counted, nothing, told}
+use Rattle.irs_breaks.specs.Findings.{EachRow, Exactly, Findings, Then, one_pair, no_findings, one_break}
 use Rattle.irs_breaks.specs.PairedRows.{IsPairing}
 use Rattle.irs_breaks.specs.declared.counting.Counts.{Counts}
 use Rattle.irs_breaks.specs.declared.dated.PairedRow.{PairedRow}
@@ -38,8 +38,8 @@ abbrev pub numbered : Option ℕ → Option ℕ
 numbered place = option_map (λ n. n + 1) place
 
 -- where a break is: the stream, the kind of row, the date and the numbers of the rows
-abbrev pub place_of : ℕ → RowKind → PairedRow → BreakPlace
-place_of stream kind m =
+abbrev pub break_place : ℕ → RowKind → PairedRow → BreakPlace
+break_place stream kind m =
     record { stream = stream; kind = kind; day = m.day; ours = numbered m.ours; theirs = numbered m.theirs }
 
 -- something breaks at a place
@@ -47,17 +47,17 @@ abbrev pub break_at : BreakPlace → What → Break
 break_at place w = record { place = place; what = w }
 
 -- a row of theirs alone is extra, or undated where it has no date
-abbrev pub alone : Option ℤ → ℕ → Option ℤ → What
-alone (Some day) places value = what.Extra places value
-alone None places value = what.Undated places value
+abbrev pub unpaired : Option ℤ → ℕ → Option ℤ → What
+unpaired (Some day) places value = what.Extra places value
+unpaired None places value = what.Undated places value
 
 -- the finding of a row that only theirs has
 abbrev pub theirs_alone : BreakPlace → ℕ → Option ℤ → Findings
-theirs_alone place places value = told (break_at place (alone place.day places value))
+theirs_alone place places value = one_break (break_at place (unpaired place.day places value))
 
 -- the finding of a row that only ours has
 abbrev pub ours_alone : BreakPlace → Option Dec → Findings
-ours_alone place value = told (break_at place (what.Missing value))
+ours_alone place value = one_break (break_at place (what.Missing value))
 
 -- the breaks of these fields, each at the same place
 abbrev pub field_breaks : BreakPlace → List FieldValues → List Break
@@ -76,14 +76,14 @@ abbrev pub IsRow : {X Y : Type 0} → (X → Y → Findings → Type 0) → (X �
 IsRow Both ours theirs (Some x) (Some y) list = Both x y list
 IsRow Both ours theirs (Some x) None list = list ≡ ours x
 IsRow Both ours theirs None (Some y) list = list ≡ theirs y
-IsRow Both ours theirs None None list = list ≡ nothing
+IsRow Both ours theirs None None list = list ≡ no_findings
 
 -- the member at a place, where there is a place
 abbrev pub member_at : {X : Type 0} → List X → Option ℕ → Option X
 member_at xs place = option_and_then (λ n. slice_get xs n) place
 
 -- the findings of two lists of rows with these dates, in the order of their pairing
-pub record AreTold (from : ℤ) (ours theirs : List (Option ℤ)) (Told : PairedRow → Findings → Type 0) (list : Findings) : Type 0 where
+pub record FindsRows (from : ℤ) (ours theirs : List (Option ℤ)) (Told : PairedRow → Findings → Type 0) (list : Findings) : Type 0 where
   pub rows : List PairedRow
   pub paired : IsPairing from ours theirs rows
   pub each : EachRow Told rows list
@@ -91,15 +91,15 @@ pub record AreTold (from : ℤ) (ours theirs : List (Option ℤ)) (Told : Paired
 -- ---- principal exchanges
 
 -- a pair of exchanges: its fields are counted, and those that differ are breaks
-abbrev pub AreExchanges : BreakPlace → Exchange → FlowExchange → Findings → Type 0
-AreExchanges place x y list =
-    Then (Exactly (counted (counts_in (exchange_fields x y)))) (AreFieldBreaks place (exchange_fields x y)) list
+abbrev pub FindsExchange : BreakPlace → Exchange → FlowExchange → Findings → Type 0
+FindsExchange place x y list =
+    Then (Exactly (one_pair (counts_in (exchange_fields x y)))) (AreFieldBreaks place (exchange_fields x y)) list
 
 -- the findings of a row of the pairing of exchanges
 abbrev pub IsExchangeRow : ℕ → Part → FlowPart → PairedRow → Findings → Type 0
 IsExchangeRow stream p g m list =
-    IsRow (AreExchanges (place_of stream row.Exchange m)) (λ x. ours_alone (place_of stream row.Exchange m) (Some x.amount))
-    (λ y. theirs_alone (place_of stream row.Exchange m) (decimals_of p.currency.letters) y.amount)
+    IsRow (FindsExchange (break_place stream row.Exchange m)) (λ x. ours_alone (break_place stream row.Exchange m) (Some x.amount))
+    (λ y. theirs_alone (break_place stream row.Exchange m) (decimals_of p.currency.letters) y.amount)
     (member_at p.exchanges m.ours) (member_at g.exchanges m.theirs) list
 
 -- ---- resets
@@ -115,10 +115,10 @@ extra_reset place y =
     (what.Extra 9 y.observed)
 
 -- the findings of a reset: its fields, or an extra reset that is stated for a fixed stream
-abbrev pub IsReset : BreakPlace → Option Reset → Option FlowReset → Findings → Type 0
-IsReset place (Some r) stated list = AreFieldBreaks (reset_place place) (reset_fields r (reset_or_nothing stated)) list
-IsReset place None (Some y) list = list ≡ told (extra_reset place y)
-IsReset place None None list = list ≡ nothing
+abbrev pub FindsReset : BreakPlace → Option Reset → Option FlowReset → Findings → Type 0
+FindsReset place (Some r) stated list = AreFieldBreaks (reset_place place) (reset_fields r (reset_or_nothing stated)) list
+FindsReset place None (Some y) list = list ≡ one_break (extra_reset place y)
+FindsReset place None None list = list ≡ no_findings
 
 -- the fields of a reset that are counted: those of a floating stream
 abbrev pub counted_reset : Option Reset → Option FlowReset → List FieldValues
@@ -130,16 +130,16 @@ counted_reset None stated = []
 -- the findings of a pair of calculation periods, followed by those of its reset
 abbrev pub ArePeriods : BreakPlace → Option Reset → CalculationPeriod → FlowPeriod → Findings → Type 0
 ArePeriods place reset x y list =
-    Then (Exactly (counted (counts_in (period_fields x y ++ counted_reset reset y.reset))))
-    (Then (AreFieldBreaks place (period_fields x y)) (IsReset place reset y.reset))
+    Then (Exactly (one_pair (counts_in (period_fields x y ++ counted_reset reset y.reset))))
+    (Then (AreFieldBreaks place (period_fields x y)) (FindsReset place reset y.reset))
     list
 
 -- the findings of a row of the pairing of calculation periods, with its places in the stream
 abbrev pub IsPeriodRow : ℕ → Part → FlowPart → PairedRow → Findings → Type 0
 IsPeriodRow stream p g m list =
-    IsRow (ArePeriods (place_of stream row.Period m) (member_at p.resets m.ours))
-    (λ x. ours_alone (place_of stream row.Period m) (Some (notional_of x.notional)))
-    (λ y. theirs_alone (place_of stream row.Period m) 4 y.notional)
+    IsRow (ArePeriods (break_place stream row.Period m) (member_at p.resets m.ours))
+    (λ x. ours_alone (break_place stream row.Period m) (Some (notional_of x.notional)))
+    (λ y. theirs_alone (break_place stream row.Period m) 4 y.notional)
     (option_and_then (period_at p) m.ours) (member_at g.periods m.theirs) list
 
 -- how many periods come before those of the payment at a place, at most all of them
@@ -166,7 +166,7 @@ moved ours theirs m = record {
 -- the findings of the periods of a pair of payments; `before` periods come before those of theirs
 abbrev pub ArePeriodsOf : ℕ → Part → FlowPart → PaymentEntry → ℕ → FlowPayment → Findings → Type 0
 ArePeriodsOf stream p g x before y list =
-    AreTold first_day (our_starts p x) (their_starts g before y)
+    FindsRows first_day (our_starts p x) (their_starts g before y)
     (λ m. IsPeriodRow stream p g (moved (x.first_period - 1) before m)) list
 
 -- ---- payments
@@ -177,13 +177,13 @@ payment_counts bare c = record { compared = c.compared; unstated = c.unstated + 
 
 -- the findings of the periods of a pair of payments: none where the payment of theirs has no periods
 abbrev pub UnlessBare : Bool → (Findings → Type 0) → Findings → Type 0
-UnlessBare true Told list = list ≡ nothing
+UnlessBare true Told list = list ≡ no_findings
 UnlessBare false Told list = Told list
 
 -- the findings of a pair of payments, followed by those of its calculation periods
-abbrev pub ArePayments : BreakPlace → Part → FlowPart → ℕ → PaymentEntry → FlowPayment → Findings → Type 0
-ArePayments place p g before x y list =
-    Then (Exactly (counted (payment_counts (y.periods == 0) (counts_in (payment_fields p.currency x y)))))
+abbrev pub FindsPayment : BreakPlace → Part → FlowPart → ℕ → PaymentEntry → FlowPayment → Findings → Type 0
+FindsPayment place p g before x y list =
+    Then (Exactly (one_pair (payment_counts (y.periods == 0) (counts_in (payment_fields p.currency x y)))))
     (Then (AreFieldBreaks place (payment_fields p.currency x y))
     (UnlessBare (y.periods == 0) (ArePeriodsOf place.stream p g x before y)))
     list
@@ -191,6 +191,6 @@ ArePayments place p g before x y list =
 -- the findings of a row of the pairing of payments
 abbrev pub IsPaymentRow : ℕ → Part → FlowPart → PairedRow → Findings → Type 0
 IsPaymentRow stream p g m list =
-    IsRow (ArePayments (place_of stream row.Payment m) p g (periods_before g (unwrap_or m.theirs 0))) (λ x. ours_alone (place_of stream row.Payment m) x.amount)
-    (λ y. theirs_alone (place_of stream row.Payment m) (decimals_of p.currency.letters) y.amount)
+    IsRow (FindsPayment (break_place stream row.Payment m) p g (periods_before g (unwrap_or m.theirs 0))) (λ x. ours_alone (break_place stream row.Payment m) x.amount)
+    (λ y. theirs_alone (break_place stream row.Payment m) (decimals_of p.currency.letters) y.amount)
     (member_at p.payments m.ours) (member_at g.payments m.theirs) list

@@ -1,7 +1,7 @@
 -- The two values of a field: how they are counted, and when they differ.
 use Rattle.std.specs.Prelude.{◌≡◌, ◌≤◌, Option, Some, None}
-use Rattle.irs_audit.specs.Comparisons.{IsSmall}
-use Rattle.irs_audit.specs.StatedValues.{IsAmount, IsFraction, StatedWrongly, WhereKnown}
+use Rattle.irs_audit.specs.Comparisons.{IsBoundedFraction}
+use Rattle.irs_audit.specs.StatedValues.{StatesAmount, StatesFraction, StatedWrongly, WhereKnown}
 use Rattle.irs_breaks.specs.declared.values.Standing.{Standing}
 use Rattle.irs_breaks.specs.declared.values.Standing.TheVariants.{Compared, Unknown, Unstated}
 use Rattle.irs_breaks.specs.declared.values.Values.{Values}
@@ -26,11 +26,11 @@ abbrev pub Differ : Values → Type 0
 Differ (Dates day stated) = StatedWrongly (λ d. d ≡ day) stated
 Differ (Counts count stated) = StatedWrongly (λ n. n ≡ count) stated
 Differ (Currencies currency stated) = StatedWrongly (λ c. c ≡ currency) stated
-Differ (Numbers number stated) = WhereKnown (λ v. StatedWrongly (IsAmount v) stated) number
-Differ (Fractions frac stated) = StatedWrongly (IsFraction frac) stated
+Differ (Numbers number stated) = WhereKnown (λ v. StatedWrongly (StatesAmount v) stated) number
+Differ (Fractions frac stated) = StatedWrongly (StatesFraction frac) stated
 
 -- a number of the schedule has at most twelve decimals, and a fraction is within the bounds of periods
 abbrev pub CanBeCompared : Values → Type 0
 CanBeCompared (Numbers (Some v) stated) = v.places ≤ 12
-CanBeCompared (Fractions frac stated) = IsSmall frac
+CanBeCompared (Fractions frac stated) = IsBoundedFraction frac
 CanBeCompared _ = Unit {0}

@@ -4,8 +4,8 @@ ghost use Rattle.irs_base.specs.Members.{Every};
 ghost use Rattle.irs_breaks.specs.BreakLists.{AreExchangesOf, exchange_dates, stated_exchange_dates};
 ghost use Rattle.irs_breaks.specs.Findings.{EachRow};
 ghost use Rattle.irs_breaks.specs.Private.Findings.{Adds};
-ghost use Rattle.irs_breaks.specs.PairedRows.{IsPlaced};
-ghost use Rattle.irs_breaks.specs.RowFindings.{AreExchanges, IsExchangeRow};
+ghost use Rattle.irs_breaks.specs.PairedRows.{IsPlacedRow};
+ghost use Rattle.irs_breaks.specs.RowFindings.{FindsExchange, IsExchangeRow};
 
 use crate::PairedRow;
 use crate::counting::counts_of;
@@ -27,7 +27,7 @@ fn push_exchange_pair(
     y: &FlowExchange,
 ) -> Result<(), Memory>
     requires { x.now.amount.places ≤ 12 }
-    ensures { OnOk result (Adds (AreExchanges place.now x.now y.now) list.old list.new) }
+    ensures { OnOk result (Adds (FindsExchange place.now x.now y.now) list.old list.new) }
 {
     let fields = exchange_fields(x, y);
     list.push_pair(counts_of(&fields))?;
@@ -43,7 +43,7 @@ fn push_exchange(
     flow: &FlowStream,
     row: &PairedRow,
 ) -> Result<(), Memory>
-    requires { IsPlaced (length part.now.exchanges) (length flow.now.exchanges) row.now }
+    requires { IsPlacedRow (length part.now.exchanges) (length flow.now.exchanges) row.now }
     ensures { OnOk result (Adds (IsExchangeRow stream part.now flow.now row.now) list.old list.new) }
 {
     let (xs, ys) = (part.exchanges(), flow.exchanges());
@@ -66,7 +66,7 @@ fn push_exchange_rows(
     flow: &FlowStream,
     rows: &[PairedRow],
 ) -> Result<(), Memory>
-    requires { Every (IsPlaced (length part.now.exchanges) (length flow.now.exchanges)) rows.now }
+    requires { Every (IsPlacedRow (length part.now.exchanges) (length flow.now.exchanges)) rows.now }
     ensures { OnOk result (Adds (EachRow (IsExchangeRow stream part.now flow.now) rows.now) list.old list.new) }
 {
     for row in rows {

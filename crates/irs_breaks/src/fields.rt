@@ -1,10 +1,11 @@
 //! The fields of a pair of rows with the values of both sides, in the order in which they are compared.
 ghost use Rattle.std.specs.Prelude.{◌≡◌, ◌≤◌, IfSome};
-ghost use Rattle.irs_audit.specs.Comparisons.{IsSmall};
+ghost use Rattle.irs_audit.specs.Comparisons.{IsBoundedFraction};
 ghost use Rattle.irs_audit.specs.FieldDepartures.{ExchangeDeparts, PaymentDeparts, PeriodDeparts, ResetDeparts};
 ghost use Rattle.irs_base.specs.Members.{Every};
 ghost use Rattle.irs_breaks.specs.Counting.{IsComparable, TiesTo};
-ghost use Rattle.irs_breaks.specs.Fields.{exchange_fields, notional_of, payment_fields, period_fields, rate_of, reset_fields};
+ghost use Rattle.irs_breaks.specs.Fields.{exchange_fields, notional_of, payment_fields, period_fields, rate_decimal};
+ghost use Rattle.irs_breaks.specs.Fields.{reset_fields};
 ghost use Rattle.irs_breaks.specs.Fields.{reset_or_nothing};
 
 use crate::values::{FieldValues, Values};
@@ -38,7 +39,7 @@ pub(crate) fn notional(units: i128) -> Dec
 
 // A rate in units of 10^-9, where it is known.
 fn rate(units: Option<i64>) -> Option<Dec>
-    ensures { result ≡ rate_of units }
+    ensures { result ≡ rate_decimal units }
 {
     match units {
         Some(r) => Some(Dec {
@@ -88,7 +89,7 @@ pub fn payment_fields(currency: Currency, x: &PaymentEntry, y: &FlowPayment) -> 
 pub fn period_fields(x: &CalculationPeriod, y: &FlowPeriod) -> [FieldValues; 8]
     ensures fields { result ≡ period_fields x.now y.now }
     ensures ties { Every (TiesTo (PeriodDeparts x.now y.now)) (period_fields x.now y.now) }
-    ensures comparable { IsSmall x.now.frac → Every IsComparable (period_fields x.now y.now) }
+    ensures comparable { IsBoundedFraction x.now.frac → Every IsComparable (period_fields x.now y.now) }
 {
     [
         dates(Field::UnadjustedStartDate, x.start, y.start),

@@ -3,7 +3,8 @@
 ghost use Rattle.std.specs.Prelude.{◌≡◌, ◌↔◌, IsTrue, OnOk};
 ghost use Rattle.irs_base.specs.Members.{Every};
 ghost use Rattle.irs_breaks.specs.BreakLists.{HasBreak};
-ghost use Rattle.irs_breaks.specs.Findings.{IsPrintable, IsPrintableWhat, counted, joined, nothing, told};
+ghost use Rattle.irs_breaks.specs.Findings.{IsPrintable, IsPrintableWhat, one_pair, joined_findings, no_findings};
+ghost use Rattle.irs_breaks.specs.Findings.{one_break};
 ghost use Rattle.irs_breaks.specs.RowFindings.{break_at};
 
 use crate::counting::Counts;
@@ -73,7 +74,7 @@ impl Model for BreakList {
 impl BreakList {
     /// A list of nothing.
     pub(crate) fn new(alloc: Global) -> BreakList
-        ensures { result ≡ nothing }
+        ensures { result ≡ no_findings }
     {
         BreakList {
             breaks: Vec::new(alloc),
@@ -84,7 +85,7 @@ impl BreakList {
     /// Appends what breaks at a place.
     pub(crate) fn push_break(&mut self, place: &BreakPlace, what: &What) -> Result<(), Memory>
         requires { IsPrintableWhat what.now }
-        ensures { OnOk result (self.new ≡ joined self.old (told (break_at place.now what.now))) }
+        ensures { OnOk result (self.new ≡ joined_findings self.old (one_break (break_at place.now what.now))) }
     {
         let place = BreakPlace {
             stream: place.stream,
@@ -108,7 +109,7 @@ impl BreakList {
 
     /// Appends how the fields of a pair are counted.
     pub(crate) fn push_pair(&mut self, counts: Counts) -> Result<(), Memory>
-        ensures { OnOk result (self.new ≡ joined self.old (counted counts)) }
+        ensures { OnOk result (self.new ≡ joined_findings self.old (one_pair counts)) }
     {
         self.pairs.push(counts)?;
         Ok(())

@@ -8,7 +8,7 @@ ghost use Rattle.irs_base.specs.Members.{Every, Pairs};
 ghost use Rattle.irs_breaks.specs.Blocks.{At};
 ghost use Rattle.irs_breaks.specs.Private.Blocks.{AreRising, IsBlock, IsEdge, IsPartner};
 ghost use Rattle.irs_breaks.specs.Private.Merging.{IsBeforeAll, IsMergedBefore, IsMergedTo, IsNotBefore};
-ghost use Rattle.irs_breaks.specs.PairedRows.{IsPairing, IsPlaced, row_of_ours};
+ghost use Rattle.irs_breaks.specs.PairedRows.{IsPairing, IsPlacedRow, row_of_ours};
 ghost use Rattle.irs_breaks.specs.Private.Undated.{ListsUndated, ListsUndatedExtras};
 ghost use Rattle.irs_breaks.specs.declared.dated.DatedRow.{DatedRow};
 
@@ -231,7 +231,7 @@ pub fn pair_rows(
     theirs: &[Option<Day>],
 ) -> Result<Vec<PairedRow>, Memory>
     ensures pairing { IfOk result (λ rows. IsPairing from ours.now theirs.now rows.items) }
-    ensures placed { IfOk result (λ rows. Every (IsPlaced (length ours.now) (length theirs.now)) rows.items) }
+    ensures placed { IfOk result (λ rows. Every (IsPlacedRow (length ours.now) (length theirs.now)) rows.items) }
 {
     let our_rows = rows_in_order(alloc, from, ours)?;
     let their_rows = rows_in_order(alloc, from, theirs)?;

@@ -1,12 +1,12 @@
 //! The findings of the payments of a stream.
 ghost use Rattle.std.specs.Prelude.{◌≡◌, ◌+◌, ◌<◌, ◌≤◌, min, IfSome, IfOk, OnOk, length, unwrap_or};
 ghost use Rattle.irs_base.specs.Members.{Every};
-ghost use Rattle.irs_breaks.specs.BreakLists.{ArePaymentsOf, payment_dates, stated_payment_dates};
+ghost use Rattle.irs_breaks.specs.BreakLists.{ArePaymentsOf, payment_row_dates, stated_payment_dates};
 ghost use Rattle.irs_breaks.specs.Counting.{counts_in};
 ghost use Rattle.irs_breaks.specs.Findings.{EachRow};
 ghost use Rattle.irs_breaks.specs.Private.Findings.{Adds};
-ghost use Rattle.irs_breaks.specs.PairedRows.{IsPlaced};
-ghost use Rattle.irs_breaks.specs.RowFindings.{ArePayments, IsPaymentRow, member_at, payment_counts};
+ghost use Rattle.irs_breaks.specs.PairedRows.{IsPlacedRow};
+ghost use Rattle.irs_breaks.specs.RowFindings.{FindsPayment, IsPaymentRow, member_at, payment_counts};
 ghost use Rattle.irs_breaks.specs.Private.RowFindings.{AreStarts};
 
 use crate::PairedRow;
@@ -55,7 +55,7 @@ fn push_payment_pair(
     requires last { x.now.last_period ≤ length part.now.periods }
     requires start { start ≤ length flow.now.periods }
     requires amount { IfSome x.now.amount (λ v. v.places ≤ 12) }
-    ensures { OnOk result (Adds (ArePayments place.now part.now flow.now start x.now y.now) list.old list.new) }
+    ensures { OnOk result (Adds (FindsPayment place.now part.now flow.now start x.now y.now) list.old list.new) }
 {
     let fields = payment_fields(part.currency(), x, y);
     let bare = y.periods == 0;
@@ -90,7 +90,7 @@ fn push_payment(
     starts: &[usize],
     row: &PairedRow,
 ) -> Result<(), Memory>
-    requires placed { IsPlaced (length part.now.payments) (length flow.now.payments) row.now }
+    requires placed { IsPlacedRow (length part.now.payments) (length flow.now.payments) row.now }
     requires starts { AreStarts flow.now starts.now }
     ensures { OnOk result (Adds (IsPaymentRow stream part.now flow.now row.now) list.old list.new) }
 {
@@ -153,7 +153,7 @@ fn push_payment_rows(
     flow: &FlowStream,
     rows: &[PairedRow],
 ) -> Result<(), Memory>
-    requires { Every (IsPlaced (length part.now.payments) (length flow.now.payments)) rows.now }
+    requires { Every (IsPlacedRow (length part.now.payments) (length flow.now.payments)) rows.now }
     ensures { OnOk result (Adds (EachRow (IsPaymentRow stream part.now flow.now) rows.now) list.old list.new) }
 {
     let starts = first_places(alloc, flow)?;
@@ -182,7 +182,7 @@ pub(crate) fn push_payments(
 }
 
 fn payment_dates(alloc: Global, payments: &[PaymentEntry]) -> Result<Vec<Option<Day>>, Memory>
-    ensures { IfOk result (λ dates. dates.items ≡ payment_dates payments.now) }
+    ensures { IfOk result (λ dates. dates.items ≡ payment_row_dates payments.now) }
 {
     let mut dates = Vec::new(alloc);
     for payment in payments {

@@ -1,14 +1,15 @@
 //! The findings of the calculation periods of a pair of payments, and of their resets.
 ghost use Rattle.std.specs.Prelude.{◌≡◌, ◌+◌, ◌<◌, ◌≤◌, ◌++◌, IfSome, IfOk, OnOk, length, map, option_copied};
 ghost use Rattle.std.specs.Prelude.{option_and_then, option_map, take};
-ghost use Rattle.irs_audit.specs.Comparisons.{IsSmall};
+ghost use Rattle.irs_audit.specs.Comparisons.{IsBoundedFraction};
 ghost use Rattle.irs_base.specs.Members.{Every};
 ghost use Rattle.irs_breaks.specs.Counting.{counts_in};
 ghost use Rattle.irs_breaks.specs.Fields.{notional_of};
-ghost use Rattle.irs_breaks.specs.Findings.{EachRow, joined, told};
+ghost use Rattle.irs_breaks.specs.Findings.{EachRow, joined_findings, one_break};
 ghost use Rattle.irs_breaks.specs.Private.Findings.{Adds};
-ghost use Rattle.irs_breaks.specs.PairedRows.{IsPlaced};
-ghost use Rattle.irs_breaks.specs.RowFindings.{ArePeriods, ArePeriodsOf, IsPeriodRow, IsReset, counted_reset, extra_reset};
+ghost use Rattle.irs_breaks.specs.PairedRows.{IsPlacedRow};
+ghost use Rattle.irs_breaks.specs.RowFindings.{ArePeriods, ArePeriodsOf, IsPeriodRow, FindsReset, counted_reset};
+ghost use Rattle.irs_breaks.specs.RowFindings.{extra_reset};
 ghost use Rattle.irs_breaks.specs.RowFindings.{moved, our_starts, reset_place};
 ghost use Rattle.irs_audit.specs.declared.flows.FlowPeriod.{FlowPeriod};
 ghost use Rattle.irs_schedule.specs.PeriodViews.{period_at};
@@ -32,7 +33,7 @@ fn push_extra_reset(
     place: &BreakPlace,
     stated: FlowReset,
 ) -> Result<(), Memory>
-    ensures { OnOk result (list.new ≡ joined list.old (told (extra_reset place.now stated))) }
+    ensures { OnOk result (list.new ≡ joined_findings list.old (one_break (extra_reset place.now stated))) }
 {
     let place = BreakPlace {
         stream: place.stream,
@@ -64,7 +65,7 @@ fn push_reset(
     reset: Option<&Reset>,
     stated: Option<FlowReset>,
 ) -> Result<(), Memory>
-    ensures { OnOk result (Adds (IsReset place.now (option_copied reset.entry) stated) list.old list.new) }
+    ensures { OnOk result (Adds (FindsReset place.now (option_copied reset.entry) stated) list.old list.new) }
 {
     match (reset, stated) {
         (Some(r), stated) => push_fields(list, &reset_place(place), &reset_fields(r, stated)),
@@ -92,7 +93,7 @@ fn push_period_pair(
     x: &CalculationPeriod,
     y: &FlowPeriod,
 ) -> Result<(), Memory>
-    requires { IsSmall x.now.frac }
+    requires { IsBoundedFraction x.now.frac }
     ensures { OnOk result (Adds (ArePeriods place.now (option_copied reset.entry) x.now y.now) list.old list.new) }
 {
     let fields = period_fields(x, y);
@@ -105,7 +106,7 @@ fn push_period_pair(
 // The calculation period of ours at a place.
 fn period_at(part: &StreamPart, place: Option<usize>) -> Option<CalculationPeriod>
     ensures value { result ≡ option_and_then (period_at part.now) place }
-    ensures small { IfSome result (λ x. IsSmall x.frac) }
+    ensures small { IfSome result (λ x. IsBoundedFraction x.frac) }
 {
     match place {
         Some(n) => part.period(n),
@@ -128,7 +129,7 @@ fn push_period(
     flow: &FlowStream,
     row: &PairedRow,
 ) -> Result<(), Memory>
-    requires { IsPlaced (length part.now.periods) (length flow.now.periods) row.now }
+    requires { IsPlacedRow (length part.now.periods) (length flow.now.periods) row.now }
     ensures { OnOk result (Adds (IsPeriodRow stream part.now flow.now row.now) list.old list.new) }
 {
     let ys = flow.periods();
@@ -157,7 +158,7 @@ fn moved_place(before: usize, count: usize, place: Option<usize>) -> Option<usiz
 
 // A row with its places in longer lists of `counts` rows, which begin `before` rows earlier.
 fn moved(before: (usize, usize), counts: (usize, usize), row: &PairedRow) -> PairedRow
-    requires { IsPlaced counts.0 counts.1 (moved before.0 before.1 row.now) }
+    requires { IsPlacedRow counts.0 counts.1 (moved before.0 before.1 row.now) }
     ensures { result ≡ moved before.0 before.1 row.now }
 {
     PairedRow {
@@ -176,7 +177,7 @@ fn push_period_rows(
     before: (usize, usize),
     rows: &[PairedRow],
 ) -> Result<(), Memory>
-    requires { Every (λ m. IsPlaced (length part.now.periods) (length flow.now.periods) (moved before.0 before.1 m)) rows.now }
+    requires { Every (λ m. IsPlacedRow (length part.now.periods) (length flow.now.periods) (moved before.0 before.1 m)) rows.now }
     ensures { OnOk result (Adds (EachRow (λ m. IsPeriodRow stream part.now flow.now (moved before.0 before.1 m)) rows.now) list.old list.new) }
 {
     let counts = (part.periods(), flow.periods().len());

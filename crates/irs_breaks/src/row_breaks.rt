@@ -2,10 +2,11 @@
 ghost use Rattle.std.specs.Prelude.{◌≡◌, ◌+◌, ◌<◌, ◌≤◌, IfSome, OnOk, option_copied};
 ghost use Rattle.irs_base.specs.Members.{Every};
 ghost use Rattle.irs_breaks.specs.Counting.{IsComparable};
-ghost use Rattle.irs_breaks.specs.Findings.{joined};
+ghost use Rattle.irs_breaks.specs.Findings.{joined_findings};
 ghost use Rattle.irs_breaks.specs.Private.Findings.{Adds};
-ghost use Rattle.irs_breaks.specs.PairedRows.{IsPlaced};
-ghost use Rattle.irs_breaks.specs.RowFindings.{AreFieldBreaks, alone, member_at, numbered, ours_alone, place_of, theirs_alone};
+ghost use Rattle.irs_breaks.specs.PairedRows.{IsPlacedRow};
+ghost use Rattle.irs_breaks.specs.RowFindings.{AreFieldBreaks, unpaired, member_at, numbered, ours_alone, break_place};
+ghost use Rattle.irs_breaks.specs.RowFindings.{theirs_alone};
 
 use crate::PairedRow;
 use crate::findings::{BreakList, BreakPlace, What};
@@ -32,8 +33,8 @@ pub(crate) fn place_of(
     ours: usize,
     theirs: usize,
 ) -> BreakPlace
-    requires { IsPlaced ours theirs row.now }
-    ensures { result ≡ place_of stream kind row.now }
+    requires { IsPlacedRow ours theirs row.now }
+    ensures { result ≡ break_place stream kind row.now }
 {
     BreakPlace {
         stream,
@@ -51,14 +52,14 @@ pub(crate) fn push_ours(
     value: Option<Dec>,
 ) -> Result<(), Memory>
     requires { IfSome value (λ v. v.places ≤ 12) }
-    ensures { OnOk result (list.new ≡ joined list.old (ours_alone place.now value)) }
+    ensures { OnOk result (list.new ≡ joined_findings list.old (ours_alone place.now value)) }
 {
     list.push_break(place, &What::Missing(value))
 }
 
 // What breaks where a row of theirs is alone: it is extra, or undated where it has no date.
 fn alone(day: &Option<Day>, places: u8, value: Option<i128>) -> What
-    ensures { result ≡ alone day.now places value }
+    ensures { result ≡ unpaired day.now places value }
 {
     match day {
         Some(_) => What::Extra(places, value),
@@ -74,7 +75,7 @@ pub(crate) fn push_theirs(
     value: Option<i128>,
 ) -> Result<(), Memory>
     requires { places ≤ 12 }
-    ensures { OnOk result (list.new ≡ joined list.old (theirs_alone place.now places value)) }
+    ensures { OnOk result (list.new ≡ joined_findings list.old (theirs_alone place.now places value)) }
 {
     list.push_break(place, &alone(&place.day, places, value))
 }

@@ -5,7 +5,7 @@
 //! the order of the pairing. The standard has no such list; its order is our rule.
 ghost use Rattle.std.specs.Prelude.{◌≡◌, max, IfOk, OnOk, length, option_copied};
 ghost use Rattle.irs_breaks.specs.BreakLists.{IsBreakList, IsStream, StreamAt, first_due, whole_stream};
-ghost use Rattle.irs_breaks.specs.Findings.{Findings, IsPrintableWhat, UpTo, joined};
+ghost use Rattle.irs_breaks.specs.Findings.{Findings, IsPrintableWhat, UpTo, joined_findings};
 ghost use Rattle.irs_breaks.specs.Private.Findings.{Adds};
 
 use crate::exchange_breaks::push_exchanges;
@@ -19,7 +19,7 @@ use std::alloc::Global;
 // Appends the finding of a stream that only one side has.
 fn push_stream(list: &mut BreakList, stream: usize, what: What) -> Result<(), Memory>
     requires { IsPrintableWhat what }
-    ensures { OnOk result (list.new ≡ joined list.old (whole_stream stream what)) }
+    ensures { OnOk result (list.new ≡ joined_findings list.old (whole_stream stream what)) }
 {
     let place = BreakPlace {
         stream,

@@ -12,7 +12,7 @@ ghost use Rattle.std.specs.Ordering.{int_eq};
 ghost use Rattle.std.specs.List.{flat_map};
 ghost use Rattle.irs_base.specs.Members.{Every};
 ghost use Rattle.irs_base.specs.Texts.{day_text};
-ghost use Rattle.irs_breaks.specs.BreakTexts.{break_text, breaks_text, first_line, last_line, or_dash};
+ghost use Rattle.irs_breaks.specs.BreakTexts.{break_text, breaks_text, breaks_first_line, last_line, or_dash};
 ghost use Rattle.irs_breaks.specs.BreakTexts.{fraction_text, our_value, ours_text, place_fields, places_of, shortest, stated_text};
 ghost use Rattle.irs_breaks.specs.BreakTexts.{their_value, theirs_text, what_name};
 ghost use Rattle.irs_breaks.specs.Counting.{counted_as};
@@ -269,7 +269,7 @@ fn push_lines(text: &mut Vec<u8>, breaks: &[Break]) -> Result<(), Memory>
 
 // The first line.
 fn first_line(from: &Option<Day>) -> Line
-    ensures { result ≡ first_line from.now }
+    ensures { result ≡ breaks_first_line from.now }
 {
     let mut line = Line::new();
     line.push(b"irs-breaks 1");

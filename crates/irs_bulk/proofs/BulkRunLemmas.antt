@@ -23,7 +23,7 @@ use Rattle.irs_answers.specs.declared.refusals.Refusal.{Refusal}
 use Rattle.irs_answers.specs.declared.refusals.Refusal.TheVariants.{Rule, Calendars, Fixings, Flows, Memory, Unreadable}
 use Rattle.irs_answers.specs.declared.refusals.Refusal.TheVariants.{UnreadableFlows}
 use Rattle.irs_answers.specs.Forms.{json_text}
-use Rattle.irs_answers.specs.Due.{Spells, facts}
+use Rattle.irs_answers.specs.Due.{SpellsTask, facts}
 use Rattle.irs_answers.specs.Outcomes.{Answer, answer_of, Ends, IfRefused, IsScheduled, IsUnscheduled}
 use Rattle.irs_answers.proofs.DueLemmas.{passes_by, refuse_rules}
 use Rattle.irs_answers.proofs.OneAnswer.{one_due}
@@ -31,15 +31,16 @@ use Rattle.irs_answers.proofs.PassLemmas.{passes_one, passes_due}
 use Rattle.irs_answers.proofs.StepLemmas.{read, unread, step_both}
 use Rattle.irs_bulk.specs.BulkCalendars.{calendar_text}
 use Rattle.irs_bulk.specs.BulkLines.{both_totals, line_text}
-use Rattle.irs_bulk.specs.BulkRuns.{Adds, AreSums, DueAt, DueBulk, DueSchedule, HasBoth, IsScheduleOf, IsStop, files_of}
+use Rattle.irs_bulk.specs.BulkRuns.{AddsDocument, AreSums, DueAt, DueBulk, DueSchedule, HasBoth, IsScheduleOf, IsStop}
+use Rattle.irs_bulk.specs.BulkRuns.{files_of}
 use Rattle.irs_bulk.specs.BulkRuns.{one_total}
-use Rattle.irs_bulk.specs.Documents.{document_text}
+use Rattle.irs_bulk.specs.Documents.{bulk_document_text}
 use Rattle.irs_bulk.specs.declared.totals.Totals.{Totals}
 
 -- ---- the schedule that is made is that of the document
 
 module _ (plain : Bool) (k : ℕ) (swap : Swap) (cal : List Section) (table : RateTable)
-    (spells : Spells Schedule (json_text (document_text plain k)) swap None) (files : CalFiles (calendar_text ∷ []) cal)
+    (spells : SpellsTask Schedule (json_text (bulk_document_text plain k)) swap None) (files : CalFiles (calendar_text ∷ []) cal)
     (without : table ≡ []) where
   -- a schedule over the swap, the calendar and the fixings is the schedule of document k
   pub schedule_by : (r : Result (List Part) Refusal) → IfOk r (IsScheduled swap cal table)
@@ -62,7 +63,7 @@ module _ (plain : Bool) (k : ℕ) (swap : Swap) (cal : List Section) (table : Ra
 one_schedule_of : (plain : Bool) (k : ℕ) (s t : List Part) → IsScheduleOf plain k s → IsScheduleOf plain k t → t ≡ s
 one_schedule_of plain k s t h i = sym i.2 ∙ passes_one Schedule (files_of plain k) h.0 i.0 h.1 i.1 ∙ h.2
 
-one_adds : (k : ℕ) (t u : Totals) → Adds k t → Adds k u → u ≡ t
+one_adds : (k : ℕ) (t u : Totals) → AddsDocument k t → AddsDocument k u → u ≡ t
 one_adds k t u h i =
     let s : i.schedule ≡ h.schedule = one_schedule_of false k h.schedule i.schedule h.of_document i.of_document in
     let p : i.plain ≡ h.plain = one_schedule_of true k h.plain i.plain h.of_plain i.of_plain in
@@ -82,12 +83,12 @@ one_sums (suc k) t u h i =
     i.2.2 ∙ ap (λ (x : Totals). both_totals x i.2.0) a ∙ ap (λ (x : Totals). both_totals h.0 x) b ∙ sym h.2.2
 
 -- the sums up to k and those of document k + 1 are the sums up to k + 1
-pub sums_more : (k : ℕ) (t u : Totals) → AreSums k t → Adds (suc k) u → AreSums (suc k) (both_totals t u)
+pub sums_more : (k : ℕ) (t u : Totals) → AreSums k t → AddsDocument (suc k) u → AreSums (suc k) (both_totals t u)
 sums_more k t u h a = (t, h, (u, a, refl))
 
 -- ---- the first document without a schedule
 
-adds_both : (k : ℕ) (t : Totals) → Adds k t → HasBoth k
+adds_both : (k : ℕ) (t : Totals) → AddsDocument k t → HasBoth k
 adds_both k t h = ((h.schedule, h.of_document), (h.plain, h.of_plain))
 
 sums_have : (n k : ℕ) (t : Totals) → AreSums n t → 0 < k → k ≤ n → HasBoth k

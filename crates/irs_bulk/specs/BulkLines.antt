@@ -16,7 +16,7 @@ abbrev pub most_sum : ℕ
 most_sum = 10 ^ 32
 
 -- the sums of that many documents, each with counts and sums within the limits
-pub record IsRun (t : Totals) : Type 0 where
+pub record AreRunTotals (t : Totals) : Type 0 where
   pub documents : t.documents ≤ most_bulk
   pub rows : t.rows ≤ t.documents * most_count
   pub total : unsigned_abs t.total ≤ t.documents * most_sum

@@ -1,10 +1,10 @@
 -- What `bulk N` comes to: the first of its documents that has no schedule, or the sums over the schedules of all.
 use Rattle.std.specs.Prelude.{◌≡◌, ◌⊎◌, ℕ, zero, suc, ◌<◌, ◌≤◌, List, [], ◌∷◌, Bool, true, false, None}
 use Rattle.irs_answers.specs.declared.tasks.Task.TheVariants.{Schedule}
-use Rattle.irs_answers.specs.Due.{DueFor, Facts, Passes}
-use Rattle.irs_answers.specs.Forms.{json_text, no_text}
+use Rattle.irs_answers.specs.Due.{DueFor, Facts, PassesEachStep}
+use Rattle.irs_answers.specs.Forms.{json_text, no_source_text}
 use Rattle.irs_answers.specs.Given.{Given}
-use Rattle.irs_answers.specs.Steps.{Is, Step}
+use Rattle.irs_answers.specs.Steps.{Is, ReadStep}
 use Rattle.irs_audit.specs.StatedFlows.{stated_flows}
 use Rattle.irs_audit.specs.Sums.{sums_in}
 use Rattle.irs_audit.specs.Verdicts.{IsVerdict}
@@ -12,7 +12,7 @@ use Rattle.irs_audit.specs.declared.departures.Verdict.{Verdict}
 use Rattle.irs_audit.specs.declared.departures.Verdict.TheVariants.{Yes, No}
 use Rattle.irs_bulk.specs.BulkCalendars.{calendar_text}
 use Rattle.irs_bulk.specs.BulkLines.{both_totals, line_text, no_totals}
-use Rattle.irs_bulk.specs.Documents.{document_text}
+use Rattle.irs_bulk.specs.Documents.{bulk_document_text}
 use Rattle.irs_bulk.specs.declared.totals.Totals.{Totals}
 use Rattle.irs_schedule.specs.Parts.{Part}
 
@@ -22,9 +22,9 @@ use Rattle.irs_schedule.specs.Parts.{Part}
 abbrev pub files_of : Bool → ℕ → Given
 files_of plain k =
     record {
-      document = json_text (document_text plain k);
+      document = json_text (bulk_document_text plain k);
       fixings = None;
-      flows = no_text;
+      flows = no_source_text;
       calendars =
           calendar_text ∷ [];
     }
@@ -35,7 +35,7 @@ DueSchedule plain k status text = DueFor Schedule (files_of plain k) status text
 
 -- document k, or its plain form, breaks no rule, and this is its one schedule
 abbrev pub IsScheduleOf : Bool → ℕ → List Part → Type 0
-IsScheduleOf plain k s = (f : Facts) × Passes Schedule (files_of plain k) f × (f.parts ≡ s)
+IsScheduleOf plain k s = (f : Facts) × PassesEachStep Schedule (files_of plain k) f × (f.parts ≡ s)
 
 -- document k has a schedule, and its plain form has one
 abbrev pub HasBoth : ℕ → Type 0
@@ -49,9 +49,9 @@ agree_of (Yes rows unfixed) = 1
 agree_of (No d) = 0
 
 -- the number of the first row that departs; nothing where the flows agree
-abbrev pub first_of : Verdict → ℕ
-first_of (Yes rows unfixed) = 0
-first_of (No d) = d.row
+abbrev pub first_departing_row : Verdict → ℕ
+first_departing_row (Yes rows unfixed) = 0
+first_departing_row (No d) = d.row
 
 -- the rows, amounts and days of one schedule, and a verdict on flows against it
 abbrev pub one_total : List Part → Verdict → Totals
@@ -61,12 +61,12 @@ one_total s v = let sums = sums_in s in record {
   total = sums.total;
   days = sums.days;
   agree = agree_of v;
-  first = first_of v;
+  first = first_departing_row v;
 }
 
 -- what document k adds: by its schedule, and by the verdict against it on the flows that state the schedule of its
 -- plain form
-pub record Adds (k : ℕ) (t : Totals) : Type 0 where
+pub record AddsDocument (k : ℕ) (t : Totals) : Type 0 where
   pub schedule : List Part
   pub of_document : IsScheduleOf false k schedule
   pub plain : List Part
@@ -79,7 +79,7 @@ pub record Adds (k : ℕ) (t : Totals) : Type 0 where
 abbrev pub AreSums : ℕ → Totals → Type 0
 AreSums zero t = t ≡ no_totals
 AreSums (suc k) t =
-    (before : Totals) × AreSums k before × ((more : Totals) × Adds (suc k) more × (t ≡ both_totals before more))
+    (before : Totals) × AreSums k before × ((more : Totals) × AddsDocument (suc k) more × (t ≡ both_totals before more))
 
 -- ---- what is due
 
@@ -94,7 +94,7 @@ pub record IsStop (n k : ℕ) : Type 0 where
 -- form
 abbrev pub DueAt : ℕ → ℕ → List ℕ → Type 0
 DueAt k status text =
-    Step (IsScheduleOf false k) (DueSchedule false k status text) (λ s. DueSchedule true k status text)
+    ReadStep (IsScheduleOf false k) (DueSchedule false k status text) (λ s. DueSchedule true k status text)
 
 -- what is due for `bulk n`
 pub record DueBulk (n : ℕ) (status : ℕ) (text : List ℕ) : Type 0 where

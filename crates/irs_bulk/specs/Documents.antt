@@ -13,20 +13,20 @@ abbrev pub roll_of : ℕ → ℕ
 roll_of k = 1 + k % 28
 
 -- the month of the effective and the termination date
-abbrev pub month_of : ℕ → ℕ
-month_of k = 1 + k % 12
+abbrev pub effective_month : ℕ → ℕ
+effective_month k = 1 + k % 12
 
 -- the year of the effective date; the termination date is twenty years later
-abbrev pub year_of : ℕ → ℕ
-year_of k = 1950 + k / 12
+abbrev pub effective_year : ℕ → ℕ
+effective_year k = 1950 + k / 12
 
 -- the effective date
 abbrev pub effective_text : ℕ → List ℕ
-effective_text k = date_text (year_of k) (month_of k) (roll_of k)
+effective_text k = date_text (effective_year k) (effective_month k) (roll_of k)
 
 -- the termination date
 abbrev pub termination_text : ℕ → List ℕ
-termination_text k = date_text (year_of k + 20) (month_of k) (roll_of k)
+termination_text k = date_text (effective_year k + 20) (effective_month k) (roll_of k)
 
 -- the conventions, which the documents use in turn
 abbrev pub conventions : List (List ℕ)
@@ -43,8 +43,8 @@ unfoldable pub notional_text : ℕ → List ℕ
 notional_text k = decimal (1000000 + 1000 * k)
 
 -- the rate of document k: k in four digits after the point
-unfoldable pub rate_text : ℕ → List ℕ
-rate_text k = codes "0." ++ two_digits (k / 100) ++ two_digits (k % 100)
+unfoldable pub bulk_rate_text : ℕ → List ℕ
+bulk_rate_text k = codes "0." ++ two_digits (k / 100) ++ two_digits (k % 100)
 
 -- the day counts, which the documents use in turn
 abbrev pub day_counts : List (List ℕ)
@@ -85,7 +85,7 @@ payments_text adjustments =
 unfoldable pub amounts_text : ℕ → List ℕ
 amounts_text k =
     codes "\"calculationPeriodAmount\":{\"calculation\":{\n\"notionalSchedule\":{\"notionalStepSchedule\":{\"initialValue\":\"" ++ notional_text k
-    ++ codes "\",\"currency\":\"USD\"}},\n\"fixedRateSchedule\":{\"initialValue\":\"" ++ rate_text k
+    ++ codes "\",\"currency\":\"USD\"}},\n\"fixedRateSchedule\":{\"initialValue\":\"" ++ bulk_rate_text k
     ++ codes "\"},\"dayCountFraction\":\"" ++ day_count_text k ++ codes "\"}}}}}\n"
 
 -- document k with dates adjusted as this element says
@@ -94,5 +94,5 @@ document_with adjustments k =
     codes "{\"swap\":{\"swapStream\":{\n" ++ dates_text adjustments k ++ payments_text adjustments ++ amounts_text k
 
 -- document k; a plain one adjusts no date
-unfoldable pub document_text : Bool → ℕ → List ℕ
-document_text plain k = document_with (adjustments_text (convention_text plain k)) k
+unfoldable pub bulk_document_text : Bool → ℕ → List ℕ
+bulk_document_text plain k = document_with (adjustments_text (convention_text plain k)) k

@@ -2,8 +2,9 @@
 ghost use Rattle.std.specs.Prelude.{◌≡◌, ◌+◌, ◌<◌, ◌≤◌, [], ◌++◌, IfOk, OnOk, length, map, slice_index_or};
 ghost use Rattle.irs_base.specs.Texts.{date_text};
 ghost use Rattle.irs_bulk.specs.Documents.{adjustments_text, amounts_text, convention_text, date_element, dates_text};
-ghost use Rattle.irs_bulk.specs.Documents.{day_count_text, document_text, document_with, month_of, most_bulk};
-ghost use Rattle.irs_bulk.specs.Documents.{notional_text, payments_text, rate_text, roll_of};
+ghost use Rattle.irs_bulk.specs.Documents.{day_count_text, bulk_document_text, document_with, effective_month};
+ghost use Rattle.irs_bulk.specs.Documents.{most_bulk};
+ghost use Rattle.irs_bulk.specs.Documents.{notional_text, payments_text, bulk_rate_text, roll_of};
 
 use crate::digits::{put, put_date, put_number, put_two_digits};
 use irs_base::Memory;
@@ -73,7 +74,7 @@ fn adjustments(alloc: Global, convention: &str) -> Result<Vec<u8>, Memory>
 #[tactic(auto, unfolding(crate::specs::Documents::date_element))]
 fn date(alloc: Global, k: u32, year: u32, adjustments: &[u8]) -> Result<Vec<u8>, Memory>
     requires { year < 10_000 }
-    ensures { IfOk result (λ t. t.items ≡ date_element (date_text year (month_of k) (roll_of k)) adjustments.now) }
+    ensures { IfOk result (λ t. t.items ≡ date_element (date_text year (effective_month k) (roll_of k)) adjustments.now) }
 {
     let mut text = Vec::from_slice(alloc, b"{\"unadjustedDate\":\"")?;
     put_date(&mut text, year, 1 + k % 12, roll(k))?;
@@ -135,10 +136,10 @@ fn put_notional(text: &mut Vec<u8>, k: u32) -> Result<(), Memory>
 }
 
 // `0.` and k in four digits.
-#[tactic(auto, unfolding(crate::specs::Documents::rate_text))]
+#[tactic(auto, unfolding(crate::specs::Documents::bulk_rate_text))]
 fn put_rate(text: &mut Vec<u8>, k: u32) -> Result<(), Memory>
     requires { k ≤ most_bulk }
-    ensures { OnOk result (text.new.items ≡ text.old.items ++ rate_text k) }
+    ensures { OnOk result (text.new.items ≡ text.old.items ++ bulk_rate_text k) }
 {
     put(text, "0.")?;
     put_two_digits(text, k / 100)?;
@@ -201,11 +202,11 @@ fn document(alloc: Global, k: u32, convention: &str) -> Result<Vec<u8>, Memory>
 /// 12. The notional is 1000000 + 1000 k, and the rate is k in units of 10^-4. The day counts take
 /// turns by k, and so do the conventions of all four adjustments, on the centre BULK. A plain
 /// document has NONE in each. `Memory` comes only where memory ran out.
-#[tactic(auto, unfolding(crate::specs::Documents::document_text))]
+#[tactic(auto, unfolding(crate::specs::Documents::bulk_document_text))]
 pub fn bulk_doc(alloc: Global, k: u32, plain: bool) -> Result<Vec<u8>, Memory>
     requires low { 0 < k }
     requires high { k ≤ most_bulk }
-    ensures { IfOk result (λ text. text.items ≡ document_text plain k) }
+    ensures { IfOk result (λ text. text.items ≡ bulk_document_text plain k) }
 {
     document(alloc, k, convention(k, plain))
 }

@@ -3,19 +3,19 @@
 //! The calendar is read once, and its centre looked up once. A document's own faults are reported before
 //! those of the calendar, as `schedule` reports them. The memory of one document is freed before the next.
 ghost use Rattle.std.specs.Prelude.{◌≡◌, ◌<◌, ◌≤◌, ◌^◌, [], ◌∷◌, map, IfErr, IfOk, IfSome};
-ghost use Rattle.irs_terms.specs.Lawful.{IsLawful};
-ghost use Rattle.irs_answers.specs.Due.{Spells};
+ghost use Rattle.irs_terms.specs.Lawful.{IsLawfulSwap};
+ghost use Rattle.irs_answers.specs.Due.{SpellsTask};
 ghost use Rattle.irs_answers.specs.Forms.{json_text};
 ghost use Rattle.irs_answers.specs.Outcomes.{Ends, IfRefused, IsScheduled, IsUnscheduled};
 ghost use Rattle.irs_answers.specs.Private.Outcomes.{IfAnswered};
 ghost use Rattle.irs_answers.specs.Replying.{reply_status, reply_text};
 ghost use Rattle.irs_answers.specs.declared.tasks.Task.TheVariants.{Schedule as OfSchedule};
 ghost use Rattle.irs_bulk.specs.BulkCalendars.{calendar_text};
-ghost use Rattle.irs_bulk.specs.BulkLines.{IsRun, line_text};
-ghost use Rattle.irs_bulk.specs.BulkRuns.{Adds, AreSums, DueAt, DueBulk, DueSchedule, IsOneBulk};
+ghost use Rattle.irs_bulk.specs.BulkLines.{AreRunTotals, line_text};
+ghost use Rattle.irs_bulk.specs.BulkRuns.{AddsDocument, AreSums, DueAt, DueBulk, DueSchedule, IsOneBulk};
 ghost use Rattle.irs_bulk.specs.Private.BulkRuns.{IsCalendar};
-ghost use Rattle.irs_bulk.specs.BulkRuns.{IsScheduleOf, agree_of, first_of, one_total};
-ghost use Rattle.irs_bulk.specs.Documents.{document_text, most_bulk};
+ghost use Rattle.irs_bulk.specs.BulkRuns.{IsScheduleOf, agree_of, first_departing_row, one_total};
+ghost use Rattle.irs_bulk.specs.Documents.{bulk_document_text, most_bulk};
 ghost use Rattle.irs_bulk.specs.Private.Tables.{IsTable};
 
 use crate::{Totals, bulk_calendar, bulk_doc, bulk_text};
@@ -62,7 +62,7 @@ fn run(alloc: Global, n: u32) -> Result<Reply, Refusal>
 }
 
 fn line(alloc: Global, totals: &Totals) -> Result<Vec<u8>, Memory>
-    requires { IsRun totals.now }
+    requires { AreRunTotals totals.now }
     ensures { IfOk result (λ t. t.items ≡ line_text totals.now) }
 {
     let mut line = Line::new();
@@ -79,7 +79,7 @@ fn totals(
     requires few { n ≤ most_bulk }
     requires calendar { IsTable days.now }
     ensures sums { IfOk result (AreSums n) }
-    ensures run { IfOk result IsRun }
+    ensures run { IfOk result AreRunTotals }
     ensures refused { IfErr result (λ r. IfRefused r (Ends (DueBulk n))) }
 {
     let mut totals = Totals::none();
@@ -104,7 +104,7 @@ fn calendars(alloc: Global) -> Result<Calendars, CalErr>
 
 // The swap of document 2, which names the centre as most documents do; none where memory ran out.
 fn sample(alloc: Global) -> Option<Swap>
-    ensures { IfSome result IsLawful }
+    ensures { IfSome result IsLawfulSwap }
 {
     match swap_at(alloc, 2, false) {
         Ok(swap) => Some(swap),
@@ -119,7 +119,7 @@ fn days_by<'a>(
     sample: &'a Option<Swap>,
 ) -> Result<CenterTable<'a, 'a>, CalErr>
     requires calendar { IsCalendar calendars.now }
-    requires lawful { IfSome sample.now IsLawful }
+    requires lawful { IfSome sample.now IsLawfulSwap }
     ensures { IsTable result }
 {
     match calendars {
@@ -134,7 +134,7 @@ fn table_by<'a>(
     calendars: &'a Calendars,
     sample: &'a Option<Swap>,
 ) -> CenterTable<'a, 'a>
-    requires { IfSome sample.now IsLawful }
+    requires { IfSome sample.now IsLawfulSwap }
     ensures { result.sections ≡ calendars.now }
 {
     match sample {
@@ -145,7 +145,7 @@ fn table_by<'a>(
 
 // The good business days of the centres that a swap names; none where its terms break a rule or memory ran out.
 fn table_of<'a>(alloc: Global, calendars: &'a Calendars, swap: &'a Swap) -> CenterTable<'a, 'a>
-    requires { IsLawful swap.now }
+    requires { IsLawfulSwap swap.now }
     ensures { result.sections ≡ calendars.now }
 {
     match check_terms(swap, calendars) {
@@ -175,8 +175,8 @@ fn one_total(
     requires low { 0 < k }
     requires high { k ≤ most_bulk }
     requires calendar { IsTable days.now }
-    ensures adds { IfOk result (Adds k) }
-    ensures run { IfOk result IsRun }
+    ensures adds { IfOk result (AddsDocument k) }
+    ensures run { IfOk result AreRunTotals }
     ensures one { IfOk result (λ t. t.documents ≡ 1) }
     ensures refused { IfErr result (λ r. IfRefused r (Ends (DueAt k))) }
 {
@@ -212,7 +212,7 @@ fn schedule_by(
     days: &CenterTable<'_, '_>,
     fixings: &Fixings,
 ) -> Result<Schedule, Refusal>
-    requires { IsLawful swap.now }
+    requires { IsLawfulSwap swap.now }
     ensures schedule { IfOk result (λ s. IsScheduled swap.now days.now.sections fixings.now s) }
     ensures refused { IfErr result (λ r. IfRefused r (IsUnscheduled swap.now days.now.sections fixings.now)) }
 {
@@ -226,8 +226,8 @@ fn schedule_by(
 fn swap_at(alloc: Global, k: u32, plain: bool) -> Result<Swap, Refusal>
     requires low { 0 < k }
     requires high { k ≤ most_bulk }
-    ensures spells { IfOk result (λ swap. Spells OfSchedule (json_text (document_text plain k)) swap None) }
-    ensures lawful { IfOk result IsLawful }
+    ensures spells { IfOk result (λ swap. SpellsTask OfSchedule (json_text (bulk_document_text plain k)) swap None) }
+    ensures lawful { IfOk result IsLawfulSwap }
     ensures refused { IfErr result (λ r. IfRefused r (Ends (DueSchedule plain k))) }
 {
     let bytes = bulk_doc(alloc, k, plain)?;
@@ -239,7 +239,7 @@ fn swap_at(alloc: Global, k: u32, plain: bool) -> Result<Swap, Refusal>
 // What is added up of one schedule, and of a verdict on flows against it.
 fn totals_by(schedule: &Schedule, verdict: Verdict) -> Totals
     ensures value { result ≡ one_total schedule.now verdict }
-    ensures run { IsRun result }
+    ensures run { AreRunTotals result }
 {
     let sums = sums_of(schedule);
     Totals {
@@ -265,7 +265,7 @@ fn agree_of(verdict: Verdict) -> u32
 
 // The number of the first row that departs, 0 where none does.
 fn first_of(verdict: Verdict) -> u64
-    ensures value { result ≡ first_of verdict }
+    ensures value { result ≡ first_departing_row verdict }
     ensures small { result < 2 ^ 32 }
 {
     match verdict {

@@ -3,7 +3,7 @@ ghost use Rattle.std.specs.Prelude.{◌≡◌, ◌+◌, ◌*◌, ◌<◌, ◌≤
 ghost use Rattle.irs_base.specs.Rounding.{rounded};
 ghost use Rattle.irs_base.specs.Texts.{dec_text};
 ghost use Rattle.irs_base.specs.declared.rounding.Direction.TheVariants.{Nearest};
-ghost use Rattle.irs_bulk.specs.BulkLines.{IsRun, both_totals, line_text, most_sum, no_totals};
+ghost use Rattle.irs_bulk.specs.BulkLines.{AreRunTotals, both_totals, line_text, most_sum, no_totals};
 ghost use Rattle.irs_bulk.specs.Documents.{most_bulk};
 
 use irs_base::{Dec, Direction, Line, round};
@@ -36,7 +36,7 @@ impl Totals {
     /// The sums of no documents.
     pub fn none() -> Totals
         ensures value { result ≡ no_totals }
-        ensures run { IsRun result }
+        ensures run { AreRunTotals result }
     {
         Totals {
             documents: 0,
@@ -50,11 +50,11 @@ impl Totals {
 
     /// The sums of these documents and of more, up to 500 in all.
     pub fn with(self, more: Totals) -> Totals
-        requires run { IsRun self }
-        requires more { IsRun more }
+        requires run { AreRunTotals self }
+        requires more { AreRunTotals more }
         requires few { self.documents + more.documents ≤ most_bulk }
         ensures value { result ≡ both_totals self more }
-        ensures run { IsRun result }
+        ensures run { AreRunTotals result }
     {
         Totals {
             documents: self.documents + more.documents,
@@ -91,7 +91,7 @@ fn put_total(line: &mut Line, total: i128)
 /// its line feed. TOTAL has two decimals, to which the sum is rounded.
 #[tactic(auto, unfolding(crate::specs::BulkLines::line_text))]
 pub fn bulk_text(totals: &Totals, line: &mut Line)
-    requires { IsRun totals.now }
+    requires { AreRunTotals totals.now }
     ensures { line.new ≡ line_text totals.now }
 {
     line.clear();

@@ -6,12 +6,12 @@ use Rattle.std.specs.Prelude.{IfOk, IfErr}
 use Rattle.std.specs.Result.{IsErrAnd}
 use Rattle.std.specs.declared.alloc.Global.{Global}
 use Rattle.std.proofs.lemmas.List.{append-nil, take_all}
-use Rattle.irs_cli.specs.Commands.{IsListed, Words, texts}
+use Rattle.irs_cli.specs.Commands.{IsListed, Words, word_texts}
 use Rattle.irs_cli.specs.Due.{Due}
 use Rattle.irs_cli.proofs.OneAnswer.{one_answer}
 use Rattle.irs_c.specs.Each.{AreOutcomes, IsExplained, IsOutcome, IsRun, Outcome}
 use Rattle.irs_c.specs.Private.Each.{AreRuns, Made}
-use Rattle.irs_c.specs.Each.{no_text, said_by, slot_of}
+use Rattle.irs_c.specs.Each.{status_alone, said_by, slot_of}
 use Rattle.irs_c.specs.Private.Each.{RunFor}
 use Rattle.irs_c.specs.Given.{AreText, IsAbsent, file_in, gives_in, words_in}
 use Rattle.irs_c.specs.declared.each.Answer.{Answer}
@@ -117,7 +117,7 @@ all_done words common trades before answers k said h stop =
 -- ---- one run
 
 -- out of memory, so no text
-pub memory_run : (ws : Words) (fs : List File) → IsRun ws fs (no_text 7)
+pub memory_run : (ws : Words) (fs : List File) → IsRun ws fs (status_alone 7)
 memory_run ws fs = record {
   memory = λ _. refl;
   absent = λ e. absurd (omega (arith, e));
@@ -149,39 +149,39 @@ text_run ws fs status text sentence due absent listed unlisted few is =
 
 -- what a run of words that were made into text comes to
 pub run_of : (words : Made) (v : Vec (String Global) Global) (fs : List File) (o : Outcome) → words ≡ Ok v
-    → IsRun (texts v.items) fs o → RunFor words fs o
+    → IsRun (word_texts v.items) fs o → RunFor words fs o
 run_of words v fs o e run = subst (λ (r : Made). RunFor r fs o) (sym e) run
 
 -- what a run of words that were made into text comes to, by the slice of them
 pub run_by : (words : Made) (v : Vec (String Global) Global) (ws : List (String Global)) (fs : List File) (o : Outcome)
-    → words ≡ Ok v → ws ≡ v.items → IsRun (texts ws) fs o → RunFor words fs o
+    → words ≡ Ok v → ws ≡ v.items → IsRun (word_texts ws) fs o → RunFor words fs o
 run_by words v ws fs o e same run =
-    run_of words v fs o e (subst (λ (l : List (String Global)). IsRun (texts l) fs o) same run)
+    run_of words v fs o e (subst (λ (l : List (String Global)). IsRun (word_texts l) fs o) same run)
 
 -- an error where memory ran out gives no text
 pub memory_stops : (words : Made) (v : Vec (String Global) Global) (fs : List File) (r : Result Answer ℕ) (e : ℕ)
     (before after : List ℕ) → words ≡ Ok v → IsErrAnd r (λ x. x ≡ e) → e ≡ 7 → after ≡ before
-    → IfErr r (λ s. RunFor words fs (no_text s) × (after ≡ before))
+    → IfErr r (λ s. RunFor words fs (status_alone s) × (after ≡ before))
 memory_stops words v fs (Ok a) e before after is h seven same = tt
 memory_stops words v fs (Err s) e before after is h seven same = (
-  run_of words v fs (no_text s) is
-      (subst (λ (n : ℕ). IsRun (texts v.items) fs (no_text n)) (sym (h ∙ seven)) (memory_run (texts v.items) fs)),
+  run_of words v fs (status_alone s) is
+      (subst (λ (n : ℕ). IsRun (word_texts v.items) fs (status_alone n)) (sym (h ∙ seven)) (memory_run (word_texts v.items) fs)),
   same,
 )
 
 -- ---- words as they are lent
 
-run_is : (ws : List Bytes) (r : Made) (fs : List File) (o : Outcome) → IfOk r (λ v. texts v.items ≡ words_in ws)
+run_is : (ws : List Bytes) (r : Made) (fs : List File) (o : Outcome) → IfOk r (λ v. word_texts v.items ≡ words_in ws)
     → IfOk r (λ _. AreText ws) → IfErr r (λ s. s ≡ 9 → AreText ws → ⊥) → IfErr r (λ s. (s ≡ 7) ⊎ (s ≡ 9))
     → RunFor r fs o → IsOutcome ws fs o
 run_is ws (Ok v) fs o same is none either run =
     inl (is, subst (λ (w : Words). IsRun w fs o) same run)
-run_is ws (Err s) fs o same is none (inl is7) run = inr (inl (run ∙ ap no_text is7))
-run_is ws (Err s) fs o same is none (inr is9) run = inr (inr (none is9, run ∙ ap no_text is9))
+run_is ws (Err s) fs o same is none (inl is7) run = inr (inl (run ∙ ap status_alone is7))
+run_is ws (Err s) fs o same is none (inr is9) run = inr (inr (none is9, run ∙ ap status_alone is9))
 
 -- the outcomes for words that were made into text are those for the lent words
 pub outcomes_are : (ws : List Bytes) (r : Made) (common : List File) (ts : List Trade) (os : List Outcome)
-    → IfOk r (λ v. texts v.items ≡ words_in ws) → IfOk r (λ _. AreText ws)
+    → IfOk r (λ v. word_texts v.items ≡ words_in ws) → IfOk r (λ _. AreText ws)
     → IfErr r (λ s. s ≡ 9 → AreText ws → ⊥) → IfErr r (λ s. (s ≡ 7) ⊎ (s ≡ 9)) → AreRuns r common ts os
     → AreOutcomes ws common ts os
 outcomes_are ws r common [] os same is none either are = are

@@ -5,10 +5,10 @@ use Rattle.std.proofs.lemmas.List.{append-nil}
 use Rattle.std.specs.declared.alloc.Global.{Global}
 use Rattle.std.specs.Prelude.{if◌then◌else◌, IfOk, IfSome, take}
 use Rattle.std.specs.Str.{bytes_eq}
-use Rattle.irs_answers.specs.Given.{given_by, no_files, too_many}
+use Rattle.irs_answers.specs.Given.{files_given_by, no_files, too_many}
 use Rattle.irs_answers.specs.declared.common.Common.{Common}
 use Rattle.irs_outside.specs.Outside.{IsFrontUnder}
-use Rattle.irs_cli.specs.Commands.{Words, texts}
+use Rattle.irs_cli.specs.Commands.{Words, word_texts}
 use Rattle.irs_cli.specs.Fetching.{Holds, IsGiven}
 use Rattle.irs_cli.specs.Sharing.{files_with}
 use Rattle.irs_cli.proofs.FetchLemmas.{front_whole}
@@ -73,9 +73,9 @@ common_still ws fs own c h =
       asked = h.asked;
       asks = h.asks;
       held = gathers_as (IsGiven (gives_in fs)) (Holds (file_in (fs ++ own))) (held_still fs own) ns no_files
-          (given_by c.files) h.given;
+          (files_given_by c.files) h.given;
       given = gathers_as (IsGiven (gives_in fs)) (IsGiven (gives_in (fs ++ own))) (given_still fs own) ns no_files
-          (given_by c.files) h.given;
+          (files_given_by c.files) h.given;
       read = h.read;
     }
 
@@ -87,12 +87,12 @@ common_for ws fs own gs go (Some c) e k h = rw (e, k) (common_still ws fs own c.
 
 -- what is read of a source that has the common files alone is read of these
 pub common_read : (words : Made) (v : Vec (String Global) Global) (ws : List (String Global)) (fs gs go : List File)
-    (o : Option Common) → words ≡ Ok v → ws ≡ v.items → gs ≡ fs → go ≡ [] → IfSome o (IsCommonIn (texts ws) (gs ++ go))
-    → IfSome o (λ c. IfOk words (λ u. IsCommonIn (texts u.items) fs c))
+    (o : Option Common) → words ≡ Ok v → ws ≡ v.items → gs ≡ fs → go ≡ [] → IfSome o (IsCommonIn (word_texts ws) (gs ++ go))
+    → IfSome o (λ c. IfOk words (λ u. IsCommonIn (word_texts u.items) fs c))
 common_read words v ws fs gs go None is same e k h = tt
 common_read words v ws fs gs go (Some c) is same e k h =
     let all : gs ++ go ≡ fs = ap (λ (l : List File). gs ++ l) k ∙ append-nil gs ∙ e in
-    let by_words : IsCommonIn (texts v.items) (gs ++ go) c =
-    subst (λ (l : List (String Global)). IsCommonIn (texts l) (gs ++ go) c) same h in
-    subst (λ (r : Made). IfOk r (λ u. IsCommonIn (texts u.items) fs c)) (sym is)
-    (subst (λ (l : List File). IsCommonIn (texts v.items) l c) all by_words)
+    let by_words : IsCommonIn (word_texts v.items) (gs ++ go) c =
+    subst (λ (l : List (String Global)). IsCommonIn (word_texts l) (gs ++ go) c) same h in
+    subst (λ (r : Made). IfOk r (λ u. IsCommonIn (word_texts u.items) fs c)) (sym is)
+    (subst (λ (l : List File). IsCommonIn (word_texts v.items) l c) all by_words)

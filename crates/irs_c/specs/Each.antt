@@ -22,8 +22,8 @@ pub record Outcome : Type 0 where
   pub sentence : List ℕ
 
 -- a status alone
-abbrev pub no_text : ℕ → Outcome
-no_text s = record { status = s; text = []; sentence = [] }
+abbrev pub status_alone : ℕ → Outcome
+status_alone s = record { status = s; text = []; sentence = [] }
 
 -- what the caller sees of it
 abbrev pub slot_of : Outcome → Answer
@@ -44,7 +44,7 @@ pub record IsExplained (ws : Words) (gives : Gives) (status : ℕ) (text sentenc
 -- what the words come to over the files, where each word is text: the status and the text that `irs_run` gives
 pub record IsRun (ws : Words) (fs : List File) (o : Outcome) : Type 0 where
   -- out of memory: no text
-  pub memory : o.status ≡ 7 → o ≡ no_text 7
+  pub memory : o.status ≡ 7 → o ≡ status_alone 7
   -- a file that the words name isn't lent, and the text says which
   pub absent : o.status ≡ 5 → IsAbsent ws (file_in fs) o.text
   -- any other status and its text are what is due
@@ -64,7 +64,7 @@ pub record IsRun (ws : Words) (fs : List File) (o : Outcome) : Type 0 where
 abbrev pub IsOutcome : List Bytes → List File → Outcome → Type 0
 IsOutcome ws fs o =
     (AreText ws × IsRun (words_in ws) fs o)
-    ⊎ ((o ≡ no_text 7) ⊎ ((AreText ws → ⊥) × (o ≡ no_text 9)))
+    ⊎ ((o ≡ status_alone 7) ⊎ ((AreText ws → ⊥) × (o ≡ status_alone 9)))
 
 -- one outcome a trade, in order: each over the common files and its own
 abbrev pub AreOutcomes : List Bytes → List File → List Trade → List Outcome → Type 0
@@ -73,7 +73,7 @@ AreOutcomes ws common (t ∷ ts) [] = ⊥
 AreOutcomes ws common (t ∷ ts) (o ∷ os) = IsOutcome ws (common ++ t.files.now) o × AreOutcomes ws common ts os
 
 -- what a call over many trades does: each of those for which there is room has its outcome
-pub record Said (ws : List Bytes) (common : List File) (trades : List Trade) (before after : List Answer)
+pub record SaysOfTrades (ws : List Bytes) (common : List File) (trades : List Trade) (before after : List Answer)
     (was now : List ℕ) (needed : ℕ) : Type 0 where
   pub outcomes : List Outcome
   pub are : AreOutcomes ws common (take (length before) trades) outcomes

@@ -3,7 +3,7 @@ use Rattle.std.specs.Prelude.{◌≡◌, ℕ, List, [], ◌∷◌, map, All, Som
 use Rattle.std.specs.Str.{IsUtf8, bytes_eq}
 use Rattle.irs_cli.specs.Commands.{Words, Wanted, Asked, Asks}
 use Rattle.irs_cli.specs.Fetching.{Gives, NotLong}
-use Rattle.irs_cli.specs.Given.{Told, Reaches}
+use Rattle.irs_cli.specs.Given.{Told, ReachesFile}
 use Rattle.irs_cli.specs.Messages.{no_file}
 use Rattle.irs_outside.specs.Outside.{IsFrontUnder}
 use Rattle.irs_c.specs.declared.given.Bytes.{Bytes}
@@ -36,5 +36,5 @@ pub record IsAbsent (ws : Words) (told : Told) (text : List ℕ) : Type 0 where
   pub asked : Asked
   pub asks : Asks ws asked
   pub place : ℕ
-  pub file : Reaches (NotLong told) (AbsentAt told place) asked.files
+  pub file : ReachesFile (NotLong told) (AbsentAt told place) asked.files
   pub is_text : text ≡ no_file place

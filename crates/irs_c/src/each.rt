@@ -1,8 +1,8 @@
 //! One command over many trades.
 ghost use Rattle.std.specs.Prelude.{◌≡◌, ◌++◌, List, IfOk, IfErr, IfSome, Ok, length, take, drop, map};
-ghost use Rattle.irs_c.specs.Each.{AreOutcomes, Outcome, no_text, said_by, slot_of};
+ghost use Rattle.irs_c.specs.Each.{AreOutcomes, Outcome, status_alone, said_by, slot_of};
 ghost use Rattle.irs_c.specs.Private.Each.{AreRuns, IsCommonIn, RunFor};
-ghost use Rattle.irs_cli.specs.Commands.{texts};
+ghost use Rattle.irs_cli.specs.Commands.{word_texts};
 
 use crate::exports::{append, words_of};
 use crate::given::{Bytes, File, GivenFiles, Trade};
@@ -61,7 +61,7 @@ fn run_each(
 
 // The common files that the words name, read once.
 fn common_of(alloc: Global, words: &Result<Vec<String>, u8>, common: &[File<'_>]) -> Option<Common>
-    ensures { IfSome result (λ c. IfOk words.now (λ v. IsCommonIn (texts v.items) common.now c)) }
+    ensures { IfSome result (λ c. IfOk words.now (λ v. IsCommonIn (word_texts v.items) common.now c)) }
 {
     match words {
         Ok(words) => read_common(alloc, words, &mut GivenFiles::new(common, &[])),
@@ -78,7 +78,7 @@ fn answer_one(
     own: &[File<'_>],
     said: &mut Vec<u8>,
 ) -> Answer
-    requires { IfSome read.now (λ c. IfOk words.now (λ v. IsCommonIn (texts v.items) common.now c)) }
+    requires { IfSome read.now (λ c. IfOk words.now (λ v. IsCommonIn (word_texts v.items) common.now c)) }
     ensures { (o : Outcome) × RunFor words.now (common.now ++ own.now) o × (result ≡ slot_of o)
         × (said.new.items ≡ said.old.items ++ (o.text ++ o.sentence)) }
 {
@@ -101,10 +101,10 @@ fn outcome_of(
     own: &[File<'_>],
     said: &mut Vec<u8>,
 ) -> Result<Answer, u8>
-    requires { IfSome read.now (λ c. IfOk words.now (λ v. IsCommonIn (texts v.items) common.now c)) }
+    requires { IfSome read.now (λ c. IfOk words.now (λ v. IsCommonIn (word_texts v.items) common.now c)) }
     ensures said { IfOk result (λ a. (o : Outcome) × RunFor words.now (common.now ++ own.now) o × (a ≡ slot_of o)
         × (said.new.items ≡ said.old.items ++ (o.text ++ o.sentence))) }
-    ensures no_text { IfErr result (λ s. RunFor words.now (common.now ++ own.now) (no_text s)
+    ensures no_text { IfErr result (λ s. RunFor words.now (common.now ++ own.now) (status_alone s)
         × (said.new.items ≡ said.old.items)) }
 {
     let words = match words {

@@ -1,9 +1,9 @@
 //! The functions that C calls. Their form is our rule; `bindings/irs.h` declares them in C.
 ghost use Rattle.std.specs.Prelude.{◌≡◌, ◌≢◌, ◌⊎◌, ◌<◌, ◌++◌, length, take, drop, OnOk, OnErr, IfOk, IfErr};
-ghost use Rattle.irs_cli.specs.Commands.{texts};
+ghost use Rattle.irs_cli.specs.Commands.{word_texts};
 ghost use Rattle.irs_cli.specs.Due.{IsOneAnswer};
 ghost use Rattle.irs_cli.specs.Given.{TellsAll};
-ghost use Rattle.irs_c.specs.Each.{IsOutcome, IsRun, Outcome, Said};
+ghost use Rattle.irs_c.specs.Each.{IsOutcome, IsRun, Outcome, SaysOfTrades};
 ghost use Rattle.irs_c.specs.Private.Each.{outcome_by};
 ghost use Rattle.irs_c.specs.Given.{words_in, file_in, AreText};
 ghost use Rattle.irs_c.specs.Shown.{Shown};
@@ -75,7 +75,7 @@ pub extern "C" fn irs_run_each(
     out: &mut [u8],
     needed: &mut usize,
 )
-    ensures { Said words.now common.now trades.now answers.old answers.new out.old out.new needed.new }
+    ensures { SaysOfTrades words.now common.now trades.now answers.old answers.new out.old out.new needed.new }
 {
     let said = answer_each(alloc, words, common, trades, answers);
     fill(&said, out, needed);
@@ -118,7 +118,7 @@ fn told_for(alloc: Global, words: &[Bytes<'_>], files: &[File<'_>]) -> Result<To
 
 // The words as text, or 9 where one isn't UTF-8, or 7 where memory ran out.
 pub(crate) fn words_of(alloc: Global, words: &[Bytes<'_>]) -> Result<Vec<String>, u8>
-    ensures ok { IfOk result (λ v. texts v.items ≡ words_in words.now) }
+    ensures ok { IfOk result (λ v. word_texts v.items ≡ words_in words.now) }
     ensures text { IfOk result (λ _. AreText words.now) }
     ensures not_text { IfErr result (λ s. s ≡ 9 → AreText words.now → ⊥) }
     ensures err { IfErr result (λ s. (s ≡ 7) ⊎ (s ≡ 9)) }

@@ -1,7 +1,7 @@
 //! What a run comes to, as a caller sees it: the status, the text and the sentence.
 ghost use Rattle.std.specs.Prelude.{◌≡◌, ◌≢◌, ◌<◌, ◌++◌, map, IfOk, IfErr, IfSome};
 ghost use Rattle.irs_cli.specs.Causes.{IsRunCause};
-ghost use Rattle.irs_cli.specs.Commands.{IsListed, texts};
+ghost use Rattle.irs_cli.specs.Commands.{IsListed, word_texts};
 ghost use Rattle.irs_cli.specs.Due.{Due};
 ghost use Rattle.irs_c.specs.Each.{IsRun};
 ghost use Rattle.irs_c.specs.Private.Each.{IsCommonIn, outcome_by};
@@ -35,8 +35,8 @@ pub(crate) fn tell<'a>(
     files: &'a [File<'a>],
     own: &'a [File<'a>],
 ) -> Result<Told, u8>
-    requires { IfSome common (λ c. IsCommonIn (texts words.now) files.now c.now) }
-    ensures run { IfOk result (λ t. IsRun (texts words.now) (files.now ++ own.now) (outcome_by t)) }
+    requires { IfSome common (λ c. IsCommonIn (word_texts words.now) files.now c.now) }
+    ensures run { IfOk result (λ t. IsRun (word_texts words.now) (files.now ++ own.now) (outcome_by t)) }
     ensures ok { IfOk result (λ t. (t.status < 9) × (t.status ≢ 6) × (t.status ≢ 7)) }
     ensures err { IfErr result (λ s. s ≡ 7) }
 {
@@ -57,15 +57,15 @@ fn run_kept<'a>(
     files: &'a [File<'a>],
     own: &'a [File<'a>],
 ) -> Result<(u8, Vec<u8>, RunCause), u8>
-    requires { IfSome common (λ c. IsCommonIn (texts words.now) files.now c.now) }
-    ensures due { IfOk result (λ r. r.0 ≢ 5 → Due (texts words.now) (file_in (files.now ++ own.now)) r.0 r.1.items) }
+    requires { IfSome common (λ c. IsCommonIn (word_texts words.now) files.now c.now) }
+    ensures due { IfOk result (λ r. r.0 ≢ 5 → Due (word_texts words.now) (file_in (files.now ++ own.now)) r.0 r.1.items) }
     ensures absent { IfOk result
-        (λ r. r.0 ≡ 5 → IsAbsent (texts words.now) (file_in (files.now ++ own.now)) r.1.items) }
-    ensures only_unlisted { IfOk result (λ r. r.0 ≡ 4 → IsListed (texts words.now) → ⊥) }
-    ensures unlisted { IfOk result (λ r. (IsListed (texts words.now) → ⊥) → r.0 ≡ 4) }
+        (λ r. r.0 ≡ 5 → IsAbsent (word_texts words.now) (file_in (files.now ++ own.now)) r.1.items) }
+    ensures only_unlisted { IfOk result (λ r. r.0 ≡ 4 → IsListed (word_texts words.now) → ⊥) }
+    ensures unlisted { IfOk result (λ r. (IsListed (word_texts words.now) → ⊥) → r.0 ≡ 4) }
     ensures ok { IfOk result (λ r. (r.0 < 9) × (r.0 ≢ 6) × (r.0 ≢ 7)) }
     ensures cause { IfOk result
-        (λ r. IsRunCause (texts words.now) (gives_in (files.now ++ own.now)) r.2 r.0 r.1.items) }
+        (λ r. IsRunCause (word_texts words.now) (gives_in (files.now ++ own.now)) r.2 r.0 r.1.items) }
     ensures err { IfErr result (λ s. s ≡ 7) }
 {
     let mut source = GivenFiles::new(files, own);
@@ -80,7 +80,7 @@ fn run_kept<'a>(
 
 // The sentence on what a run came to, with the words as they are shown, or 7 where memory ran out.
 fn sentence_for(alloc: Global, words: &[String], cause: &RunCause) -> Result<Vec<u8>, u8>
-    ensures done { IfOk result (λ t. t.items ≡ sentence_of (map shown (texts words.now)) cause.now) }
+    ensures done { IfOk result (λ t. t.items ≡ sentence_of (map shown (word_texts words.now)) cause.now) }
     ensures err { IfErr result (λ s. s ≡ 7) }
 {
     let Ok(shown) = shown_words(alloc, words) else {
@@ -91,7 +91,7 @@ fn sentence_for(alloc: Global, words: &[String], cause: &RunCause) -> Result<Vec
 
 // The sentence with these words, or 7 where memory ran out.
 fn sentence_on(alloc: Global, words: &[String], cause: &RunCause) -> Result<Vec<u8>, u8>
-    ensures done { IfOk result (λ t. t.items ≡ sentence_of (texts words.now) cause.now) }
+    ensures done { IfOk result (λ t. t.items ≡ sentence_of (word_texts words.now) cause.now) }
     ensures err { IfErr result (λ s. s ≡ 7) }
 {
     let mut kept = Kept::new(alloc);

@@ -8,7 +8,7 @@ use Rattle.irs_base.specs.Days.{first_day, last_day}
 use Rattle.irs_calendar.specs.GoodDays.{DaySet, SameDays}
 use Rattle.irs_calendar.specs.Runs.{CoveredRuns, set_of_runs}
 use Rattle.irs_calendar.specs.Private.Represents.{Represents}
-use Rattle.irs_calendar.specs.Selected.{later, earlier, latest_first, earliest_last, set_of_sections, AllCover}
+use Rattle.irs_calendar.specs.Selected.{later_day, earlier_day, latest_first, earliest_last, set_of_sections, AllCover}
 use Rattle.irs_calendar.specs.Selected.{CoversCommon}
 use Rattle.irs_calendar.proofs.CalendarLemmas.{drop_all}
 
@@ -25,14 +25,14 @@ next_section ss i x within is =
 -- a cover that is narrowed by one section
 pub first_more : (ss : List (Bor Section)) (i : ℕ) (x : Bor Section) (a whole : ℤ) → i < length ss → x ≡ get_or ss i x
     → latest_first a (sections_at (drop i ss)) ≡ whole
-    → latest_first (later a x.now.first) (sections_at (drop (i + 1) ss)) ≡ whole
+    → latest_first (later_day a x.now.first) (sections_at (drop (i + 1) ss)) ≡ whole
 first_more ss i x a whole within is kept =
     subst (λ (l : List Section). latest_first a l ≡ whole) (next_section ss i x within is) kept
 
 -- the earliest last day, with one section more
 pub last_more : (ss : List (Bor Section)) (i : ℕ) (x : Bor Section) (a whole : ℤ) → i < length ss → x ≡ get_or ss i x
     → earliest_last a (sections_at (drop i ss)) ≡ whole
-    → earliest_last (earlier a x.now.last) (sections_at (drop (i + 1) ss)) ≡ whole
+    → earliest_last (earlier_day a x.now.last) (sections_at (drop (i + 1) ss)) ≡ whole
 last_more ss i x a whole within is kept =
     subst (λ (l : List Section). earliest_last a l ≡ whole) (next_section ss i x within is) kept
 
@@ -66,23 +66,23 @@ same_days t c first last represents = record {
 
 -- the cover in common is an intersection
 
-later_is : (a b d : ℤ) → later a b ≤ℤ d → (a ≤ℤ d) × (b ≤ℤ d)
+later_is : (a b d : ℤ) → later_day a b ≤ℤ d → (a ≤ℤ d) × (b ≤ℤ d)
 later_is a b d h = grind (arith, signed_arith)
 
-is_later : (a b d : ℤ) → a ≤ℤ d → b ≤ℤ d → later a b ≤ℤ d
+is_later : (a b d : ℤ) → a ≤ℤ d → b ≤ℤ d → later_day a b ≤ℤ d
 is_later a b d h k = grind (arith, signed_arith)
 
-earlier_is : (a b d : ℤ) → d ≤ℤ earlier a b → (d ≤ℤ a) × (d ≤ℤ b)
+earlier_is : (a b d : ℤ) → d ≤ℤ earlier_day a b → (d ≤ℤ a) × (d ≤ℤ b)
 earlier_is a b d h = grind (arith, signed_arith)
 
-is_earlier : (a b d : ℤ) → d ≤ℤ a → d ≤ℤ b → d ≤ℤ earlier a b
+is_earlier : (a b d : ℤ) → d ≤ℤ a → d ≤ℤ b → d ≤ℤ earlier_day a b
 is_earlier a b d h k = grind (arith, signed_arith)
 
 all_within : (ss : List Section) (a b d : ℤ) → latest_first a ss ≤ℤ d → d ≤ℤ earliest_last b ss
     → (a ≤ℤ d) × (d ≤ℤ b) × AllCover ss d
 all_within [] a b d from to = (from, to, tt)
 all_within (s ∷ ss) a b d from to =
-    let r = all_within ss (later a s.first) (earlier b s.last) d from to in
+    let r = all_within ss (later_day a s.first) (earlier_day b s.last) d from to in
     let low = later_is a s.first d r.0 in
     let high = earlier_is b s.last d r.1 in
     (low.0, high.0, (low.1, high.1, r.2))
@@ -91,7 +91,7 @@ within_all : (ss : List Section) (a b d : ℤ) → a ≤ℤ d → d ≤ℤ b →
     → (latest_first a ss ≤ℤ d) × (d ≤ℤ earliest_last b ss)
 within_all [] a b d low high all = (low, high)
 within_all (s ∷ ss) a b d low high all =
-    within_all ss (later a s.first) (earlier b s.last) d (is_later a s.first d low all.0)
+    within_all ss (later_day a s.first) (earlier_day b s.last) d (is_later a s.first d low all.0)
     (is_earlier b s.last d high all.1) all.2
 
 -- a set with the days of the sections has the cover that is common to them

@@ -16,7 +16,7 @@ use Rattle.irs_calendar.specs.Private.Machine.{begun, after_center, after_cover,
 use Rattle.irs_calendar.specs.Private.Machine.{after_line, at_end}
 use Rattle.irs_calendar.specs.Private.Machine.{fits_section}
 use Rattle.irs_calendar.specs.Sections.{is_named, AreDistinct}
-use Rattle.irs_calendar.specs.Words.{kind_of}
+use Rattle.irs_calendar.specs.Words.{line_said}
 use Rattle.irs_calendar.specs.Private.Files.{Place, numbered, then_read, sections_in, sections_of}
 use Rattle.irs_calendar.specs.EndLines.{seen_lines}
 use Rattle.irs_calendar.specs.FirstFaults.{Spot}
@@ -151,9 +151,9 @@ pub sections_apart : (n : ℕ) (s : State) (ls : List (List ℕ)) (ss : List Sec
 unfolding sections_in
 sections_apart n s [] ss h e = end_apart s.done s.part ss h.done h.part (numbered_ok n (at_end s.done s.part) ss e)
 sections_apart n s (l ∷ ls) ss h e =
-    let p = then_ok (numbered n (after_line s (kind_of l))) (λ t. sections_in (n + 1) t ls) ss e in
+    let p = then_ok (numbered n (after_line s (line_said l))) (λ t. sections_in (n + 1) t ls) ss e in
     sections_apart (n + 1) p.0 ls ss
-    (line_apart s p.0 (kind_of l) h (numbered_ok n (after_line s (kind_of l)) p.0 p.1)) p.2
+    (line_apart s p.0 (line_said l) h (numbered_ok n (after_line s (line_said l)) p.0 p.1)) p.2
 
 -- a step that succeeds with its file number succeeds without it
 pub file_ok : {A : Type 0} (k : ℕ) (r : Result A Place) (x : A) → in_file k r ≡ Ok x → r ≡ Ok x

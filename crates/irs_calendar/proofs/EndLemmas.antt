@@ -6,7 +6,7 @@ use Rattle.irs_base.specs.Lines.{begins_feed, lines_of, with_byte}
 use Rattle.irs_calendar.specs.EndLines.{bad_line, is_none, seen_from}
 use Rattle.irs_calendar.specs.Private.EndLines.{EndsTruly}
 use Rattle.irs_calendar.specs.Words.{Wrong}
-use Rattle.irs_calendar.specs.Words.{kind_of}
+use Rattle.irs_calendar.specs.Words.{line_said}
 
 some_with : (b : ℕ) (ls : List (List ℕ)) → is_none (with_byte b ls) ≡ false
 some_with b [] = refl
@@ -45,5 +45,5 @@ truly_seen before (l ∷ ls) h =
     rw h.0 (ap (λ (x : List (List ℕ)). l ∷ x) (truly_seen (before + 1) ls h.1))
 
 -- a false end line is outside the grammar
-pub bad_is_wrong : kind_of bad_line ≡ Wrong
+pub bad_is_wrong : line_said bad_line ≡ Wrong
 bad_is_wrong = refl

@@ -20,12 +20,13 @@ use Rattle.irs_calendar.specs.Words.{Said, Nothing, Center, Cover, Weekend, Holi
 use Rattle.irs_calendar.specs.Private.Machine.{begun, after_center, after_cover, after_weekend, after_holiday}
 use Rattle.irs_calendar.specs.Private.Machine.{after_line, at_end}
 use Rattle.irs_calendar.specs.Private.Machine.{fits_section}
-use Rattle.irs_calendar.specs.Words.{kind_of, no_days}
+use Rattle.irs_calendar.specs.Words.{line_said, no_days}
 use Rattle.irs_calendar.specs.Private.Files.{Place, numbered, then_read, sections_in, sections_of}
 use Rattle.irs_calendar.specs.FirstFaults.{Spot}
 use Rattle.irs_calendar.specs.Private.Calendars.{in_file, then_file, calendars_in}
 use Rattle.irs_calendar.specs.Grammar.{RisesWithin, CalFiles}
-use Rattle.irs_calendar.specs.FirstFaults.{Spells, CanGoOn, IsRepeat, IsOneTooMany, IsKind, IsFaultBehind, IsFirstFault}
+use Rattle.irs_calendar.specs.FirstFaults.{SpellsSections, CanGoOn, IsRepeat, IsOneTooMany, IsFaultKind, IsFaultBehind}
+use Rattle.irs_calendar.specs.FirstFaults.{IsFirstCalendarFault}
 use Rattle.irs_calendar.proofs.DistinctLemmas.{same_state, then_ok, numbered_ok, then_file_ok, file_ok, calendars_apart}
 use Rattle.irs_calendar.proofs.DistinctLemmas.{sections_apart}
 use Rattle.irs_calendar.proofs.GrammarLemmas.{reads_continue, lines_read, rises_more, rises_to}
@@ -45,11 +46,11 @@ cover_line =
 weekend_line : List ℕ
 weekend_line = 119 ∷ 101 ∷ 101 ∷ 107 ∷ 101 ∷ 110 ∷ 100 ∷ []
 
-says_weekend : kind_of weekend_line ≡ Weekend no_days
+says_weekend : line_said weekend_line ≡ Weekend no_days
 unfolding weekend_line
 says_weekend = refl
 
-says_cover : (a : ℤ) × (b : ℤ) × (kind_of cover_line ≡ Cover a b)
+says_cover : (a : ℤ) × (b : ℤ) × (line_said cover_line ≡ Cover a b)
 unfolding cover_line days_from_civil day_count days_of_years days_of_months
 says_cover = (_, _, refl)
 
@@ -195,15 +196,15 @@ line_quiet s t (Weekend w) e none = absurd (weekend_begins s.done s.part w t e n
 line_quiet s t (Holiday d) e none = absurd (holiday_begins s.done s.part d t e none)
 line_quiet s t Wrong e none = absurd (cc e)
 
-read_one : (n : ℕ) (s t : State) (l : List ℕ) (ls : List (List ℕ)) → after_line s (kind_of l) ≡ Ok t
+read_one : (n : ℕ) (s t : State) (l : List ℕ) (ls : List (List ℕ)) → after_line s (line_said l) ≡ Ok t
     → sections_in n s (l ∷ ls) ≡ sections_in (n + 1) t ls
 unfolding sections_in
 read_one n s t l ls e = rw e refl
 
-reaches_more : (s t u : State) (l : List ℕ) (ls : List (List ℕ)) → after_line s (kind_of l) ≡ Ok t → Reaches t u ls
+reaches_more : (s t u : State) (l : List ℕ) (ls : List (List ℕ)) → after_line s (line_said l) ≡ Ok t → Reaches t u ls
     → Reaches s u (l ∷ ls)
 reaches_more s t u l ls e r =
-    let g = line_grown s t (kind_of l) e in
+    let g = line_grown s t (line_said l) e in
     record {
       reads = λ n more. read_one n s t l (ls ++ more) e ∙ r.reads (n + 1) more
           ∙ ap (λ (k : ℕ). sections_in k u more) (plus_one n (length ls));
@@ -214,7 +215,7 @@ reaches_more s t u l ls e r =
       );
       quiet = λ none.
           let same = r.quiet none in
-          same ∙ line_quiet s t (kind_of l) e (subst (λ (x : State). x.part ≡ Between) same none);
+          same ∙ line_quiet s t (line_said l) e (subst (λ (x : State). x.part ≡ Between) same none);
     }
   where
     plus_one : (n k : ℕ) → (n + 1) + k ≡ n + suc k
@@ -223,7 +224,7 @@ reaches_more s t u l ls e r =
 -- what comes next fails
 abbrev FailsNext : State → List (List ℕ) → Fault → Type 0
 FailsNext t [] f = at_end t.done t.part ≡ Err f
-FailsNext t (l ∷ ls) f = after_line t (kind_of l) ≡ Err f
+FailsNext t (l ∷ ls) f = after_line t (line_said l) ≡ Err f
 
 -- where reading fails
 record Stops (n : ℕ) (s : State) (ls : List (List ℕ)) (f : Fault) (m : ℕ) : Type 0 where
@@ -267,7 +268,7 @@ stop n m s [] f e =
           reaches_none s;
       fails = p.0;
     }
-stop n m s (l ∷ ls) f e = elim (then_err n m (after_line s (kind_of l)) (λ t. sections_in (n + 1) t ls) f e) [
+stop n m s (l ∷ ls) f e = elim (then_err n m (after_line s (line_said l)) (λ t. sections_in (n + 1) t ls) f e) [
   | inl here' ↦
       record {
         front = [];
@@ -321,7 +322,7 @@ can_end n done (Open s) = ([], done ++ s ∷ [], refl)
 
 reads_spell : (n : ℕ) (files lines : List (List ℕ)) (earlier ss : List Section) → CalFiles files earlier
     → sections_in n (fresh earlier) lines ≡ Ok ss
-    → (own : List Section) × (ss ≡ earlier ++ own) × Spells files lines earlier own
+    → (own : List Section) × (ss ≡ earlier ++ own) × SpellsSections files lines earlier own
 reads_spell n files lines earlier ss before e =
     let go = reads_continue n (fresh earlier) lines ss tt e in
     let apart = sections_apart n (fresh earlier) lines ss (record { done = before.distinct; part = tt }) e in (
@@ -336,7 +337,7 @@ reads_spell n files lines earlier ss before e =
       },
     )
 
-spelt_reads : (n : ℕ) (files lines : List (List ℕ)) (earlier own : List Section) → Spells files lines earlier own
+spelt_reads : (n : ℕ) (files lines : List (List ℕ)) (earlier own : List Section) → SpellsSections files lines earlier own
     → sections_in n (fresh earlier) lines ≡ Ok (earlier ++ own)
 spelt_reads n files lines earlier own s =
     lines_read n (fresh earlier) lines (earlier ++ own)
@@ -370,20 +371,20 @@ lines_end earlier t lines r =
     ≡ numbered (1 + length lines) (at_end t.done t.part)) (append-nil lines) (r.reads 1 []
     ∙ end_reads (1 + length lines) t)
 
-reads_err : (n : ℕ) (t : State) (l : List ℕ) (ls : List (List ℕ)) (f : Fault) → after_line t (kind_of l) ≡ Err f
+reads_err : (n : ℕ) (t : State) (l : List ℕ) (ls : List (List ℕ)) (f : Fault) → after_line t (line_said l) ≡ Err f
     → sections_in n t (l ∷ ls) ≡ Err (f, n)
 unfolding sections_in
 reads_err n t l ls f e = rw e refl
 
 reads_from : (files lines : List (List ℕ)) (earlier before own : List Section) → CalFiles files earlier
-    → Spells files lines before own → sections_in 1 (fresh earlier) lines ≡ Ok (earlier ++ own)
+    → SpellsSections files lines before own → sections_in 1 (fresh earlier) lines ≡ Ok (earlier ++ own)
 reads_from files lines earlier before own c s =
     subst (λ (x : List Section). sections_in 1 (fresh x) lines ≡ Ok (x ++ own))
     (one_earlier files before earlier s.before c) (spelt_reads 1 files lines before own s)
 
 -- where the lines are whole sections, the end of the state after them is those
 ends_with : (files lines : List (List ℕ)) (earlier before own : List Section) (t : State) → CalFiles files earlier
-    → Reaches (fresh earlier) t lines → Spells files lines before own → at_end t.done t.part ≡ Ok (earlier ++ own)
+    → Reaches (fresh earlier) t lines → SpellsSections files lines before own → at_end t.done t.part ≡ Ok (earlier ++ own)
 ends_with files lines earlier before own t c r s =
     numbered_ok (1 + length lines) (at_end t.done t.part) (earlier ++ own) (sym (lines_end earlier t lines r)
     ∙ reads_from files lines earlier before own c s)
@@ -393,7 +394,7 @@ apart_results e = cc e
 
 -- nothing goes on after a line that fails
 goes_no_further : (files lines : List (List ℕ)) (earlier : List Section) (t : State) (l : List ℕ) (f : Fault)
-    → CalFiles files earlier → Reaches (fresh earlier) t lines → after_line t (kind_of l) ≡ Err f
+    → CalFiles files earlier → Reaches (fresh earlier) t lines → after_line t (line_said l) ≡ Err f
     → CanGoOn files (lines ++ l ∷ []) → ⊥
 goes_no_further files lines earlier t l f c r e go =
     let read = reads_from files ((lines ++ l ∷ []) ++ go.more) earlier go.earlier go.own c go.spells in
@@ -541,9 +542,9 @@ exactly a b h k = grind arith
 -- a line that fails is of its kind
 
 repeat_kind : (files lines : List (List ℕ)) (earlier : List Section) (t : State) (l : List ℕ) → CalFiles files earlier
-    → Reaches (fresh earlier) t lines → after_line t (kind_of l) ≡ Err Repeat → IsRepeat files lines l
+    → Reaches (fresh earlier) t lines → after_line t (line_said l) ≡ Err Repeat → IsRepeat files lines l
 repeat_kind files lines earlier t l c r e =
-    let p = line_repeat t.done t.part (kind_of l) e in
+    let p = line_repeat t.done t.part (line_said l) e in
     let s = reads_spell 1 files lines earlier p.2 c (lines_end earlier t lines r
     ∙ ap (λ (x : Result (List Section) Fault). numbered (1 + length lines) x) p.3) in
     record {
@@ -560,9 +561,9 @@ end_open : (done : List Section) (part : Part) (s : Section) → part ≡ Open s
 end_open done part s e = rw e refl
 
 many_kind : (files lines : List (List ℕ)) (earlier : List Section) (t : State) (l : List ℕ) → CalFiles files earlier
-    → Reaches (fresh earlier) t lines → after_line t (kind_of l) ≡ Err TooMany → IsOneTooMany files lines l
+    → Reaches (fresh earlier) t lines → after_line t (line_said l) ≡ Err TooMany → IsOneTooMany files lines l
 many_kind files lines earlier t l c r e =
-    let p = line_many t.done t.part (kind_of l) e in
+    let p = line_many t.done t.part (line_said l) e in
     let x = p.section in
     let s = reads_spell 1 files lines earlier (t.done ++ x ∷ []) c (lines_end earlier t lines r
     ∙ ap (λ (y : Result (List Section) Fault). numbered (1 + length lines) y)
@@ -571,7 +572,7 @@ many_kind files lines earlier t l c r e =
     let own : s.0 ≡ front ++ x ∷ [] =
     same_front earlier s.0 (front ++ x ∷ []) (sym s.1 ∙ ap (λ (y : List Section). y ++ x ∷ []) r.grown.1
     ∙ append_assoc earlier front (x ∷ [])) in
-    let spells = subst (λ (y : List Section). Spells files lines earlier y) own s.2 in
+    let spells = subst (λ (y : List Section). SpellsSections files lines earlier y) own s.2 in
     let lawful = (lawful_back front (x ∷ []) spells.lawful).0 in
     let from = both_true (is_le (int_cmp x.first p.day)) (is_le (int_cmp p.day x.last)
     && all_before p.day x.holidays) p.fits in
@@ -605,7 +606,7 @@ begun_named : (all : List Section) (n : List ℕ) → is_named n all ≡ true �
 begun_named all n h = rw h refl
 
 no_repeat : (files lines : List (List ℕ)) (earlier : List Section) (t : State) (l : List ℕ) → CalFiles files earlier
-    → Reaches (fresh earlier) t lines → after_line t (kind_of l) ≡ Err Syntax → IsRepeat files lines l → ⊥
+    → Reaches (fresh earlier) t lines → after_line t (line_said l) ≡ Err Syntax → IsRepeat files lines l → ⊥
 no_repeat files lines earlier t l c r e is =
     let same = one_earlier files is.earlier earlier is.spells.before c in
     let end = ends_with files lines earlier is.earlier is.own t c r is.spells in
@@ -641,7 +642,7 @@ many_fails done (Open x) earlier own s d quiet e rise full =
     (overflows done s d (fitting s d rise) (is_full (length s.holidays) most_holidays full))
 
 no_many : (files lines : List (List ℕ)) (earlier : List Section) (t : State) (l : List ℕ) → CalFiles files earlier
-    → Reaches (fresh earlier) t lines → after_line t (kind_of l) ≡ Err Syntax → IsOneTooMany files lines l → ⊥
+    → Reaches (fresh earlier) t lines → after_line t (line_said l) ≡ Err Syntax → IsOneTooMany files lines l → ⊥
 no_many files lines earlier t l c r e is =
     let end = ends_with files lines earlier is.earlier (is.own ++ is.section ∷ []) t c r is.spells in
     let says = subst (λ (s : Said). after_line t s ≡ Err Syntax) is.says e in
@@ -649,8 +650,8 @@ no_many files lines earlier t l c r e is =
     apart_many (sym (many_fails t.done t.part earlier is.own is.section is.day quiet end is.rises is.full) ∙ says)
 
 line_kind : (f : Fault) (files lines : List (List ℕ)) (earlier : List Section) (t : State) (l : List ℕ)
-    → CalFiles files earlier → Reaches (fresh earlier) t lines → after_line t (kind_of l) ≡ Err f
-    → IsKind f files lines l
+    → CalFiles files earlier → Reaches (fresh earlier) t lines → after_line t (line_said l) ≡ Err f
+    → IsFaultKind f files lines l
 line_kind Syntax files lines earlier t l c r e =
     (no_repeat files lines earlier t l c r e, no_many files lines earlier t l c r e)
 line_kind Repeat files lines earlier t l c r e = repeat_kind files lines earlier t l c r e
@@ -681,7 +682,7 @@ spot_at f k n = record { fault = f; file = k; line = n }
 
 first_in_file : (before after : List (List ℕ)) (file : List ℕ) (earlier : List Section) (p : Place)
     → CalFiles before earlier → sections_of earlier file ≡ Err p
-    → IsFirstFault (before ++ file ∷ after) (record { fault = p.0; file = 1 + length before; line = p.1 })
+    → IsFirstCalendarFault (before ++ file ∷ after) (record { fault = p.0; file = 1 + length before; line = p.1 })
 first_in_file before after file earlier p c e =
     let st = stop 1 p.1 (fresh earlier) (seen_lines file) p.0 e in
     record {
@@ -732,7 +733,7 @@ next_file : (k n m : ℕ) → k ≡ 1 + n → m ≡ suc n → k + 1 ≡ 1 + m
 next_file k n m h g = omega (arith, h, g)
 
 first_from : (before fs : List (List ℕ)) (done : List Section) (k : ℕ) (s : Spot) → calendars_in 1 [] before ≡ Ok done
-    → k ≡ 1 + length before → calendars_in k done fs ≡ Err s → IsFirstFault (before ++ fs) s
+    → k ≡ 1 + length before → calendars_in k done fs ≡ Err s → IsFirstCalendarFault (before ++ fs) s
 unfolding calendars_in
 first_from before [] done k s read number e = absurd (cc e)
 first_from before (f ∷ fs) done k s read number e =
@@ -742,10 +743,10 @@ first_from before (f ∷ fs) done k s read number e =
           let c = read_is_spelt before done (calendars_apart 1 [] before done tt read) read in
           let spot : s ≡ record { fault = p.0.0; file = 1 + length before; line = p.0.1 } =
           subst (λ (n : ℕ). s ≡ record { fault = p.0.0; file = n; line = p.0.1 }) number p.2 in
-          subst (IsFirstFault (before ++ f ∷ fs)) (sym spot) (first_in_file before fs f done p.0 c p.1)
+          subst (IsFirstCalendarFault (before ++ f ∷ fs)) (sym spot) (first_in_file before fs f done p.0 c p.1)
       | inr goes ↦
           let here' = file_ok k (sections_of done f) goes.0 goes.1 in
-          subst (λ (x : List (List ℕ)). IsFirstFault x s) (append_assoc before (f ∷ []) fs)
+          subst (λ (x : List (List ℕ)). IsFirstCalendarFault x s) (append_assoc before (f ∷ []) fs)
           (first_from (before ++ f ∷ []) fs goes.0 (k + 1) s (one_file_more 1 [] done goes.0 before f read here')
           (next_file k (length before) (length (before ++ f ∷ [])) number (length_one_more before f)) goes.2)
     ]
@@ -755,7 +756,7 @@ unfolding calendars_in
 nothing_read = refl
 
 -- reading fails at the first fault alone
-pub fault_is_first : (files : List (List ℕ)) (s : Spot) → calendars_in 1 [] files ≡ Err s → IsFirstFault files s
+pub fault_is_first : (files : List (List ℕ)) (s : Spot) → calendars_in 1 [] files ≡ Err s → IsFirstCalendarFault files s
 fault_is_first files s e = first_from [] files [] 1 s nothing_read refl e
 
 -- and the first fault is where reading fails
@@ -765,8 +766,8 @@ walk : (n : ℕ) (s : State) (ls more : List (List ℕ)) (ss : List Section) →
 unfolding sections_in
 walk n s [] more ss e = (s, reaches_none s)
 walk n s (l ∷ ls) more ss e =
-    let p = then_ok (numbered n (after_line s (kind_of l))) (λ t. sections_in (n + 1) t (ls ++ more)) ss e in
-    let step = numbered_ok n (after_line s (kind_of l)) p.0 p.1 in
+    let p = then_ok (numbered n (after_line s (line_said l))) (λ t. sections_in (n + 1) t (ls ++ more)) ss e in
+    let step = numbered_ok n (after_line s (line_said l)) p.0 p.1 in
     let r = walk (n + 1) p.0 ls more ss p.2 in
     (r.0, reaches_more s p.0 r.0 l ls step r.1)
 
@@ -777,16 +778,16 @@ either (Err e) = inr (e, refl)
 center_or_holiday : (s : Said) (n : List ℕ) (d : ℤ) → s ≡ Center n → s ≡ Holiday d → ⊥
 center_or_holiday s n d a b = cc (a, b)
 
-one_kind : (f g : Fault) (files lines : List (List ℕ)) (l : List ℕ) → IsKind f files lines l
-    → IsKind g files lines l → f ≡ g
+one_kind : (f g : Fault) (files lines : List (List ℕ)) (l : List ℕ) → IsFaultKind f files lines l
+    → IsFaultKind g files lines l → f ≡ g
 one_kind Syntax Syntax files lines l a b = refl
 one_kind Syntax Repeat files lines l a b = absurd (a.0 b)
 one_kind Syntax TooMany files lines l a b = absurd (a.1 b)
 one_kind Repeat Syntax files lines l a b = absurd (b.0 a)
 one_kind Repeat Repeat files lines l a b = refl
-one_kind Repeat TooMany files lines l a b = absurd (center_or_holiday (kind_of l) a.name b.day a.says b.says)
+one_kind Repeat TooMany files lines l a b = absurd (center_or_holiday (line_said l) a.name b.day a.says b.says)
 one_kind TooMany Syntax files lines l a b = absurd (b.1 a)
-one_kind TooMany Repeat files lines l a b = absurd (center_or_holiday (kind_of l) b.name a.day b.says a.says)
+one_kind TooMany Repeat files lines l a b = absurd (center_or_holiday (line_said l) b.name a.day b.says a.says)
 one_kind TooMany TooMany files lines l a b = refl
 
 end_fails : (f : Fault) (files lines : List (List ℕ)) (earlier : List Section) (t : State) → CalFiles files earlier
@@ -801,15 +802,15 @@ end_fails f files lines earlier t c r b = elim (either (at_end t.done t.part)) [
 
 line_fails : (f : Fault) (files lines ls : List (List ℕ)) (l : List ℕ) (earlier : List Section) (t : State)
     → CalFiles files earlier → Reaches (fresh earlier) t lines → IsFaultBehind f files lines (l ∷ ls)
-    → after_line t (kind_of l) ≡ Err f
-line_fails f files lines ls l earlier t c r b = elim (either (after_line t (kind_of l))) [
+    → after_line t (line_said l) ≡ Err f
+line_fails f files lines ls l earlier t c r b = elim (either (after_line t (line_said l))) [
   | inl goes ↦
       let u = goes.0 in
       let end = can_end ((1 + length lines) + 1) u.done u.part in
       let read = r.reads 1 (l ∷ end.0) ∙ read_one (1 + length lines) t u l end.0 goes.1 ∙ end.2 in
       let s = reads_spell 1 files (lines ++ l ∷ end.0) earlier end.1 c read in
       let behind' =
-      subst (λ (x : List (List ℕ)). Spells files x earlier s.0) (sym (append_assoc lines (l ∷ []) end.0)) s.2 in
+      subst (λ (x : List (List ℕ)). SpellsSections files x earlier s.0) (sym (append_assoc lines (l ∷ []) end.0)) s.2 in
       absurd (b.0 (record { more = end.0; earlier = earlier; own = s.0; spells = behind' }))
   | inr fails ↦
       fails.1 ∙ ap (λ (g : Fault). Err g)
@@ -849,7 +850,7 @@ unfolding calendars_in
 file_fails k done file fs p e = rw e refl
 
 -- the first fault of the files is what reading them gives
-pub first_is_fault : (files : List (List ℕ)) (s : Spot) → IsFirstFault files s → calendars_in 1 [] files ≡ Err s
+pub first_is_fault : (files : List (List ℕ)) (s : Spot) → IsFirstCalendarFault files s → calendars_in 1 [] files ≡ Err s
 first_is_fault files s x =
     let go = x.goes_on in
     let c = go.spells.before in
@@ -874,17 +875,17 @@ apart_spots : {A : Type 0} {p : Spot} {x : A} → ◌≡◌ {A = Result A Spot} 
 apart_spots e = cc e
 
 -- at most one fault is the first
-pub one_first_fault : (files : List (List ℕ)) (s t : Spot) → IsFirstFault files s → IsFirstFault files t → s ≡ t
+pub one_first_fault : (files : List (List ℕ)) (s t : Spot) → IsFirstCalendarFault files s → IsFirstCalendarFault files t → s ≡ t
 one_first_fault files s t a b = same_spots (sym (first_is_fault files s a) ∙ first_is_fault files t b)
 
 -- files with a fault spell no sections
-pub faulty_spell_none : (files : List (List ℕ)) (s : Spot) (ss : List Section) → IsFirstFault files s
+pub faulty_spell_none : (files : List (List ℕ)) (s : Spot) (ss : List Section) → IsFirstCalendarFault files s
     → CalFiles files ss → ⊥
 faulty_spell_none files s ss a c = apart_spots (sym (first_is_fault files s a) ∙ spelt_is_read files ss c)
 
 -- files spell sections, or have a first fault
 pub spelt_or_faulty : (files : List (List ℕ))
-    → ((ss : List Section) × CalFiles files ss) ⊎ ((s : Spot) × IsFirstFault files s)
+    → ((ss : List Section) × CalFiles files ss) ⊎ ((s : Spot) × IsFirstCalendarFault files s)
 spelt_or_faulty files = elim (either (calendars_in 1 [] files)) [
   | inl read ↦ inl (read.0, read_is_spelt files read.0 (calendars_apart 1 [] files read.0 tt read.1) read.1)
   | inr fails ↦ inr (fails.0, fault_is_first files fails.0 fails.1)

@@ -5,14 +5,14 @@ use Rattle.irs_calendar.specs.declared.part.State.{State}
 use Rattle.irs_calendar.specs.declared.files.FileErr.{FileErr}
 use Rattle.irs_calendar.specs.declared.files.FileErr.TheVariants as errors
 use Rattle.irs_calendar.specs.Private.Machine.{after_line, at_end}
-use Rattle.irs_calendar.specs.Words.{kind_of}
+use Rattle.irs_calendar.specs.Words.{line_said}
 use Rattle.irs_base.specs.Lines.{lines_of}
 use Rattle.irs_calendar.specs.EndLines.{seen_from}
 use Rattle.irs_calendar.specs.Private.Files.{Place, numbered, then_read, sections_in, FileFails}
 
 -- a line that is read hands its state to the next line
 pub goes_on : (n : ℕ) (s t : State) (line : List ℕ) (lines more : List (List ℕ)) (whole : Result (List Section) Place)
-    → sections_in n s lines ≡ whole → lines ≡ line ∷ more → numbered n (after_line s (kind_of line)) ≡ Ok t
+    → sections_in n s lines ≡ whole → lines ≡ line ∷ more → numbered n (after_line s (line_said line)) ≡ Ok t
     → sections_in (n + 1) t more ≡ whole
 unfolding sections_in
 goes_on n s t line lines more whole kept split read =
@@ -21,7 +21,7 @@ goes_on n s t line lines more whole kept split read =
 
 -- a line at fault ends the file with its fault
 pub stops : (n : ℕ) (s : State) (line : List ℕ) (lines more : List (List ℕ)) (whole : Result (List Section) Place)
-    (e : Place) → sections_in n s lines ≡ whole → lines ≡ line ∷ more → numbered n (after_line s (kind_of line)) ≡ Err e
+    (e : Place) → sections_in n s lines ≡ whole → lines ≡ line ∷ more → numbered n (after_line s (line_said line)) ≡ Err e
     → whole ≡ Err e
 unfolding sections_in
 stops n s line lines more whole e kept split read =
@@ -31,7 +31,7 @@ stops n s line lines more whole e kept split read =
 -- a line that fails ends the file so
 pub fails : (n : ℕ) (s : State) (line : List ℕ) (lines more : List (List ℕ)) (whole : Result (List Section) Place)
     (e : FileErr) → sections_in n s lines ≡ whole → lines ≡ line ∷ more
-    → FileFails e (numbered n (after_line s (kind_of line))) → FileFails e whole
+    → FileFails e (numbered n (after_line s (line_said line))) → FileFails e whole
 fails n s line lines more whole errors.Memory kept split read = tt
 fails n s line lines more whole (errors.Fault f k) kept split read =
     stops n s line lines more whole (f, k) kept split read

@@ -21,11 +21,12 @@ use Rattle.irs_calendar.specs.Words.{Said, Nothing, Center, Cover, Weekend, Holi
 use Rattle.irs_calendar.specs.Private.Machine.{begun, after_center, after_cover, after_weekend, after_holiday}
 use Rattle.irs_calendar.specs.Private.Machine.{after_line, at_end}
 use Rattle.irs_calendar.specs.Private.Machine.{fits_section}
-use Rattle.irs_calendar.specs.Words.{kind_of}
+use Rattle.irs_calendar.specs.Words.{line_said}
 use Rattle.irs_calendar.specs.Private.Files.{numbered, sections_in, sections_of}
 use Rattle.irs_calendar.specs.Private.Calendars.{in_file, calendars_in}
-use Rattle.irs_calendar.specs.Grammar.{with_said, said_lines, section_lines, spelt, RisesWithin, IsLawful, AreLawful}
-use Rattle.irs_calendar.specs.Grammar.{AreSpelt, joined, CalFiles}
+use Rattle.irs_calendar.specs.Grammar.{with_said, said_lines, section_lines, spelt, RisesWithin, IsLawfulSection}
+use Rattle.irs_calendar.specs.Grammar.{AreLawful}
+use Rattle.irs_calendar.specs.Grammar.{AreSpelt, joined_sections, CalFiles}
 use Rattle.irs_calendar.proofs.DistinctLemmas.{numbered_ok, then_ok, file_ok, then_file_ok, same_state, or_false}
 use Rattle.irs_calendar.proofs.DistinctLemmas.{turned}
 
@@ -79,7 +80,7 @@ abbrev pub IsLawfulPart : Part → Type 0
 IsLawfulPart Between = Unit {0}
 IsLawfulPart (Named n) = Unit {0}
 IsLawfulPart (Covered n a b) = Unit {0}
-IsLawfulPart (Open s) = IsLawful s
+IsLawfulPart (Open s) = IsLawfulSection s
 
 -- the sections are those that are done, and new ones that the part at hand and the lines to come spell
 pub record Continues (s : State) (more : List Said) (ss : List Section) : Type 0 where
@@ -210,8 +211,8 @@ pub reads_continue : (n : ℕ) (s : State) (ls : List (List ℕ)) (ss : List Sec
 unfolding sections_in
 reads_continue n s [] ss lawful e = end_continues s.done s.part ss lawful (numbered_ok n (at_end s.done s.part) ss e)
 reads_continue n s (l ∷ ls) ss lawful e =
-    let p = then_ok (numbered n (after_line s (kind_of l))) (λ t. sections_in (n + 1) t ls) ss e in
-    let step = line_steps s p.0 (kind_of l) lawful (numbered_ok n (after_line s (kind_of l)) p.0 p.1) in
+    let p = then_ok (numbered n (after_line s (line_said l))) (λ t. sections_in (n + 1) t ls) ss e in
+    let step = line_steps s p.0 (line_said l) lawful (numbered_ok n (after_line s (line_said l)) p.0 p.1) in
     step.back (said_lines ls) ss (reads_continue (n + 1) p.0 ls ss step.lawful p.2)
 
 lawful_joined : (a b : List Section) → AreLawful a → AreLawful b → AreLawful (a ++ b)
@@ -221,9 +222,9 @@ lawful_joined (s ∷ a) b ha hb = (ha.0, lawful_joined a b ha.1 hb)
 -- the files from some position on, after sections that are done
 record Files (done : List Section) (fs : List (List ℕ)) (ss : List Section) : Type 0 where
   parts : List (List Section)
-  whole : ss ≡ done ++ joined parts
+  whole : ss ≡ done ++ joined_sections parts
   each : AreSpelt fs parts
-  lawful : AreLawful (joined parts)
+  lawful : AreLawful (joined_sections parts)
 
 files_continue : (k : ℕ) (done : List Section) (fs : List (List ℕ)) (ss : List Section) → calendars_in k done fs ≡ Ok ss
     → Files done fs ss
@@ -237,10 +238,10 @@ files_continue k done (f ∷ fs) ss e =
     let rest = files_continue (k + 1) p.0 fs ss p.2 in
     record {
       parts = here.new ∷ rest.parts;
-      whole = rest.whole ∙ ap (λ (l : List Section). l ++ joined rest.parts) here.is
-          ∙ append_assoc done here.new (joined rest.parts);
+      whole = rest.whole ∙ ap (λ (l : List Section). l ++ joined_sections rest.parts) here.is
+          ∙ append_assoc done here.new (joined_sections rest.parts);
       each = (here.says, rest.each);
-      lawful = lawful_joined here.new (joined rest.parts) here.lawful rest.lawful;
+      lawful = lawful_joined here.new (joined_sections rest.parts) here.lawful rest.lawful;
     }
 
 -- what is read is spelt so
@@ -547,7 +548,7 @@ pub lines_read : (n : ℕ) (s : State) (ls : List (List ℕ)) (ss : List Section
 unfolding sections_in
 lines_read n s [] ss go distinct = rw (ends s.done s.part ss go) refl
 lines_read n s (l ∷ ls) ss go distinct =
-    let next = next_line s (kind_of l) (said_lines ls) ss go distinct in
+    let next = next_line s (line_said l) (said_lines ls) ss go distinct in
     rw next.reads (lines_read (n + 1) next.state ls ss next.goes distinct)
 
 -- the front of lawful sections is lawful
@@ -561,18 +562,18 @@ lawful_back [] b h = h
 lawful_back (s ∷ a) b h = lawful_back a b h.1
 
 files_read : (k : ℕ) (done : List Section) (fs : List (List ℕ)) (ss : List Section) (ps : List (List Section))
-    → ss ≡ done ++ joined ps → AreSpelt fs ps → AreLawful (joined ps) → AreDistinct ss → calendars_in k done fs ≡ Ok ss
+    → ss ≡ done ++ joined_sections ps → AreSpelt fs ps → AreLawful (joined_sections ps) → AreDistinct ss → calendars_in k done fs ≡ Ok ss
 unfolding calendars_in
 files_read k done [] ss [] whole each lawful distinct = ap (λ (l : List Section). Ok l) (sym (whole ∙ append-nil done))
 files_read k done [] ss (p ∷ ps) whole each lawful distinct = absurd each
 files_read k done (f ∷ fs) ss [] whole each lawful distinct = absurd each
 files_read k done (f ∷ fs) ss (p ∷ ps) whole each lawful distinct =
-    let behind : ss ≡ (done ++ p) ++ joined ps = whole ∙ sym (append_assoc done p (joined ps)) in
-    let apart = distinct_front (done ++ p) (joined ps) (subst AreDistinct behind distinct) in
+    let behind : ss ≡ (done ++ p) ++ joined_sections ps = whole ∙ sym (append_assoc done p (joined_sections ps)) in
+    let apart = distinct_front (done ++ p) (joined_sections ps) (subst AreDistinct behind distinct) in
     let go : Continues (record { done = done; part = Between }) (said_lines (seen_lines f)) (done ++ p) =
-    record { new = p; is = refl; says = each.0; lawful = lawful_front p (joined ps) lawful } in
+    record { new = p; is = refl; says = each.0; lawful = lawful_front p (joined_sections ps) lawful } in
     let here = lines_read 1 (record { done = done; part = Between }) (seen_lines f) (done ++ p) go apart in
-    rw here (files_read (k + 1) (done ++ p) fs ss ps behind each.1 (lawful_back p (joined ps) lawful) distinct)
+    rw here (files_read (k + 1) (done ++ p) fs ss ps behind each.1 (lawful_back p (joined_sections ps) lawful) distinct)
 
 -- what is spelt is read
 pub spelt_is_read : (files : List (List ℕ)) (ss : List Section) → CalFiles files ss → calendars_in 1 [] files ≡ Ok ss

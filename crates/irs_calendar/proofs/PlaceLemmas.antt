@@ -13,7 +13,7 @@ use Rattle.std.proofs.lemmas.Slice.Eq.{bytes_eq-Decides}
 use Rattle.std.proofs.lemmas.Bool.{cases_Bool}
 use Rattle.irs_calendar.specs.declared.sections.Section.{Section}
 use Rattle.irs_calendar.specs.Sections.{is_named, section_named, AreDistinct}
-use Rattle.irs_calendar.specs.Places.{place_in, IsIndex}
+use Rattle.irs_calendar.specs.Places.{place_for_name, IsIndex}
 use Rattle.irs_calendar.proofs.RunLemmas.{place_any}
 use Rattle.irs_calendar.proofs.CalendarLemmas.{found_is}
 use Rattle.irs_calendar.proofs.DistinctLemmas.{turned, named_behind}
@@ -73,7 +73,7 @@ index_with m n ss s k index entries named = record {
   found = λ name i at. elim (cases_Bool (bytes_eq name k.items)) [
     | inl t ↦
         let e : Some (length ss) ≡ Some i =
-        subst (λ (b : Bool). (if b then Some (length ss) else place_in m name) ≡ Some i) t (sym (here name) ∙ at) in
+        subst (λ (b : Bool). (if b then Some (length ss) else place_for_name m name) ≡ Some i) t (sym (here name) ∙ at) in
         let same : name ≡ k.items = (bytes_eq-Decides name k.items).0 t in (
           s,
           subst (λ (j : ℕ). slice_get (ss ++ s ∷ []) j ≡ Some s) (same_Some (length ss) i e) (last_is ss s),
@@ -81,21 +81,21 @@ index_with m n ss s k index entries named = record {
         )
     | inr f ↦
         let old = index.found name i
-        (subst (λ (b : Bool). (if b then Some (length ss) else place_in m name) ≡ Some i) f (sym (here name)
+        (subst (λ (b : Bool). (if b then Some (length ss) else place_for_name m name) ≡ Some i) f (sym (here name)
         ∙ at)) in
         (old.0, front_stays ss s old.0 i old.1, old.2)
   ];
   missing = λ name at. elim (cases_Bool (bytes_eq name k.items)) [
     | inl t ↦ absurd (some_none (length ss)
-        (subst (λ (b : Bool). (if b then Some (length ss) else place_in m name) ≡ None) t (sym (here name) ∙ at)))
+        (subst (λ (b : Bool). (if b then Some (length ss) else place_for_name m name) ≡ None) t (sym (here name) ∙ at)))
     | inr f ↦
         let old = index.missing name
-        (subst (λ (b : Bool). (if b then Some (length ss) else place_in m name) ≡ None) f (sym (here name) ∙ at)) in
+        (subst (λ (b : Bool). (if b then Some (length ss) else place_for_name m name) ≡ None) f (sym (here name) ∙ at)) in
         named_behind name ss s old (turned name s.name (subst (λ (l : List ℕ). bytes_eq name l ≡ false) named f))
   ];
 }
   where
-    here : (name : List ℕ) → place_in n name ≡ (if bytes_eq name k.items then Some (length ss) else place_in m name)
+    here : (name : List ℕ) → place_for_name n name ≡ (if bytes_eq name k.items then Some (length ss) else place_for_name m name)
     here name = ap (lookup (is_key name)) entries ∙ inserted m.entries k (length ss) name
 
     some_none : (x : ℕ) → ◌≡◌ {A = Option ℕ} (Some x) None → ⊥
@@ -108,10 +108,10 @@ named_at ss i s name at named = place_any (λ t. bytes_eq t.name name) ss i s at
 
 -- a name has a place where a section has it
 pub has_place : (m : BTreeMap (Vec ℕ Global) ℕ) (ss : List Section) (name : List ℕ) → IsIndex m ss
-    → is_some (place_in m name) ≡ is_named name ss
-has_place m ss name index = by_place (place_in m name) refl
+    → is_some (place_for_name m name) ≡ is_named name ss
+has_place m ss name index = by_place (place_for_name m name) refl
   where
-    by_place : (o : Option ℕ) → place_in m name ≡ o → is_some o ≡ is_named name ss
+    by_place : (o : Option ℕ) → place_for_name m name ≡ o → is_some o ≡ is_named name ss
     by_place (Some i) at = let f = index.found name i at in sym (named_at ss i f.0 name f.1 f.2)
     by_place None at = sym (index.missing name at)
 

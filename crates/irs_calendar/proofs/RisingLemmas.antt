@@ -6,7 +6,7 @@ use Rattle.std.proofs.lemmas.Option.{slice_get_within, same_Some}
 use Rattle.std.proofs.lemmas.Bool.{cases_Bool}
 use Rattle.jiff_core.proofs.SignedLemmas.{signed_arith}
 use Rattle.irs_calendar.specs.declared.sections.Section.{Section}
-use Rattle.irs_calendar.specs.Rising.{IsRising}
+use Rattle.irs_calendar.specs.Rising.{RisesByPlace}
 use Rattle.irs_calendar.specs.Private.Rising.{IsAfter, all_before}
 use Rattle.irs_calendar.specs.Private.Machine.{fits_section}
 use Rattle.irs_base.proofs.Orders.{lt_true, lt_false, true_lt, both_true}
@@ -50,7 +50,7 @@ fits_after s d h =
     after_all s.holidays d b.1
 
 -- it is enough to be above the last one
-pub last_before : (days : List ℤ) (d x : ℤ) (n : ℕ) → IsRising days → suc n ≡ length days → slice_get days n ≡ Some x
+pub last_before : (days : List ℤ) (d x : ℤ) (n : ℕ) → RisesByPlace days → suc n ≡ length days → slice_get days n ≡ Some x
     → is_lt (int_cmp x d) ≡ all_before d days
 last_before days d x n rising len at = elim (cases_Bool (is_lt (int_cmp x d))) [
   | inl low ↦ low ∙ sym

@@ -12,7 +12,7 @@ use Rattle.irs_calendar.specs.declared.runs.Run.{Run}
 use Rattle.irs_calendar.specs.declared.search.End.TheVariants.{First, Last}
 use Rattle.irs_calendar.specs.GoodDays.{DaySet, InCover, IsGood, Next, Prev}
 use Rattle.irs_calendar.specs.Runs.{CoveredRuns, AreRuns, holds_day, set_of_runs}
-use Rattle.irs_calendar.specs.Private.Splits.{comes_before, IsDownward, Splits}
+use Rattle.irs_calendar.specs.Private.Splits.{begins_or_ends_before, IsDownward, Splits}
 
 -- what passes a test somewhere in a list has a place in it
 pub any_place : {A : Type 0} (p : A → Bool) (xs : List A) → list_any p xs ≡ true
@@ -66,14 +66,14 @@ good_held c d i r are at from to =
     }
 
 -- what ends before a day comes first, and likewise what begins by it
-pub ends_downward : (c : CoveredRuns) (d : ℤ) → AreRuns c → IsDownward (comes_before Last d) c.runs
+pub ends_downward : (c : CoveredRuns) (d : ℤ) → AreRuns c → IsDownward (begins_or_ends_before Last d) c.runs
 ends_downward c d are i j r s lower atr ats passes =
     let gap = are.apart i j r s lower atr ats in
     let full = are.filled j s ats in
     true_lt r.last d (omega (arith, signed_arith, gap, full, lt_true s.last d passes))
 
 -- once a run begins after a day, so do all later ones
-pub begins_downward : (c : CoveredRuns) (d : ℤ) → AreRuns c → IsDownward (comes_before First d) c.runs
+pub begins_downward : (c : CoveredRuns) (d : ℤ) → AreRuns c → IsDownward (begins_or_ends_before First d) c.runs
 begins_downward c d are i j r s lower atr ats passes =
     let gap = are.apart i j r s lower atr ats in
     let full = are.filled i r atr in
@@ -88,7 +88,7 @@ same_run : (c : CoveredRuns) (i k : ℕ) (r s : Run) → i ≡ k → slice_get c
 same_run c i k r s e atr ats = same_Some r s (sym atr ∙ subst (λ n. slice_get c.runs n ≡ Some s) e ats)
 
 -- no business day lies between d and the first run that doesn't end before it
-none_to_run : (c : CoveredRuns) (d : ℤ) (k : ℕ) (r : Run) → AreRuns c → Splits (comes_before Last d) c.runs k
+none_to_run : (c : CoveredRuns) (d : ℤ) (k : ℕ) (r : Run) → AreRuns c → Splits (begins_or_ends_before Last d) c.runs k
     → slice_get c.runs k ≡ Some r → (x : ℤ) → d ≤ℤ x → x <ℤ r.first → IsGood (set_of_runs c) x → ⊥
 none_to_run c d k r are cut at x low high good =
     let h = held c x good in
@@ -105,7 +105,7 @@ none_to_run c d k r are cut at x low high good =
 
 -- where the first run that ends at or after a day begins after it, its first day is next
 pub next_run : (c : CoveredRuns) (d : ℤ) (k : ℕ) (r : Run) → AreRuns c → InCover (set_of_runs c) d
-    → Splits (comes_before Last d) c.runs k → slice_get c.runs k ≡ Some r → d <ℤ r.first
+    → Splits (begins_or_ends_before Last d) c.runs k → slice_get c.runs k ≡ Some r → d <ℤ r.first
     → Next (set_of_runs c) d r.first
 next_run c d k r are inside cut at before = record {
   starts = inside;
@@ -116,7 +116,7 @@ next_run c d k r are inside cut at before = record {
 
 -- where that run has begun, the day is its own next one
 pub next_here : (c : CoveredRuns) (d : ℤ) (k : ℕ) (r : Run) → AreRuns c → InCover (set_of_runs c) d
-    → Splits (comes_before Last d) c.runs k → slice_get c.runs k ≡ Some r → r.first ≤ℤ d → Next (set_of_runs c) d d
+    → Splits (begins_or_ends_before Last d) c.runs k → slice_get c.runs k ≡ Some r → r.first ≤ℤ d → Next (set_of_runs c) d d
 next_here c d k r are inside cut at from = record {
   starts = inside;
   after = omega (arith, signed_arith);
@@ -125,7 +125,7 @@ next_here c d k r are inside cut at from = record {
 }
 
 -- where no run ends at or after a day, there is no next one
-pub none_next : (c : CoveredRuns) (d : ℤ) (k : ℕ) → Splits (comes_before Last d) c.runs k → k ≡ length c.runs → (x : ℤ)
+pub none_next : (c : CoveredRuns) (d : ℤ) (k : ℕ) → Splits (begins_or_ends_before Last d) c.runs k → k ≡ length c.runs → (x : ℤ)
     → Next (set_of_runs c) d x → ⊥
 none_next c d k cut all x next =
     let h = held c x next.good in
@@ -133,7 +133,7 @@ none_next c d k cut all x next =
     omega (arith, signed_arith, lt_true h.run.last d (cut.below h.index h.run front h.at), h.to, next.after)
 
 -- no business day lies between d and the last run that begins by it
-none_from_run : (c : CoveredRuns) (d : ℤ) (k : ℕ) (r : Run) → AreRuns c → Splits (comes_before First d) c.runs (k + 1)
+none_from_run : (c : CoveredRuns) (d : ℤ) (k : ℕ) (r : Run) → AreRuns c → Splits (begins_or_ends_before First d) c.runs (k + 1)
     → slice_get c.runs k ≡ Some r → (x : ℤ) → r.last <ℤ x → x ≤ℤ d → IsGood (set_of_runs c) x → ⊥
 none_from_run c d k r are cut at x low high good =
     let h = held c x good in
@@ -156,7 +156,7 @@ none_from_run c d k r are cut at x low high good =
 
 -- where the last run that begins by a day ends before it, its last day is the previous one
 pub prev_run : (c : CoveredRuns) (d : ℤ) (k : ℕ) (r : Run) → AreRuns c → InCover (set_of_runs c) d
-    → Splits (comes_before First d) c.runs (k + 1) → slice_get c.runs k ≡ Some r → r.last <ℤ d
+    → Splits (begins_or_ends_before First d) c.runs (k + 1) → slice_get c.runs k ≡ Some r → r.last <ℤ d
     → Prev (set_of_runs c) d r.last
 prev_run c d k r are inside cut at before = record {
   starts = inside;
@@ -167,7 +167,7 @@ prev_run c d k r are inside cut at before = record {
 
 -- where that run goes on, the day is its own previous one
 pub prev_here : (c : CoveredRuns) (d : ℤ) (k : ℕ) (r : Run) → AreRuns c → InCover (set_of_runs c) d
-    → Splits (comes_before First d) c.runs (k + 1) → slice_get c.runs k ≡ Some r → d ≤ℤ r.last
+    → Splits (begins_or_ends_before First d) c.runs (k + 1) → slice_get c.runs k ≡ Some r → d ≤ℤ r.last
     → Prev (set_of_runs c) d d
 prev_here c d k r are inside cut at to = record {
   starts = inside;
@@ -177,7 +177,7 @@ prev_here c d k r are inside cut at to = record {
 }
 
 -- where no run begins by a day, there is no previous one
-pub none_prev : (c : CoveredRuns) (d : ℤ) → Splits (comes_before First d) c.runs 0 → (x : ℤ)
+pub none_prev : (c : CoveredRuns) (d : ℤ) → Splits (begins_or_ends_before First d) c.runs 0 → (x : ℤ)
     → Prev (set_of_runs c) d x → ⊥
 none_prev c d cut x prev =
     let h = held c x prev.good in

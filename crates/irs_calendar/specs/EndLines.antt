@@ -1,18 +1,15 @@
 -- The end line of a file: its last line may be `# end N`, and then N is the number of lines before it.
 use Rattle.std.specs.Prelude.{ℕ, ◌+◌, Bool, true, false, not, ◌&&◌, ◌==◌, List, [], ◌∷◌, ◌++◌, take, drop, codes}
-use Rattle.std.specs.Prelude.{nat_le, if◌then◌else◌}
+use Rattle.std.specs.Prelude.{if◌then◌else◌}
 use Rattle.std.specs.Fmt.{decimal}
 use Rattle.std.specs.List.{list_all}
 use Rattle.std.specs.Str.{bytes_eq}
 use Rattle.irs_base.specs.Lines.{lines_of}
+use Rattle.irs_base.specs.Dates.{is_digit}
 
 -- the end line that counts this many lines before it
-abbrev pub end_text : ℕ → List ℕ
-end_text before = codes "# end " ++ decimal before
-
--- from 0 to 9
-abbrev pub is_digit : ℕ → Bool
-is_digit b = nat_le 48 b && nat_le b 57
+abbrev pub end_line_text : ℕ → List ℕ
+end_line_text before = codes "# end " ++ decimal before
 
 -- there is a first byte, and it isn't a 0 in front of others
 abbrev pub has_no_zero_in_front : List ℕ → Bool
@@ -30,7 +27,7 @@ is_end_line line = bytes_eq (take 6 line) (codes "# end ") && is_number (drop 6 
 
 -- an end line whose number isn't that of the lines before it
 abbrev pub is_false_end : ℕ → List ℕ → Bool
-is_false_end before line = is_end_line line && not (bytes_eq line (end_text before))
+is_false_end before line = is_end_line line && not (bytes_eq line (end_line_text before))
 
 -- no more lines
 abbrev pub is_none : List (List ℕ) → Bool

@@ -7,7 +7,7 @@ use Rattle.irs_calendar.specs.declared.machine.Fault.{Fault}
 use Rattle.irs_calendar.specs.declared.machine.Fault.TheVariants.{Syntax, Repeat, TooMany}
 use Rattle.irs_calendar.specs.Grammar.{said_lines, spelt, RisesWithin, AreLawful, CalFiles}
 use Rattle.irs_calendar.specs.Sections.{is_named, AreDistinct}
-use Rattle.irs_calendar.specs.Words.{Center, Holiday, kind_of}
+use Rattle.irs_calendar.specs.Words.{Center, Holiday, line_said}
 
 -- a fault, the file's position and the line
 pub record Spot : Type 0 where
@@ -16,7 +16,7 @@ pub record Spot : Type 0 where
   pub line : ℕ
 
 -- the files spell the earlier sections, and the lines of one more file spell its own
-pub record Spells (files lines : List (List ℕ)) (earlier own : List Section) : Type 0 where
+pub record SpellsSections (files lines : List (List ℕ)) (earlier own : List Section) : Type 0 where
   pub before : CalFiles files earlier
   pub says : said_lines lines ≡ spelt own
   pub distinct : AreDistinct (earlier ++ own)
@@ -24,22 +24,22 @@ pub record Spells (files lines : List (List ℕ)) (earlier own : List Section) :
 
 -- the lines of the one file more spell no sections
 abbrev pub SpellNone : List (List ℕ) → List (List ℕ) → Type 0
-SpellNone files lines = (earlier own : List Section) → Spells files lines earlier own → ⊥
+SpellNone files lines = (earlier own : List Section) → SpellsSections files lines earlier own → ⊥
 
 -- some lines, appended to those of one more file, make it spell sections
 pub record CanGoOn (files lines : List (List ℕ)) : Type 0 where
   pub more : List (List ℕ)
   pub earlier : List Section
   pub own : List Section
-  pub spells : Spells files (lines ++ more) earlier own
+  pub spells : SpellsSections files (lines ++ more) earlier own
 
 -- the line is a centre's after whole sections, one of which has its name
 pub record IsRepeat (files lines : List (List ℕ)) (line : List ℕ) : Type 0 where
   pub earlier : List Section
   pub own : List Section
   pub name : List ℕ
-  pub spells : Spells files lines earlier own
-  pub says : kind_of line ≡ Center name
+  pub spells : SpellsSections files lines earlier own
+  pub says : line_said line ≡ Center name
   pub named : is_named name (earlier ++ own) ≡ true
 
 -- the line is a holiday that fits after those of the file's last section, which are 20,000
@@ -48,24 +48,24 @@ pub record IsOneTooMany (files lines : List (List ℕ)) (line : List ℕ) : Type
   pub own : List Section
   pub section : Section
   pub day : ℤ
-  pub spells : Spells files lines earlier (own ++ section ∷ [])
-  pub says : kind_of line ≡ Holiday day
+  pub spells : SpellsSections files lines earlier (own ++ section ∷ [])
+  pub says : line_said line ≡ Holiday day
   pub rises : RisesWithin section.first section.last (section.holidays ++ day ∷ [])
   pub full : length section.holidays ≡ most_holidays
 
 -- the kind of a line with which nothing can go on: syntax wherever it isn't one of the others
-abbrev pub IsKind : Fault → List (List ℕ) → List (List ℕ) → List ℕ → Type 0
-IsKind Syntax files lines line = (IsRepeat files lines line → ⊥) × (IsOneTooMany files lines line → ⊥)
-IsKind Repeat files lines line = IsRepeat files lines line
-IsKind TooMany files lines line = IsOneTooMany files lines line
+abbrev pub IsFaultKind : Fault → List (List ℕ) → List (List ℕ) → List ℕ → Type 0
+IsFaultKind Syntax files lines line = (IsRepeat files lines line → ⊥) × (IsOneTooMany files lines line → ⊥)
+IsFaultKind Repeat files lines line = IsRepeat files lines line
+IsFaultKind TooMany files lines line = IsOneTooMany files lines line
 
 -- what comes after the lines is at fault: the next line, or the file's end, where no sections are spelt
 abbrev pub IsFaultBehind : Fault → List (List ℕ) → List (List ℕ) → List (List ℕ) → Type 0
 IsFaultBehind fault files lines [] = (fault ≡ Syntax) × SpellNone files lines
-IsFaultBehind fault files lines (line ∷ rest) = (CanGoOn files (lines ++ line ∷ []) → ⊥) × IsKind fault files lines line
+IsFaultBehind fault files lines (line ∷ rest) = (CanGoOn files (lines ++ line ∷ []) → ⊥) × IsFaultKind fault files lines line
 
 -- the first fault of the files, with the position of its file and of its line, both from 1
-pub record IsFirstFault (files : List (List ℕ)) (s : Spot) : Type 0 where
+pub record IsFirstCalendarFault (files : List (List ℕ)) (s : Spot) : Type 0 where
   pub before : List (List ℕ)
   pub file : List ℕ
   pub after : List (List ℕ)
@@ -80,8 +80,8 @@ pub record IsFirstFault (files : List (List ℕ)) (s : Spot) : Type 0 where
 
 -- at most one fault is the first
 abbrev pub HaveOneFirstFault : List (List ℕ) → Type 0
-HaveOneFirstFault files = (s t : Spot) → IsFirstFault files s → IsFirstFault files t → s ≡ t
+HaveOneFirstFault files = (s t : Spot) → IsFirstCalendarFault files s → IsFirstCalendarFault files t → s ≡ t
 
 -- the files spell sections, or have a first fault
 abbrev pub AreSpeltOrFaulty : List (List ℕ) → Type 0
-AreSpeltOrFaulty files = ((ss : List Section) × CalFiles files ss) ⊎ ((s : Spot) × IsFirstFault files s)
+AreSpeltOrFaulty files = ((ss : List Section) × CalFiles files ss) ⊎ ((s : Spot) × IsFirstCalendarFault files s)

@@ -7,22 +7,22 @@ use Rattle.irs_calendar.specs.GoodDays.{DaySet, InCover}
 use Rattle.irs_calendar.specs.Sections.{is_named, section_named, all_open}
 
 -- the later of two days
-abbrev pub later : ℤ → ℤ → ℤ
-later a b = if is_lt (int_cmp a b) then b else a
+abbrev pub later_day : ℤ → ℤ → ℤ
+later_day a b = if is_lt (int_cmp a b) then b else a
 
 -- the earlier of two days
-abbrev pub earlier : ℤ → ℤ → ℤ
-earlier a b = if is_lt (int_cmp b a) then b else a
+abbrev pub earlier_day : ℤ → ℤ → ℤ
+earlier_day a b = if is_lt (int_cmp b a) then b else a
 
 -- the latest of a day and the first days of the covers
 abbrev pub latest_first : ℤ → List Section → ℤ
 latest_first d [] = d
-latest_first d (s ∷ ss) = latest_first (later d s.first) ss
+latest_first d (s ∷ ss) = latest_first (later_day d s.first) ss
 
 -- the earliest of a day and the last days of the covers
 abbrev pub earliest_last : ℤ → List Section → ℤ
 earliest_last d [] = d
-earliest_last d (s ∷ ss) = earliest_last (earlier d s.last) ss
+earliest_last d (s ∷ ss) = earliest_last (earlier_day d s.last) ss
 
 -- the cover is what the covers have in common; its business days are those that all sections leave open
 abbrev pub set_of_sections : List Section → DaySet

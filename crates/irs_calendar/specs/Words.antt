@@ -18,17 +18,17 @@ pub data Said : Type 0 where
   Wrong : Said
 
 -- from ! to ~
-abbrev pub is_plain : ℕ → Bool
-is_plain b = nat_le 33 b && nat_le b 126
+abbrev pub is_visible : ℕ → Bool
+is_visible b = nat_le 33 b && nat_le b 126
 
 -- 1 to 32 bytes from `!` to `~`; a field is never empty
-abbrev pub is_center_name : List ℕ → Bool
-is_center_name n = nat_le (length n) most_name && list_all is_plain n
+abbrev pub is_center_field : List ℕ → Bool
+is_center_field n = nat_le (length n) most_name && list_all is_visible n
 
 -- what `center` and the fields after it say
 abbrev pub said_center : List (List ℕ) → Said
 said_center [] = Wrong
-said_center (n ∷ []) = if is_center_name n then Center n else Wrong
+said_center (n ∷ []) = if is_center_field n then Center n else Wrong
 said_center (n ∷ m ∷ ms) = Wrong
 
 -- a cover's first day isn't after its last
@@ -45,8 +45,8 @@ said_cover (a ∷ b ∷ []) = cover_of (date_at a) (date_at b)
 said_cover (a ∷ b ∷ c ∷ cs) = Wrong
 
 -- the place in the week, from Monday
-abbrev pub place_of : List ℕ → Option ℕ
-place_of n =
+abbrev pub weekday_place : List ℕ → Option ℕ
+weekday_place n =
     if bytes_eq n (codes "MON") then Some 0
     else (if bytes_eq n (codes "TUE") then Some 1
     else (if bytes_eq n (codes "WED") then Some 2
@@ -65,7 +65,7 @@ marked (Some p) days = if slice_index_or days p false then None else Some (slice
 abbrev pub weekend_of : Option (List Bool) → List (List ℕ) → Said
 weekend_of None ns = Wrong
 weekend_of (Some days) [] = Weekend days
-weekend_of (Some days) (n ∷ ns) = weekend_of (marked (place_of n) days) ns
+weekend_of (Some days) (n ∷ ns) = weekend_of (marked (weekday_place n) days) ns
 
 -- a holiday where it is a date
 abbrev pub holiday_of : Option ℤ → Said
@@ -90,9 +90,9 @@ said_by w ws =
     else said_holiday w ws))
 
 -- the line begins with `#`
-abbrev pub is_comment : List ℕ → Bool
-is_comment [] = false
-is_comment (b ∷ bs) = b == 35
+abbrev pub is_comment_line : List ℕ → Bool
+is_comment_line [] = false
+is_comment_line (b ∷ bs) = b == 35
 
 -- what the fields of a line say; white space before the first one is wrong
 abbrev pub said_in_place : Bool → List (List ℕ) → Said
@@ -101,5 +101,5 @@ said_in_place true (w ∷ ws) = Wrong
 said_in_place false (w ∷ ws) = said_by w ws
 
 -- what a line says
-abbrev pub kind_of : List ℕ → Said
-kind_of line = if is_comment line then Nothing else said_in_place (begins_space line) (fields line)
+abbrev pub line_said : List ℕ → Said
+line_said line = if is_comment_line line then Nothing else said_in_place (begins_space line) (fields line)

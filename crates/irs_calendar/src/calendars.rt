@@ -17,7 +17,7 @@ ghost use Rattle.irs_calendar.specs.declared.calendars.SelErr.TheVariants.{Memor
 ghost use Rattle.irs_calendar.specs.Calendars.{spot_of, SelFails};
 ghost use Rattle.irs_calendar.specs.Private.Calendars.{calendars_in, in_file, GivesAll};
 ghost use Rattle.irs_calendar.specs.Grammar.{CalFiles};
-ghost use Rattle.irs_calendar.specs.FirstFaults.{IsFirstFault, HaveOneFirstFault, AreSpeltOrFaulty, Spot};
+ghost use Rattle.irs_calendar.specs.FirstFaults.{IsFirstCalendarFault, HaveOneFirstFault, AreSpeltOrFaulty, Spot};
 
 use crate::chosen::chosen_days;
 use crate::files::{FileErr, read_file};
@@ -167,10 +167,10 @@ impl Calendars {
         ensures spelt { IfOk result (λ c. CalFiles (map (λ f. f.items) files.now) c) }
         // An error is at the first fault: the lines before it can go on, and with the faulty line
         // nothing can.
-        ensures first { IfErr result (λ e. IfSome (spot_of e) (IsFirstFault (map (λ f. f.items) files.now))) }
+        ensures first { IfErr result (λ e. IfSome (spot_of e) (IsFirstCalendarFault (map (λ f. f.items) files.now))) }
         // Files that spell sections have no first fault, whatever the memory.
         ensures faultless { (ss : List Section) → CalFiles (map (λ f. f.items) files.now) ss
-            → (s : Spot) → IsFirstFault (map (λ f. f.items) files.now) s → ⊥ }
+            → (s : Spot) → IsFirstCalendarFault (map (λ f. f.items) files.now) s → ⊥ }
         // Files spell sections or have a first fault, whatever the memory.
         ensures decided { AreSpeltOrFaulty (map (λ f. f.items) files.now) }
         // At most one fault is the first.

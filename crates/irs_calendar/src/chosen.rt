@@ -3,7 +3,7 @@ ghost use Rattle.std.specs.Prelude.{◌≡◌, ◌<◌, ◌^◌, pos, ◌+ℤ◌
 ghost use Rattle.irs_base.specs.Days.{first_day, last_day};
 ghost use Rattle.irs_calendar.specs.GoodDays.{SameDays};
 ghost use Rattle.irs_calendar.specs.Runs.{set_of_runs};
-ghost use Rattle.irs_calendar.specs.Selected.{later, earlier, latest_first, earliest_last, set_of_sections};
+ghost use Rattle.irs_calendar.specs.Selected.{later_day, earlier_day, latest_first, earliest_last, set_of_sections};
 
 use crate::RunSet;
 use crate::openings::open_runs;
@@ -26,13 +26,13 @@ fn common_cover(sections: &[&Section]) -> (Day, Day)
 }
 
 fn later(a: Day, b: Day) -> Day
-    ensures { result ≡ later a b }
+    ensures { result ≡ later_day a b }
 {
     if a < b { b } else { a }
 }
 
 fn earlier(a: Day, b: Day) -> Day
-    ensures { result ≡ earlier a b }
+    ensures { result ≡ earlier_day a b }
 {
     if b < a { b } else { a }
 }

@@ -7,7 +7,8 @@ ghost use Rattle.std.specs.Prelude.{◌≡◌, ◌+◌, ◌<◌, ◌∷◌, leng
 ghost use Rattle.std.specs.List.{list_all};
 ghost use Rattle.std.specs.Str.{bytes_eq};
 ghost use Rattle.irs_base.specs.Lines.{lines_of};
-ghost use Rattle.irs_calendar.specs.EndLines.{end_text, has_no_zero_in_front, is_digit, is_end_line, is_false_end};
+ghost use Rattle.irs_base.specs.Dates.{is_digit};
+ghost use Rattle.irs_calendar.specs.EndLines.{end_line_text, has_no_zero_in_front, is_end_line, is_false_end};
 ghost use Rattle.irs_calendar.specs.EndLines.{is_number, line_seen, seen_from};
 
 use irs_base::{Line, split_line};
@@ -43,7 +44,7 @@ fn is_end_line(line: &[u8]) -> bool
 
 /// The line is the end line that counts that many lines before it.
 fn is_end_behind(line: &[u8], before: u32) -> bool
-    ensures { result ≡ bytes_eq line.now (end_text before) }
+    ensures { result ≡ bytes_eq line.now (end_line_text before) }
 {
     let mut text = Line::new();
     text.push(b"# end ");

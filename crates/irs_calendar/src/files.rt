@@ -2,7 +2,7 @@
 ghost use Rattle.std.specs.Prelude.{◌≤◌, length};
 ghost use Rattle.irs_base.specs.Limits.{most_bytes};
 ghost use Rattle.irs_calendar.specs.Private.Machine.{after_line, at_end};
-ghost use Rattle.irs_calendar.specs.Words.{kind_of};
+ghost use Rattle.irs_calendar.specs.Words.{line_said};
 ghost use Rattle.irs_calendar.specs.Private.Files.{numbered, sections_of, GivesFile};
 
 use crate::end_lines::split_seen;
@@ -23,7 +23,7 @@ pub enum FileErr {
 
 /// Reads one more line.
 fn read_line(alloc: Global, state: State, line: &[u8], number: u32) -> Result<State, FileErr>
-    ensures { GivesFile result (numbered number (after_line state (kind_of line.now))) }
+    ensures { GivesFile result (numbered number (after_line state (line_said line.now))) }
 {
     match step(alloc, state, said(line)) {
         Ok(next) => Ok(next),

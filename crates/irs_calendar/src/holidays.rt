@@ -1,6 +1,6 @@
 //! The holidays of a centre: days that rise strictly.
 ghost use Rattle.std.specs.Prelude.{◌≡◌, ℤ, List, [], ◌∷◌, ◌++◌, OnOk, OnErr, Some, length};
-ghost use Rattle.irs_calendar.specs.Rising.{IsRising};
+ghost use Rattle.irs_calendar.specs.Rising.{RisesByPlace};
 ghost use Rattle.irs_calendar.specs.Private.Rising.{IsAfter, all_before};
 
 use irs_base::{Day, Memory};
@@ -18,7 +18,7 @@ impl Model for Holidays {
 
     ghost view = { λ h. h.days.items };
 
-    ghost invariant = { λ h. IsRising h.days.items };
+    ghost invariant = { λ h. RisesByPlace h.days.items };
 }
 
 impl Holidays {

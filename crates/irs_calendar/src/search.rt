@@ -1,6 +1,6 @@
 //! Binary search in runs.
 ghost use Rattle.std.specs.Prelude.{◌≡◌, ◌+◌, ◌-◌, ◌*◌, ◌^◌, ◌≤◌, length, IsTrue};
-ghost use Rattle.irs_calendar.specs.Private.Splits.{comes_before, IsDownward, Splits};
+ghost use Rattle.irs_calendar.specs.Private.Splits.{begins_or_ends_before, IsDownward, Splits};
 
 use crate::Steps;
 use crate::runs::{Run, Runs};
@@ -18,7 +18,7 @@ pub enum End {
 
 /// The run begins at or before the day, or ends before it.
 pub fn is_before(end: End, run: Run, d: Day) -> bool
-    ensures { result ≡ comes_before end d run }
+    ensures { result ≡ begins_or_ends_before end d run }
 {
     match end {
         End::First => run.first <= d,
@@ -28,8 +28,8 @@ pub fn is_before(end: End, run: Run, d: Day) -> bool
 
 /// How many of the runs come before the day.
 pub fn count_before<L: Ledger>(runs: &Runs, end: End, d: Day, steps: &mut Steps<L>) -> usize
-    requires { IsDownward (comes_before end d) runs.now }
-    ensures place { Splits (comes_before end d) runs.now result }
+    requires { IsDownward (begins_or_ends_before end d) runs.now }
+    ensures place { Splits (begins_or_ends_before end d) runs.now result }
     ensures rises { steps.old ≤ steps.new }
     ensures cost { 2 ^ (steps.new - steps.old) ≤ 2 * length runs.now + 1 }
 {
@@ -50,8 +50,8 @@ pub fn count_before<L: Ledger>(runs: &Runs, end: End, d: Day, steps: &mut Steps<
 // Whether the run before a place comes before the day, and the run at the place doesn't. It reads at most
 // two runs.
 fn is_cut<L: Ledger>(runs: &Runs, end: End, d: Day, place: usize, steps: &mut Steps<L>) -> bool
-    requires { IsDownward (comes_before end d) runs.now }
-    ensures place { IsTrue result → Splits (comes_before end d) runs.now place }
+    requires { IsDownward (begins_or_ends_before end d) runs.now }
+    ensures place { IsTrue result → Splits (begins_or_ends_before end d) runs.now place }
     ensures rises { steps.old ≤ steps.new }
     ensures few { steps.new ≤ steps.old + 2 }
 {
@@ -74,8 +74,8 @@ pub fn count_near<L: Ledger>(
     near: usize,
     steps: &mut Steps<L>,
 ) -> usize
-    requires { IsDownward (comes_before end d) runs.now }
-    ensures place { Splits (comes_before end d) runs.now result }
+    requires { IsDownward (begins_or_ends_before end d) runs.now }
+    ensures place { Splits (begins_or_ends_before end d) runs.now result }
     ensures rises { steps.old ≤ steps.new }
     ensures cost { 2 ^ (steps.new - steps.old) ≤ 32 * length runs.now + 16 }
 {

@@ -7,22 +7,23 @@ ghost use Rattle.std.specs.Prelude.{◌≡◌, ◌<◌, IfSome, true};
 ghost use Rattle.std.specs.List.{list_all};
 ghost use Rattle.irs_base.specs.Fields.{fields};
 ghost use Rattle.irs_calendar.specs.Private.Machine.{said_of};
-ghost use Rattle.irs_calendar.specs.Words.{is_plain, is_center_name, said_center, said_cover, place_of, weekend_of};
-ghost use Rattle.irs_calendar.specs.Words.{no_days, said_holiday, said_by, kind_of};
+ghost use Rattle.irs_calendar.specs.Words.{is_visible, is_center_field, said_center, said_cover, weekday_place};
+ghost use Rattle.irs_calendar.specs.Words.{weekend_of};
+ghost use Rattle.irs_calendar.specs.Words.{no_days, said_holiday, said_by, line_said};
 
 use crate::part::Said;
 use irs_base::{MOST_NAME, date, first_field, is_gap};
 
 /// All bytes are from `!` to `~`.
 fn are_plain(name: &[u8]) -> bool
-    ensures { result ≡ list_all is_plain name.now }
+    ensures { result ≡ list_all is_visible name.now }
 {
     name.iter().all(|b| b'!' <= *b && *b <= b'~')
 }
 
 /// It is the name of a centre: 1 to 32 such bytes, a field having one at least.
 fn is_good_name(name: &[u8]) -> bool
-    ensures { result ≡ is_center_name name.now }
+    ensures { result ≡ is_center_field name.now }
 {
     name.len() <= MOST_NAME && are_plain(name)
 }
@@ -65,7 +66,7 @@ fn cover(rest: &[u8]) -> Said<'_>
 
 /// The place of a weekday in the week, from Monday.
 fn weekday_named(name: &[u8]) -> Option<usize>
-    ensures value { result ≡ place_of name.now }
+    ensures value { result ≡ weekday_place name.now }
     ensures range { IfSome result (λ p. p < 7) }
 {
     if name == b"MON".as_slice() {
@@ -136,7 +137,7 @@ fn by_word<'a>(word: &'a [u8], rest: &'a [u8]) -> Said<'a>
 
 /// What a line says.
 pub fn said(line: &[u8]) -> Said<'_>
-    ensures { said_of result ≡ kind_of line.now }
+    ensures { said_of result ≡ line_said line.now }
 {
     if !line.is_empty() && line[0] == b'#' {
         return Said::Nothing;

@@ -21,11 +21,11 @@ use Rattle.irs_cli.specs.declared.commands.Request.{Request}
 use Rattle.irs_cli.specs.declared.commands.Request.TheVariants.{OverFiles, Bulk}
 use Rattle.irs_cli.specs.declared.commands.Command.{Command}
 use Rattle.irs_cli.specs.declared.commands.Named.{Named}
-use Rattle.irs_cli.specs.Commands.{Words, texts, Wanted, Asked, Asks, AsksAs, AsksAccrue, AsksAverage, AsksBreaks}
+use Rattle.irs_cli.specs.Commands.{Words, word_texts, Wanted, Asked, Asks, AsksAs, AsksAccrue, AsksAverage, AsksBreaks}
 use Rattle.irs_cli.specs.Commands.{AsksBulk, AsksInterpolate, AsksObservations, AsksOvernight, IsRequest, IsListed}
-use Rattle.irs_cli.specs.Commands.{kind_of, params_of, roles_of, calendars_of, role_at, is_file}
+use Rattle.irs_cli.specs.Commands.{command_of, params_of, roles_of, calendars_of, role_at, is_file}
 use Rattle.irs_cli.specs.Private.Commands.{asked_by, wanted_by}
-use Rattle.irs_cli.specs.Commands.{kept, files_from}
+use Rattle.irs_cli.specs.Commands.{kept_file, files_from}
 use Rattle.irs_cli.specs.Private.Commands.{IsCommand, IsCommandAs}
 use Rattle.irs_cli.specs.Private.Due.{IsLawfulRequest}
 use Rattle.irs_cli.specs.Params.{IsCountWord, IsDateWord, IsFromWord, IsMeanWord, IsSideWord, IsStepWord, IsStreamWord}
@@ -39,7 +39,7 @@ ap_some e = ap Some e
 
 -- a word of the command line, by its bytes
 pub word_at : (ns : List (String Global)) (i : ℕ) (x : String Global) → i < length ns → x ≡ get_or ns i x
-    → slice_get (texts ns) i ≡ Some (string_bytes x)
+    → slice_get (word_texts ns) i ≡ Some (string_bytes x)
 word_at ns i x below e =
     slice_get-map (λ w. string_bytes w) ns i
     ∙ ap (λ (o : Option (String Global)). option_map (λ w. string_bytes w) o)
@@ -56,17 +56,17 @@ drop_at ws i w e = let n : suc i ≡ i + 1 = omega arith in drop_suc ws i w e �
 
 -- the words from a place on: the first of them, and the rest
 files_at : (roles : List Role) (place i : ℕ) (w : List ℕ) (ws : Words) → slice_get ws i ≡ Some w
-    → files_from roles place i (drop i ws) ≡ kept (role_at roles i) place w
+    → files_from roles place i (drop i ws) ≡ kept_file (role_at roles i) place w
     ++ files_from roles (place + 1) (i + 1) (drop (i + 1) ws)
 files_at roles place i w ws e = ap (λ (l : Words). files_from roles place i l) (drop_at ws i w e)
 
 -- a word that names a file is kept
 pub kept_yes : (role : Role) (place : ℕ) (w : List ℕ) → is_file role w ≡ true
-    → kept role place w ≡ record { place = place; role = role; name = w } ∷ []
+    → kept_file role place w ≡ record { place = place; role = role; name = w } ∷ []
 kept_yes role place w e = ap (λ (b : Bool). if b then record { place = place; role = role; name = w } ∷ [] else []) e
 
 -- a word that names no file isn't kept
-pub kept_no : (role : Role) (place : ℕ) (w : List ℕ) → is_file role w ≡ false → kept role place w ≡ []
+pub kept_no : (role : Role) (place : ℕ) (w : List ℕ) → is_file role w ≡ false → kept_file role place w ≡ []
 kept_no role place w e = ap (λ (b : Bool). if b then record { place = place; role = role; name = w } ∷ [] else []) e
 
 -- the files so far, with the file of the next word
@@ -77,8 +77,8 @@ pub step_yes : (roles : List Role) (place i : ℕ) (ws : Words) (fs : List Named
 step_yes roles place i ws fs n all at role p is e =
     let w = n.name.now in
     let rest = files_from roles (place + 1) (i + 1) (drop (i + 1) ws) in
-    let one : kept (role_at roles i) place w ≡ wanted_by n ∷ [] =
-    ap (λ (r : Role). kept r place w) (sym role) ∙ kept_yes n.role place w is
+    let one : kept_file (role_at roles i) place w ≡ wanted_by n ∷ [] =
+    ap (λ (r : Role). kept_file r place w) (sym role) ∙ kept_yes n.role place w is
     ∙ ap (λ (q : ℕ). record { place = q; role = n.role; name = w } ∷ []) (sym p) in
     let these : files_from roles place i (drop i ws) ≡ wanted_by n ∷ rest =
     files_at roles place i w ws at ∙ ap (λ (l : List Wanted). l ++ rest) one in
@@ -93,8 +93,8 @@ pub step_no : (roles : List Role) (place i : ℕ) (ws : Words) (w : List ℕ) (f
     → map wanted_by fs ++ files_from roles (place + 1) (i + 1) (drop (i + 1) ws) ≡ all
 step_no roles place i ws w fs r all at role not e =
     let rest = files_from roles (place + 1) (i + 1) (drop (i + 1) ws) in
-    let none : kept (role_at roles i) place w ≡ [] =
-    ap (λ (x : Role). kept x place w) (sym role) ∙ kept_no r place w not in
+    let none : kept_file (role_at roles i) place w ≡ [] =
+    ap (λ (x : Role). kept_file x place w) (sym role) ∙ kept_no r place w not in
     let these : files_from roles place i (drop i ws) ≡ rest =
     files_at roles place i w ws at ∙ ap (λ (l : List Wanted). l ++ rest) none in
     ap (λ (l : List Wanted). map wanted_by fs ++ l) (sym these) ∙ e
@@ -192,7 +192,7 @@ one_as k ws a b h i =
     (one_request k ws a.request b.request h.request i.request)
     ∙ ap (λ (f : List Wanted). asked a.request f) (i.files ∙ sym h.files)
 
-same_kind : (w : List ℕ) (k l : Kind) → kind_of w ≡ Some k → kind_of w ≡ Some l → l ≡ k
+same_kind : (w : List ℕ) (k l : Kind) → command_of w ≡ Some k → command_of w ≡ Some l → l ≡ k
 same_kind w k l h i = same_Some l k (sym i ∙ h)
 
 -- words are one command at most
@@ -213,14 +213,14 @@ pub asks_by : (ws : Words) (o : Option Command) (c : Command) → IsCommand ws (
 asks_by ws o c e is = subst (λ (x : Option Command). IsCommand ws (option_map asked_by x)) is e
 
 -- the command of a name is that of the words
-pub command_by : (w : List ℕ) (ws : Words) (k : Kind) (o : Option Asked) → kind_of w ≡ Some k → IsCommandAs k ws o
+pub command_by : (w : List ℕ) (ws : Words) (k : Kind) (o : Option Asked) → command_of w ≡ Some k → IsCommandAs k ws o
     → IsCommand (w ∷ ws) o
 command_by w ws k None e h = λ l. h l.0 (subst (λ (x : Kind). AsksAs x ws l.0) (same_kind w k l.1.0 e l.1.1) l.1.2)
 command_by w ws k (Some a) e h = (k, e, h)
 
 -- words with an unknown name are no listed command
-pub no_kind : (w : List ℕ) (ws : Words) → kind_of w ≡ None → IsListed (w ∷ ws) → ⊥
-no_kind w ws e l = let i : kind_of w ≡ Some l.1.0 = l.1.1 in cc
+pub no_kind : (w : List ℕ) (ws : Words) → command_of w ≡ None → IsListed (w ∷ ws) → ⊥
+no_kind w ws e l = let i : command_of w ≡ Some l.1.0 = l.1.1 in cc
 
 -- a listed command's kind and words
 pub record Formed (a : Asked) : Type 0 where
@@ -290,7 +290,7 @@ few_from roles place i [] e = omega arith
 few_from roles place i (w ∷ ws) e =
     let rest = files_from roles (place + 1) (i + 1) ws in
     let r = role_at roles i in
-    let here : cals (kept r place w ++ rest) ≤ is_cal r + cals rest = cals_kept r place w (is_file r w) rest in
+    let here : cals (kept_file r place w ++ rest) ≤ is_cal r + cals rest = cals_kept r place w (is_file r w) rest in
     let more : cals rest ≤ length ws - (length roles - (i + 1)) = few_from roles (place + 1) (i + 1) ws e in
     elim (cases_lt i (length roles)) [
       | inl less ↦ let p : is_cal r ≡ 0 = role_plain roles i e less in omega (arith, here, more, p, less)

@@ -16,7 +16,7 @@ use Rattle.irs_cli.specs.declared.fetching.Unfetched.{Unfetched}
 use Rattle.irs_cli.specs.declared.fetching.Unfetched.TheVariants.{NoFile, TooLong, Memory}
 use Rattle.irs_cli.specs.Commands.{Wanted}
 use Rattle.irs_cli.specs.Private.Commands.{wanted_by}
-use Rattle.irs_cli.specs.Given.{Told, Gathers, Reaches, text_as, with_file}
+use Rattle.irs_cli.specs.Given.{Told, Gathers, ReachesFile, text_as, with_file}
 use Rattle.irs_cli.specs.Fetching.{Holds, NotLong, FailedAt}
 use Rattle.irs_cli.specs.Private.Fetching.{OverAt, Stops, StopsOne, FetchesAll}
 use Rattle.irs_cli.proofs.FileLemmas.{gathers_reach, gathers_more}
@@ -80,9 +80,9 @@ wanted_at xs i n less e =
 
 reach_at : (told : Told) (Q : Wanted → Type 0) (xs : List Named) (i : ℕ) (n : Named) (g : Given) → i < length xs
     → n ≡ get_or xs i n → Gathers (Holds told) (map wanted_by (take i xs)) no_files g → Q (wanted_by n)
-    → Reaches (NotLong told) Q (map wanted_by xs)
+    → ReachesFile (NotLong told) Q (map wanted_by xs)
 reach_at told Q xs i n g less e h q =
-    subst (λ (l : List Wanted). Reaches (NotLong told) Q l) (sym (wanted_at xs i n less e))
+    subst (λ (l : List Wanted). ReachesFile (NotLong told) Q l) (sym (wanted_at xs i n less e))
     (gathers_reach (Holds told) (NotLong told) Q (map wanted_by (take i xs)) (map wanted_by (drop (i + 1) xs))
     (wanted_by n) no_files g (held_short told) h q)
 

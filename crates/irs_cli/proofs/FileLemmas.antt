@@ -1,6 +1,6 @@
 -- Lists of wanted files: what is reached among them, and what is gathered from them.
 use Rattle.std.proofs.Common.{◌≡◌, inl, inr, ℕ, ◌+◌, ◌<◌, ◌≤◌, List, [], ◌∷◌, ◌++◌, length, sym, ◌∙◌, ap, subst, arith}
-use Rattle.irs_answers.specs.Given.{Given, IsWithin, most_calendars, no_files, too_many}
+use Rattle.irs_answers.specs.Given.{Given, IsWithinLimits, most_calendars, no_files, too_many}
 use Rattle.irs_cli.specs.Commands.{Wanted}
 use Rattle.std.specs.Prelude.{IfSome, All}
 use Rattle.std.proofs.lemmas.List.{length-append}
@@ -8,12 +8,12 @@ use Rattle.std.proofs.lemmas.List.Elements.{All-nil, All-cons, All-append}
 use Rattle.irs_cli.specs.declared.commands.Role.{Role}
 use Rattle.irs_cli.specs.declared.commands.Role.TheVariants.{Document, Fixings, Flows, Calendar}
 use Rattle.irs_answers.specs.Forms.{SourceText}
-use Rattle.irs_cli.specs.Given.{with_file, text_as, Gathers, Each, Reaches}
+use Rattle.irs_cli.specs.Given.{with_file, text_as, Gathers, Each, ReachesFile}
 use Rattle.irs_cli.proofs.CommandLemmas.{is_cal, cals}
 
 -- two first files of one list are the same, where passing one excludes being the other
 pub reaches_meet : {X : Type 0} (P Q R S : Wanted → Type 0) (ws : List Wanted) → ((w : Wanted) → Q w → S w → X)
-    → ((w : Wanted) → P w → S w → ⊥) → ((w : Wanted) → Q w → R w → ⊥) → Reaches P Q ws → Reaches R S ws → X
+    → ((w : Wanted) → P w → S w → ⊥) → ((w : Wanted) → Q w → R w → ⊥) → ReachesFile P Q ws → ReachesFile R S ws → X
 reaches_meet P Q R S [] both pass stop h k = absurd h
 reaches_meet P Q R S (w ∷ ws) both pass stop (inl q) (inl s) = both w q s
 reaches_meet P Q R S (w ∷ ws) both pass stop (inl q) (inr k) = absurd (stop w q k.0)
@@ -22,14 +22,14 @@ reaches_meet P Q R S (w ∷ ws) both pass stop (inr h) (inr k) = reaches_meet P 
 
 -- a file is reached by weaker conditions, given what holds of each file
 pub reaches_with : (P Q R S E : Wanted → Type 0) (ws : List Wanted) → ((w : Wanted) → E w → P w → R w)
-    → ((w : Wanted) → E w → Q w → S w) → Each E ws → Reaches P Q ws → Reaches R S ws
+    → ((w : Wanted) → E w → Q w → S w) → Each E ws → ReachesFile P Q ws → ReachesFile R S ws
 reaches_with P Q R S E [] p q e h = h
 reaches_with P Q R S E (w ∷ ws) p q e (inl h) = inl (q w e.0 h)
 reaches_with P Q R S E (w ∷ ws) p q e (inr h) = inr (p w e.0 h.0, reaches_with P Q R S E ws p q e.1 h.1)
 
 -- where all files are gathered, no file stops the fetching
 pub gathers_none : (R : List ℕ → List ℕ → Type 0) (P Q : Wanted → Type 0) (ws : List Wanted) (g h : Given)
-    → ((w : Wanted) (bytes : List ℕ) → R w.name bytes → Q w → ⊥) → Gathers R ws g h → Reaches P Q ws → ⊥
+    → ((w : Wanted) (bytes : List ℕ) → R w.name bytes → Q w → ⊥) → Gathers R ws g h → ReachesFile P Q ws → ⊥
 gathers_none R P Q [] g h never k r = r
 gathers_none R P Q (w ∷ ws) g h never k (inl q) = never w k.0 k.1 q
 gathers_none R P Q (w ∷ ws) g h never k (inr r) = gathers_none R P Q ws (with_file g w.role (text_as w.name k.0)) h never k.2 r.1
@@ -60,7 +60,7 @@ gathers_more R (v ∷ ws) w bytes g h k r = (k.0, k.1, gathers_more R ws w bytes
 -- the next file after those that are gathered is reached
 pub gathers_reach : (R : List ℕ → List ℕ → Type 0) (P Q : Wanted
     → Type 0) (ws rest : List Wanted) (w : Wanted) (g h : Given)
-    → ((v : Wanted) (bytes : List ℕ) → R v.name bytes → P v) → Gathers R ws g h → Q w → Reaches P Q (ws ++ w ∷ rest)
+    → ((v : Wanted) (bytes : List ℕ) → R v.name bytes → P v) → Gathers R ws g h → Q w → ReachesFile P Q (ws ++ w ∷ rest)
 gathers_reach R P Q [] rest w g h p k q = inl q
 gathers_reach R P Q (v ∷ ws) rest w g h p k q =
     inr (p v k.0 k.1, gathers_reach R P Q ws rest w (with_file g v.role (text_as v.name k.0)) h p k.2 q)
@@ -107,7 +107,7 @@ gathers_many R (w ∷ ws) g h k = let e = gathers_many R ws (with_file g w.role 
 -- gathered files are within the limits
 pub gathers_within : (R : List ℕ → List ℕ → Type 0) (ws : List Wanted) (h : Given)
     → ((name bytes : List ℕ) → R name bytes → length bytes < too_many) → cals ws ≤ most_calendars
-    → Gathers R ws no_files h → IsWithin h
+    → Gathers R ws no_files h → IsWithinLimits h
 gathers_within R ws h f few k =
     let s = gathers_small R ws no_files h f (record {
       fixings = tt;

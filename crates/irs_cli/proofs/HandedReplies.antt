@@ -4,13 +4,13 @@ use Rattle.std.specs.Prelude.{IfNone, IsErr, IsTrue}
 use Rattle.std.specs.Result.{IsErrAnd}
 use Rattle.irs_answers.specs.declared.notes.NotedReply.{NotedReply}
 use Rattle.irs_cli.specs.declared.refusals.Refusal.{Refusal}
-use Rattle.irs_cli.specs.Private.Outcomes.{IfAnswered, IfRefused}
+use Rattle.irs_cli.specs.Private.Outcomes.{IfRunAnswered, IfRunRefused}
 
 -- an error that becomes an answer
 pub answered_by : (r : Result NotedReply Refusal) (e : Refusal) (P : ℕ → List ℕ → Type 0) → IsErr r → IsErrAnd r (λ x. x ≡ e)
-    → IfRefused e P → IfAnswered r P
+    → IfRunRefused e P → IfRunAnswered r P
 answered_by (Ok x) e P h k p = absurd k
-answered_by (Err x) e P h k p = subst (λ (y : Refusal). IfRefused y P) (sym k) p
+answered_by (Err x) e P h k p = subst (λ (y : Refusal). IfRunRefused y P) (sym k) p
 
 -- a fact also holds where there is no answer
 pub if_none : {X : Type 0} (o : Option X) (P : Type 0) → P → IfNone o P

@@ -4,9 +4,10 @@ use Rattle.std.proofs.Common.{refl, sym, ap, subst, ◌∙◌, arith}
 use Rattle.std.specs.Prelude.{slice_get, unwrap_or, option_map, if◌then◌else◌}
 use Rattle.std.proofs.lemmas.List.{get_or-drop}
 use Rattle.std.proofs.lemmas.Option.{get_or_from_slice_get, unwrap_or-slice_get}
-use Rattle.irs_cli.specs.Commands.{Asked, Asks, AsksAs, Wanted, Words, files_from, is_file, kind_of, params_of, role_at, roles_of}
+use Rattle.irs_cli.specs.Commands.{Asked, Asks, AsksAs, Wanted, Words, files_from, is_file, command_of, params_of}
+use Rattle.irs_cli.specs.Commands.{role_at, roles_of}
 use Rattle.irs_cli.specs.Given.{Each}
-use Rattle.irs_cli.specs.Naming.{IsNamed, IsNamedAs, file_name, first_of, place_in, word_from, word_if}
+use Rattle.irs_cli.specs.Naming.{IsNamed, IsNamedAs, file_name, roles_before, word_place, word_from, word_if}
 use Rattle.irs_cli.specs.declared.commands.Kind.{Kind}
 use Rattle.irs_cli.specs.declared.commands.Kind.TheVariants as kind
 use Rattle.irs_cli.specs.declared.commands.Role.{Role}
@@ -17,7 +18,7 @@ use Rattle.irs_cli.specs.declared.commands.Role.TheVariants.{Document, Fixings, 
 -- the word with this index is the first with its role, or a calendar
 record AtRole (rs : List Role) (j : ℕ) : Type 0 where
   number : ℕ
-  is : j ≡ first_of rs (role_at rs j) + number
+  is : j ≡ roles_before rs (role_at rs j) + number
   which : (number ≡ 0) ⊎ (role_at rs j ≡ Calendar)
 
 at_none : (j : ℕ) → AtRole [] j
@@ -57,16 +58,16 @@ at_role kind.Carrier j = at_one j
 -- ---- the words of a command
 
 -- the word with this index after the parameters has the name that its role gives
-named_at : (w : List ℕ) (ws : Words) (k : Kind) (j : ℕ) (name : List ℕ) → kind_of w ≡ Some k
+named_at : (w : List ℕ) (ws : Words) (k : Kind) (j : ℕ) (name : List ℕ) → command_of w ≡ Some k
     → slice_get (drop (params_of k) ws) j ≡ Some name → IsNamedAs (w ∷ ws) (role_at (roles_of k) j) name
 named_at w ws k j name of at =
     let t = at_role k j in
     let role = role_at (roles_of k) j in
     let m = params_of k in
-    let place : place_in k role + t.number ≡ suc (m + j) = let e = t.is in omega (arith, e) in
-    let first : file_name (w ∷ ws) role t.number ≡ word_from (w ∷ ws) (place_in k role) t.number =
-    ap (λ (o : Option Kind). word_if (w ∷ ws) (option_map (λ k. place_in k role) o) t.number) of in
-    let found : word_from (w ∷ ws) (place_in k role) t.number ≡ name =
+    let place : word_place k role + t.number ≡ suc (m + j) = let e = t.is in omega (arith, e) in
+    let first : file_name (w ∷ ws) role t.number ≡ word_from (w ∷ ws) (word_place k role) t.number =
+    ap (λ (o : Option Kind). word_if (w ∷ ws) (option_map (λ k. word_place k role) o) t.number) of in
+    let found : word_from (w ∷ ws) (word_place k role) t.number ≡ name =
     ap (λ (n : ℕ). unwrap_or (slice_get (w ∷ ws) n) []) place
     ∙ (unwrap_or-slice_get ws (m + j) [] ∙ (sym (get_or-drop m ws j []) ∙ get_or_from_slice_get (drop m ws) j name [] at)) in
     record { number = t.number; is = sym (first ∙ found); which = t.which }
@@ -90,7 +91,7 @@ each_from Q roles (x ∷ xs) place i each =
     let n : i + suc j ≡ i + 1 + j = omega arith in
     subst (λ (m : ℕ). Q (role_at roles m) name) n (each (suc j) name at)))
 
-as_named : (w : List ℕ) (ws : Words) (k : Kind) (a : Asked) → kind_of w ≡ Some k → AsksAs k ws a
+as_named : (w : List ℕ) (ws : Words) (k : Kind) (a : Asked) → command_of w ≡ Some k → AsksAs k ws a
     → Each (IsNamed (w ∷ ws)) a.files
 as_named w ws k a of asks =
     subst (Each (IsNamed (w ∷ ws))) (sym asks.files)

@@ -14,7 +14,7 @@ use Rattle.irs_terms.specs.declared.frequency.Frequency.{Frequency}
 use Rattle.irs_terms.specs.declared.frequency.Unit.{Unit as FrequencyUnit}
 use Rattle.irs_terms.specs.declared.frequency.Unit.TheVariants.{D, W, M, Y, T}
 use Rattle.irs_cli.specs.Params.{At, IsCountWord, IsDateWord, IsFromWord, IsMeanWord, IsSideWord, IsStepWord}
-use Rattle.irs_cli.specs.Params.{IsStreamWord, IsTenorWord, days_of, mean_name, side_name}
+use Rattle.irs_cli.specs.Params.{IsStreamWord, IsTenorWord, days_of_unit, mean_name, side_name}
 use Rattle.irs_cli.proofs.TenorWords.{tenor_read}
 
 -- the word at a place spells one x at most, where every word does
@@ -89,11 +89,11 @@ one_tenor w f g h k = same_Some g f (same_Some (Some g) (Some f) (sym (tenor_rea
 pub one_step : (w : List ℕ) (n m : ℕ) → IsStepWord w n → IsStepWord w m → m ≡ n
 one_step w n m h k =
     let same : k.step ≡ h.step = one_tenor w h.step k.step h.is_tenor k.is_tenor in
-    same_Some m n (sym k.days ∙ ap (λ (f : Frequency). days_of f.unit f.count) same ∙ h.days)
+    same_Some m n (sym k.days ∙ ap (λ (f : Frequency). days_of_unit f.unit f.count) same ∙ h.days)
 
 -- ---- tenors lie in their range
 
-days_few : (u : FrequencyUnit) (count n : ℕ) → 1 ≤ count → count ≤ 999 → days_of u count ≡ Some n
+days_few : (u : FrequencyUnit) (count n : ℕ) → 1 ≤ count → count ≤ 999 → days_of_unit u count ≡ Some n
     → (1 ≤ n) × (n ≤ most_step)
 days_few D count n low high e = let same : count ≡ n = same_Some count n e in
     (omega (arith, low, same), omega (arith, high, same))

@@ -7,13 +7,13 @@ use Rattle.irs_cli.specs.declared.fetching.Unfetched.TheVariants as fetching
 use Rattle.irs_answers.specs.Given.{Given, no_files, too_many}
 use Rattle.irs_answers.specs.Outcomes.{Ends}
 use Rattle.irs_cli.specs.Commands.{Words, Wanted, Asked, Asks, IsListed}
-use Rattle.irs_cli.specs.Given.{Told, Gathers, Reaches, IsTold, IsShort, IsLongAt, IsFirstLong, AreTold}
+use Rattle.irs_cli.specs.Given.{Told, Gathers, ReachesFile, IsTold, IsShortFile, IsLongAt, IsFirstLong, AreTold}
 use Rattle.irs_cli.specs.Fetching.{FailedAt, Gives, Holds, IsGiven, NotLong}
 use Rattle.irs_cli.specs.Private.Fetching.{OverAt, Stops}
 use Rattle.irs_cli.specs.Messages.{bad_words, no_file, too_long}
 use Rattle.irs_cli.specs.Due.{Due, DueOf, no_command, long_file, all_told}
 use Rattle.irs_cli.specs.Outcomes.{of_fetch}
-use Rattle.irs_cli.specs.Private.Outcomes.{IfRefused}
+use Rattle.irs_cli.specs.Private.Outcomes.{IfRunRefused}
 use Rattle.irs_cli.specs.Run.{NoFile, Ran, Replies, Source, source, written}
 use Rattle.irs_cli.proofs.CommandLemmas.{one_command}
 use Rattle.irs_cli.proofs.OneAnswer.{one_answer}
@@ -48,7 +48,7 @@ unlisted_replies ws told gives failed n none =
 -- ---- a file that can't be read
 
 no_file_replies : (ws : Words) (told : Told) (gives : Gives) (a : Asked) (failed : Option (List ℕ)) (before now place : ℕ)
-    → Asks ws a → Reaches (NotLong told) (FailedAt failed place) a.files → Rose before now
+    → Asks ws a → ReachesFile (NotLong told) (FailedAt failed place) a.files → Rose before now
     → Replies ws (source told gives failed before now) 5 (no_file place)
 no_file_replies ws told gives a failed before now place asks h rose =
     let none : NoFile ws (source told gives failed before now) (no_file place) =
@@ -84,7 +84,7 @@ abbrev Tells : Told → Wanted → Type 0
 Tells told w = (bytes : List ℕ) × (told w.name ≡ Some bytes)
 
 long_replies : (ws : Words) (told : Told) (gives : Gives) (a : Asked) (failed : Option (List ℕ)) (before now place : ℕ)
-    → Asks ws a → Reaches (NotLong told) (OverAt told place) a.files → now ≡ before
+    → Asks ws a → ReachesFile (NotLong told) (OverAt told place) a.files → now ≡ before
     → Replies ws (source told gives failed before now) 8 (too_long place)
 long_replies ws told gives a failed before now place asks h quiet =
     let due : Due ws told 8 (too_long place) = record {
@@ -92,7 +92,7 @@ long_replies ws told gives a failed before now place asks h quiet =
       long = λ b q other first.
           let e : b ≡ a = one_command ws a b asks other in
           let same : place ≡ q =
-          reaches_meet (NotLong told) (OverAt told place) (IsShort told) (IsLongAt told q) a.files
+          reaches_meet (NotLong told) (OverAt told place) (IsShortFile told) (IsLongAt told q) a.files
           (λ w over long. sym over.at ∙ long.at) (λ w not long. not_over told place q w not long)
           (λ w over short. over_told told place w short.0 short.1 over) h
           (subst (λ (x : Asked). IsFirstLong told x q) e first) in
@@ -103,7 +103,7 @@ long_replies ws told gives a failed before now place asks h quiet =
           (λ w bytes k over. over_told told place w bytes k over)
           (subst (λ (x : Asked). AreTold told x g) e are) h);
       case = λ tells. long_file a place asks
-          (reaches_with (NotLong told) (OverAt told place) (IsShort told) (IsLongAt told place) (Tells told) a.files
+          (reaches_with (NotLong told) (OverAt told place) (IsShortFile told) (IsLongAt told place) (Tells told) a.files
           (λ w t not. (t.0, (t.1, at_some (told w.name) t.0 (λ xs. length xs < too_many) t.1 not)))
           (λ w t over. record {
             at = over.at;
@@ -130,7 +130,7 @@ long_replies ws told gives a failed before now place asks h quiet =
 -- what a run says where a fetch ended it
 pub stopped_replies : (ws : Words) (told : Told) (gives : Gives) (a : Asked) (failed : Option (List ℕ)) (before now : ℕ)
     (u : Unfetched) → Asks ws a → Stops told a.files failed before now u
-    → IfRefused (of_fetch u) (Replies ws (source told gives failed before now))
+    → IfRunRefused (of_fetch u) (Replies ws (source told gives failed before now))
 stopped_replies ws told gives a failed before now (fetching.NoFile place) asks h =
     no_file_replies ws told gives a failed before now place asks h.0 h.1
 stopped_replies ws told gives a failed before now (fetching.TooLong place) asks h =
@@ -164,7 +164,7 @@ ended_replies ws told gives a g failed before now asks held fetched quiet status
       unlisted = λ unlisted. absurd (unlisted (a, asks));
       long = λ b q other first.
           let e : b ≡ a = one_command ws a b asks other in
-          absurd (gathers_none (Holds told) (IsShort told) (IsLongAt told q) a.files no_files g
+          absurd (gathers_none (Holds told) (IsShortFile told) (IsLongAt told q) a.files no_files g
           (λ w bytes k long. held_long told q w bytes k long) held
           (subst (λ (x : Asked). IsFirstLong told x q) e first));
       given = λ b k other are.

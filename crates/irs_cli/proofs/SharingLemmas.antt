@@ -3,7 +3,7 @@ use Rattle.std.proofs.Common.{◌≡◌, inl, inr, ℕ, ◌≤◌, List, [], ◌
 use Rattle.irs_answers.specs.Given.{Given}
 use Rattle.irs_cli.specs.Commands.{Wanted}
 use Rattle.irs_cli.specs.Private.Commands.{wanted_by}
-use Rattle.irs_cli.specs.Given.{Gathers, Reaches, text_as, with_file}
+use Rattle.irs_cli.specs.Given.{Gathers, ReachesFile, text_as, with_file}
 use Rattle.irs_cli.specs.Sharing.{files_with}
 use Rattle.irs_cli.specs.declared.commands.Named.{Named}
 use Rattle.irs_cli.specs.declared.commands.Role.{Role}
@@ -71,8 +71,8 @@ module _ (R : List ℕ → List ℕ → Type 0) where
   module _ (P Q : Wanted → Type 0) (held : (w : Wanted) (bytes : List ℕ) → R w.name bytes → P w) where
     -- what is reached among a run's own files is reached among all, where the common ones are gathered
     abbrev Reached : List Wanted → Type 0
-    Reached ws = (x y : Given) → Gathers R (files_with false ws) x y → Reaches P Q (files_with true ws)
-        → Reaches P Q ws
+    Reached ws = (x y : Given) → Gathers R (files_with false ws) x y → ReachesFile P Q (files_with true ws)
+        → ReachesFile P Q ws
 
     reach_step : (place : ℕ) (r : Role) (name : List ℕ) (ws : List Wanted) → Reached ws
         → Reached (file place r name ∷ ws)

@@ -7,7 +7,8 @@ use Rattle.std.proofs.lemmas.Bool.{cases_lt}
 use Rattle.std.proofs.lemmas.Bool.Decides.{nat_tests}
 use Rattle.std.proofs.lemmas.Fmt.{decimal_digit, decimal_step}
 use Rattle.std.proofs.lemmas.Option.{same_Some}
-use Rattle.irs_resets.specs.Tenors.{digit_at, first_digit, tenor_at, tens, two_digits, hundreds, three_digits, unit_at}
+use Rattle.irs_resets.specs.Tenors.{digit_at, first_digit, tenor_at, tens, two_digit_number, hundreds, three_digits}
+use Rattle.irs_resets.specs.Tenors.{unit_of_letter}
 use Rattle.irs_resets.specs.Tenors.{with_unit}
 use Rattle.irs_terms.specs.declared.frequency.Frequency.{Frequency}
 use Rattle.irs_terms.specs.declared.frequency.Unit.{Unit as FrequencyUnit}
@@ -166,7 +167,7 @@ letter_if false false false true b x e f g h is =
     subst (IsLetter b) (same_Some Y x is) (record { is = ap (λ c. c ∷ []) (equal b 89 h); not_term = λ p. cc })
 letter_if false false false false b x e f g h is = cc
 
-letter_is : (b : ℕ) (x : FrequencyUnit) → unit_at b ≡ Some x → IsLetter b x
+letter_is : (b : ℕ) (x : FrequencyUnit) → unit_of_letter b ≡ Some x → IsLetter b x
 letter_is b x e = letter_if (b == 68) (b == 87) (b == 77) (b == 89) b x refl refl refl refl e
 
 -- ---- tenors
@@ -195,14 +196,14 @@ pub tenor_word : (w : List ℕ) (f : Frequency) → tenor_at w ≡ Some (Some f)
 tenor_word [] f e = cc
 tenor_word (a ∷ []) f e = absurd (dash_none (a == 45) f e)
 tenor_word (a ∷ u ∷ []) f e =
-    number_and_letter (first_digit a) (a ∷ []) u f (one_number a) (unit_at u) (letter_is u) e
+    number_and_letter (first_digit a) (a ∷ []) u f (one_number a) (unit_of_letter u) (letter_is u) e
 tenor_word (a ∷ b ∷ u ∷ []) f e =
-    number_and_letter (two_digits a b) (a ∷ b ∷ []) u f
-    (λ n. tens_number (first_digit a) (digit_at b) a b n (first_is a) (digit_is b)) (unit_at u) (letter_is u) e
+    number_and_letter (two_digit_number a b) (a ∷ b ∷ []) u f
+    (λ n. tens_number (first_digit a) (digit_at b) a b n (first_is a) (digit_is b)) (unit_of_letter u) (letter_is u) e
 tenor_word (a ∷ b ∷ c ∷ u ∷ []) f e =
     number_and_letter (three_digits a b c) (a ∷ b ∷ c ∷ []) u f
     (λ n. hundreds_number (first_digit a) (digit_at b) (digit_at c) a b c n (first_is a) (digit_is b) (digit_is c))
-    (unit_at u) (letter_is u) e
+    (unit_of_letter u) (letter_is u) e
 tenor_word (a ∷ b ∷ c ∷ d ∷ g ∷ rest) f e = cc
 
 -- what is a tenor is read as one

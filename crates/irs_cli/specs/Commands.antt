@@ -23,8 +23,8 @@ abbrev pub Words : Type 0
 Words = List (List ℕ)
 
 -- the words of the code, by their bytes
-abbrev pub texts : List (String Global) → Words
-texts ws = map string_bytes ws
+abbrev pub word_texts : List (String Global) → Words
+word_texts ws = map string_bytes ws
 
 -- a file that is wanted: the place of its word after the command, from 1, its role and its name
 pub record Wanted : Type 0 where
@@ -40,8 +40,8 @@ pub record Asked : Type 0 where
 -- ---- the table: a command's name, its number of parameters, the roles of its files, and its most calendars
 
 -- the command of a name
-abbrev pub kind_of : List ℕ → Option Kind
-kind_of w =
+abbrev pub command_of : List ℕ → Option Kind
+command_of w =
     if bytes_eq w (codes "check") then Some kind.Check else
     if bytes_eq w (codes "schedule") then Some kind.Schedule else
     if bytes_eq w (codes "audit") then Some kind.Audit else
@@ -122,17 +122,17 @@ is_file Flows w = true
 is_file Calendar w = true
 
 -- the file that a word at this place names, if it names one
-abbrev pub kept : Role → ℕ → List ℕ → List Wanted
-kept role place w = if is_file role w then record { place = place; role = role; name = w } ∷ [] else []
+abbrev pub kept_file : Role → ℕ → List ℕ → List Wanted
+kept_file role place w = if is_file role w then record { place = place; role = role; name = w } ∷ [] else []
 
 -- the files that these words name; the first of them has this place and this index
 abbrev pub files_from : List Role → ℕ → ℕ → Words → List Wanted
 files_from roles place i [] = []
-files_from roles place i (w ∷ ws) = kept (role_at roles i) place w ++ files_from roles (place + 1) (i + 1) ws
+files_from roles place i (w ∷ ws) = kept_file (role_at roles i) place w ++ files_from roles (place + 1) (i + 1) ws
 
 -- a command of this kind may have n words after its name
-abbrev pub counts : Kind → ℕ → Bool
-counts k n =
+abbrev pub may_have_words : Kind → ℕ → Bool
+may_have_words k n =
     nat_le (params_of k + length (roles_of k)) n && nat_le n (params_of k + length (roles_of k) + calendars_of k)
 
 -- `accrue` with its date
@@ -213,14 +213,14 @@ IsRequest kind.Carrier ws r = AsksCarrier ws r
 
 -- the words after the name of a command of this kind are those of a
 pub record AsksAs (k : Kind) (ws : Words) (a : Asked) : Type 0 where
-  pub fits : counts k (length ws) ≡ true
+  pub fits : may_have_words k (length ws) ≡ true
   pub request : IsRequest k ws a.request
   pub files : a.files ≡ files_from (roles_of k) (params_of k + 1) 0 (drop (params_of k) ws)
 
 -- the words are this command
 abbrev pub Asks : Words → Asked → Type 0
 Asks [] a = ⊥
-Asks (w ∷ ws) a = (k : Kind) × (kind_of w ≡ Some k) × AsksAs k ws a
+Asks (w ∷ ws) a = (k : Kind) × (command_of w ≡ Some k) × AsksAs k ws a
 
 -- the words are a listed command
 abbrev pub IsListed : Words → Type 0

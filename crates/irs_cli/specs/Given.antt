@@ -35,9 +35,9 @@ Each P [] = Unit {0}
 Each P (w ∷ ws) = P w × Each P ws
 
 -- Q holds of some file, and P of each before it
-abbrev pub Reaches : (P Q : Wanted → Type 0) → List Wanted → Type 0
-Reaches P Q [] = ⊥
-Reaches P Q (w ∷ ws) = Q w ⊎ (P w × Reaches P Q ws)
+abbrev pub ReachesFile : (P Q : Wanted → Type 0) → List Wanted → Type 0
+ReachesFile P Q [] = ⊥
+ReachesFile P Q (w ∷ ws) = Q w ⊎ (P w × ReachesFile P Q ws)
 
 -- the source states these bytes of the name, and they aren't too many
 abbrev pub IsTold : Told → List ℕ → List ℕ → Type 0
@@ -52,8 +52,8 @@ abbrev pub TellsAll : Words → Told → Type 0
 TellsAll ws told = (a : Asked) → Asks ws a → Each (λ w. (bytes : List ℕ) × (told w.name ≡ Some bytes)) a.files
 
 -- the source states the file, and it isn't too long
-abbrev pub IsShort : Told → Wanted → Type 0
-IsShort told w = (bytes : List ℕ) × IsTold told w.name bytes
+abbrev pub IsShortFile : Told → Wanted → Type 0
+IsShortFile told w = (bytes : List ℕ) × IsTold told w.name bytes
 
 -- the file has this place, the source states it, and it is too long
 pub record IsLongAt (told : Told) (place : ℕ) (w : Wanted) : Type 0 where
@@ -64,4 +64,4 @@ pub record IsLongAt (told : Told) (place : ℕ) (w : Wanted) : Type 0 where
 
 -- the file at this place is too long, and no file before it is; the source states them all
 abbrev pub IsFirstLong : Told → Asked → ℕ → Type 0
-IsFirstLong told a place = Reaches (IsShort told) (IsLongAt told place) a.files
+IsFirstLong told a place = ReachesFile (IsShortFile told) (IsLongAt told place) a.files

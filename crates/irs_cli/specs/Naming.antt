@@ -1,7 +1,7 @@
 -- The names of the files of a command, by their roles in the table of commands.
 use Rattle.std.specs.Prelude.{◌≡◌, ◌⊎◌, ℕ, ◌+◌, ◌==◌, Bool, List, [], ◌∷◌, Option, Some, None, option_map, slice_get, unwrap_or}
 use Rattle.std.specs.Prelude.{if◌then◌else◌}
-use Rattle.irs_cli.specs.Commands.{Wanted, Words, kind_of, params_of, roles_of}
+use Rattle.irs_cli.specs.Commands.{Wanted, Words, command_of, params_of, roles_of}
 use Rattle.irs_cli.specs.declared.commands.Kind.{Kind}
 use Rattle.irs_cli.specs.declared.commands.Role.{Role}
 use Rattle.irs_cli.specs.declared.commands.Role.TheVariants.{Document, Fixings, Flows, Calendar}
@@ -14,22 +14,22 @@ role_number Flows = 2
 role_number Calendar = 3
 
 -- two roles are the same
-abbrev pub is_same : Role → Role → Bool
-is_same role other = role_number role == role_number other
+abbrev pub is_same_role : Role → Role → Bool
+is_same_role role other = role_number role == role_number other
 
 -- how many roles come before the first that is this one; all of them where none is, as for calendars
-abbrev pub first_of : List Role → Role → ℕ
-first_of [] role = 0
-first_of (r ∷ rs) role = if is_same r role then 0 else first_of rs role + 1
+abbrev pub roles_before : List Role → Role → ℕ
+roles_before [] role = 0
+roles_before (r ∷ rs) role = if is_same_role r role then 0 else roles_before rs role + 1
 
 -- the place of the first word that names a file with the role, where the command has place 0
-abbrev pub place_in : Kind → Role → ℕ
-place_in k role = params_of k + 1 + first_of (roles_of k) role
+abbrev pub word_place : Kind → Role → ℕ
+word_place k role = params_of k + 1 + roles_before (roles_of k) role
 
 -- the same by the first word; none where it is no command
 abbrev pub first_place : Words → Role → Option ℕ
 first_place [] role = None
-first_place (w ∷ ws) role = option_map (λ k. place_in k role) (kind_of w)
+first_place (w ∷ ws) role = option_map (λ k. word_place k role) (command_of w)
 
 -- the word this number of words after a place; empty past the last one
 abbrev pub word_from : Words → ℕ → ℕ → List ℕ

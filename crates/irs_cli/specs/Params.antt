@@ -74,15 +74,15 @@ pub record IsTenorWord (w : List ℕ) (f : Frequency) : Type 0 where
   pub is : w ≡ tenor_text (Some f)
 
 -- a number of days or weeks, in days; the other units have no number of days
-abbrev pub days_of : FrequencyUnit → ℕ → Option ℕ
-days_of D count = Some count
-days_of W count = Some (7 * count)
-days_of M count = None
-days_of Y count = None
-days_of T count = None
+abbrev pub days_of_unit : FrequencyUnit → ℕ → Option ℕ
+days_of_unit D count = Some count
+days_of_unit W count = Some (7 * count)
+days_of_unit M count = None
+days_of_unit Y count = None
+days_of_unit T count = None
 
 -- 1 to 999 days or weeks, in days
 pub record IsStepWord (w : List ℕ) (n : ℕ) : Type 0 where
   pub step : Frequency
   pub is_tenor : IsTenorWord w step
-  pub days : days_of step.unit step.count ≡ Some n
+  pub days : days_of_unit step.unit step.count ≡ Some n

@@ -3,7 +3,7 @@ use Rattle.std.specs.Prelude.{◌≡◌, ◌≢◌, ◌⊎◌, ℕ, ◌<◌, Lis
 use Rattle.irs_answers.specs.Given.{Given, no_files}
 use Rattle.irs_outside.specs.Outside.{Grew, GrewByFront, Rose}
 use Rattle.irs_cli.specs.Commands.{Words, Asked, Asks, IsListed}
-use Rattle.irs_cli.specs.Given.{Gathers, Reaches, TellsAll, Told}
+use Rattle.irs_cli.specs.Given.{Gathers, ReachesFile, TellsAll, Told}
 use Rattle.irs_cli.specs.Fetching.{FailedAt, Gives, IsGiven, NotLong}
 use Rattle.irs_cli.specs.Messages.{no_file}
 use Rattle.irs_cli.specs.Due.{Due, DueOf, IsOneAnswer}
@@ -38,7 +38,7 @@ pub record NoFile (ws : Words) (files : Source) (text : List ℕ) : Type 0 where
   pub asked : Asked
   pub asks : Asks ws asked
   pub place : ℕ
-  pub file : Reaches (NotLong files.told) (FailedAt files.failed place) asked.files
+  pub file : ReachesFile (NotLong files.told) (FailedAt files.failed place) asked.files
   pub rose : Rose files.before files.after
   pub is_text : text ≡ no_file place
 

@@ -1,7 +1,7 @@
 -- The files that runs of the same words have in common, and those that are each run's own.
 use Rattle.std.specs.Prelude.{Bool, false, not, List, [], ◌∷◌, if◌then◌else◌}
 use Rattle.irs_answers.specs.Common.{AreRead}
-use Rattle.irs_answers.specs.Given.{given_by, no_files}
+use Rattle.irs_answers.specs.Given.{files_given_by, no_files}
 use Rattle.irs_answers.specs.declared.common.Common.{Common}
 use Rattle.irs_cli.specs.Commands.{Asked, Asks, Wanted, Words}
 use Rattle.irs_cli.specs.Fetching.{Gives, Holds, IsGiven}
@@ -25,6 +25,6 @@ files_with own (w ∷ ws) = if belongs own w.role then w ∷ files_with own ws e
 pub record IsCommon (ws : Words) (told : Told) (gives : Gives) (c : Common) : Type 0 where
   pub asked : Asked
   pub asks : Asks ws asked
-  pub held : Gathers (Holds told) (files_with false asked.files) no_files (given_by c.files)
-  pub given : Gathers (IsGiven gives) (files_with false asked.files) no_files (given_by c.files)
+  pub held : Gathers (Holds told) (files_with false asked.files) no_files (files_given_by c.files)
+  pub given : Gathers (IsGiven gives) (files_with false asked.files) no_files (files_given_by c.files)
   pub read : AreRead c

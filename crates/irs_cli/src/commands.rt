@@ -21,7 +21,9 @@
 //! A command is data: the number of its parameters, and the roles of its files in the order of the
 //! words. To these comes the most calendars that may follow.
 ghost use Rattle.std.specs.Prelude.{◌≡◌, ◌≤◌, ◌+◌, map, length, option_map, IfOk, IfSome, IfNone};
-ghost use Rattle.irs_cli.specs.Commands.{texts, kind_of, params_of, roles_of, calendars_of, counts, role_at, is_file};
+ghost use Rattle.irs_cli.specs.Commands.{word_texts, command_of, params_of, roles_of, calendars_of, may_have_words};
+ghost use Rattle.irs_cli.specs.Commands.{role_at};
+ghost use Rattle.irs_cli.specs.Commands.{is_file};
 ghost use Rattle.irs_cli.specs.Commands.{IsRequest, files_from};
 ghost use Rattle.irs_cli.specs.Private.Commands.{IsCommand, IsCommandAs, asked_by, wanted_by, most_words};
 
@@ -112,7 +114,7 @@ pub(crate) struct Command<'w> {
 
 /// The command that a word names.
 pub(crate) fn kind_of(word: &str) -> Option<Kind>
-    ensures { result ≡ kind_of word.now }
+    ensures { result ≡ command_of word.now }
 {
     if word == "check" {
         Some(Kind::Check)
@@ -217,7 +219,7 @@ impl Kind {
 
 /// The command that the words are, `None` exactly where they are no listed one.
 pub(crate) fn command_of(alloc: Global, words: &[String]) -> Result<Option<Command<'_>>, Memory>
-    ensures { IfOk result (λ o. IsCommand (texts words.now) (option_map asked_by o)) }
+    ensures { IfOk result (λ o. IsCommand (word_texts words.now) (option_map asked_by o)) }
 {
     let Some((word, others)) = words.split_first() else {
         return Ok(None);
@@ -234,7 +236,7 @@ fn command_as<'w>(
     kind: Kind,
     words: &'w [String],
 ) -> Result<Option<Command<'w>>, Memory>
-    ensures { IfOk result (λ o. IsCommandAs kind (texts words.now) (option_map asked_by o)) }
+    ensures { IfOk result (λ o. IsCommandAs kind (word_texts words.now) (option_map asked_by o)) }
 {
     if !counts(kind, words.len()) {
         return Ok(None);
@@ -248,7 +250,7 @@ fn command_as<'w>(
 
 /// Whether a command may have this number of words after its name.
 fn counts(kind: Kind, words: usize) -> bool
-    ensures { result ≡ counts kind words }
+    ensures { result ≡ may_have_words kind words }
 {
     let least = kind.params() + kind.roles().len();
     least <= words && words <= least + kind.calendars()
@@ -256,8 +258,8 @@ fn counts(kind: Kind, words: usize) -> bool
 
 /// What a command asks for by the words after its name.
 fn request_of(kind: Kind, words: &[String]) -> Option<Request>
-    ensures some { IfSome result (λ r. IsRequest kind (texts words.now) r) }
-    ensures none { IfNone result ((r : RequestSpec) → IsRequest kind (texts words.now) r → ⊥) }
+    ensures some { IfSome result (λ r. IsRequest kind (word_texts words.now) r) }
+    ensures none { IfNone result ((r : RequestSpec) → IsRequest kind (word_texts words.now) r → ⊥) }
 {
     match kind {
         Kind::Check => Some(Request::OverFiles(Task::Check)),
@@ -281,7 +283,7 @@ fn request_of(kind: Kind, words: &[String]) -> Option<Request>
 fn files_of<'w>(alloc: Global, kind: Kind, words: &'w [String]) -> Result<Vec<Named<'w>>, Memory>
     requires { length words.now ≤ most_words }
     ensures { IfOk result (λ v. map wanted_by v.items
-        ≡ files_from (roles_of kind) (params_of kind + 1) 0 (texts words.now)) }
+        ≡ files_from (roles_of kind) (params_of kind + 1) 0 (word_texts words.now)) }
 {
     let roles = kind.roles();
     let mut files = Vec::new(alloc);

@@ -2,7 +2,7 @@
 ghost use Rattle.std.specs.Prelude.{◌≡◌, ℕ, List, map, IfOk, OnOk};
 ghost use Rattle.irs_cli.specs.Private.Commands.{wanted_by};
 ghost use Rattle.irs_answers.specs.Forms.{source_by};
-ghost use Rattle.irs_answers.specs.Given.{given_by};
+ghost use Rattle.irs_answers.specs.Given.{files_given_by};
 ghost use Rattle.irs_cli.specs.Given.{with_file};
 ghost use Rattle.irs_cli.specs.Fetching.{IsGiven};
 ghost use Rattle.irs_cli.specs.Private.Fetching.{AreGiven, FetchesOne, FetchesAll};
@@ -39,7 +39,7 @@ impl From<Memory> for Unfetched {
 
 /// Takes the text of a file by its role; the form counts for the document and for the flows alone.
 fn put_file(files: &mut TaskFiles, role: Role, text: Source) -> Result<(), Memory>
-    ensures { OnOk result (given_by files.new ≡ with_file (given_by files.old) role (source_by text)) }
+    ensures { OnOk result (files_given_by files.new ≡ with_file (files_given_by files.old) role (source_by text)) }
 {
     match role {
         Role::Document => files.document = text,

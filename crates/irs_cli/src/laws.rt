@@ -1,5 +1,5 @@
 //! A law: a run in which no read and no write fails is complete.
-ghost use Rattle.irs_cli.specs.Commands.{texts};
+ghost use Rattle.irs_cli.specs.Commands.{word_texts};
 ghost use Rattle.irs_cli.specs.Run.{IsComplete, IsFaultless, Ran, source, written};
 
 use crate::{Files, Sink};
@@ -19,5 +19,5 @@ pub fn a_run_without_faults_is_complete<F: Files, S: Sink>(
     ensures { let told = source (F.told files.now) (F.gives files.now) (F.failed files_after.now) (F.faults files.now)
         (F.faults files_after.now) in
         let grew = written (S.written out.now) (S.written out_after.now) (S.faults out.now) (S.faults out_after.now) in
-        Ran (texts words.now) told grew status → IsFaultless told grew → IsComplete (texts words.now) told grew status }
+        Ran (word_texts words.now) told grew status → IsFaultless told grew → IsComplete (word_texts words.now) told grew status }
 {}

@@ -1,17 +1,19 @@
 //! The names of the files of a command, for the sentences: by the role of a file, from the table of commands.
 ghost use Rattle.std.specs.Prelude.{◌≡◌, ◌≤◌, length, IfSome};
-ghost use Rattle.irs_cli.specs.Commands.{Asked, Asks, Words, texts};
+ghost use Rattle.irs_cli.specs.Commands.{Asked, Asks, Words, word_texts};
 ghost use Rattle.irs_cli.specs.Given.{Each};
 ghost use Rattle.irs_cli.specs.Naming.{IsNamed};
-ghost use Rattle.irs_cli.specs.Naming.{file_name as file_name_of, first_of as first_of_roles, first_place as first_place_of};
-ghost use Rattle.irs_cli.specs.Naming.{is_same as is_same_role, place_in as place_in_table, role_number, word_from as word_from_of};
+ghost use Rattle.irs_cli.specs.Naming.{file_name as file_name_of, roles_before as first_of_roles};
+ghost use Rattle.irs_cli.specs.Naming.{first_place as first_place_of};
+ghost use Rattle.irs_cli.specs.Naming.{is_same_role, word_place as place_in_table, role_number};
+ghost use Rattle.irs_cli.specs.Naming.{word_from as word_from_of};
 
 use crate::commands::{Kind, Role, kind_of};
 
 /// The name of a file: the word that names the file with this role or, of several with it, that with this number,
 /// from 0. It is empty where the words name no such file.
 pub fn file_name(words: &[String], role: Role, number: u32) -> &[u8]
-    ensures { result.now ≡ file_name_of (texts words.now) role number }
+    ensures { result.now ≡ file_name_of (word_texts words.now) role number }
 {
     match first_place(words, role) {
         Some(place) => word_from(words, place, number),
@@ -28,7 +30,7 @@ pub fn files_are_named()
 // The word this number of words after the place, where the command has place 0; empty past the last one.
 fn word_from(words: &[String], place: usize, number: u32) -> &[u8]
     requires { place ≤ 65_535 }
-    ensures { result.now ≡ word_from_of (texts words.now) place number }
+    ensures { result.now ≡ word_from_of (word_texts words.now) place number }
 {
     match words.get(place + number as usize) {
         Some(word) => word.as_bytes(),
@@ -39,7 +41,7 @@ fn word_from(words: &[String], place: usize, number: u32) -> &[u8]
 // The place of the first word that names a file with the role, where the command has place 0. `None` comes where
 // the first word is no command.
 fn first_place(words: &[String], role: Role) -> Option<usize>
-    ensures value { result ≡ first_place_of (texts words.now) role }
+    ensures value { result ≡ first_place_of (word_texts words.now) role }
     ensures small { IfSome result (λ place. place ≤ 65_535) }
 {
     let Some((word, _)) = words.split_first() else {

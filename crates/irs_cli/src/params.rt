@@ -1,8 +1,8 @@
 //! What the words of a command ask for: its parameters, and the name that `carrier` takes.
 ghost use Rattle.std.specs.Prelude.{◌≡◌, ◌↔◌, ℕ, ℤ, Option, Some, IfSome, IfNone, IsTrue};
-ghost use Rattle.irs_cli.specs.Commands.{texts, IsRequest};
+ghost use Rattle.irs_cli.specs.Commands.{word_texts, IsRequest};
 ghost use Rattle.irs_cli.specs.Params.{At, IsCountWord, IsDateWord, IsFromWord, IsMeanWord, IsSideWord, IsStepWord};
-ghost use Rattle.irs_cli.specs.Params.{IsStreamWord, IsTenorWord, days_of, form_of};
+ghost use Rattle.irs_cli.specs.Params.{IsStreamWord, IsTenorWord, days_of_unit, form_of};
 ghost use Rattle.irs_cli.specs.declared.commands.Kind.TheVariants as kind;
 ghost use Rattle.irs_cli.specs.declared.commands.Request.{Request as RequestSpec};
 ghost use Rattle.irs_average.specs.declared.means.Mean.{Mean as MeanSpec};
@@ -19,8 +19,8 @@ use irs_terms::{Frequency, Unit};
 
 /// `accrue DATE` by its parameter.
 pub(crate) fn accrue_of(words: &[String]) -> Option<Request>
-    ensures some { IfSome result (λ r. IsRequest kind.Accrue (texts words.now) r) }
-    ensures none { IfNone result ((r : RequestSpec) → IsRequest kind.Accrue (texts words.now) r → ⊥) }
+    ensures some { IfSome result (λ r. IsRequest kind.Accrue (word_texts words.now) r) }
+    ensures none { IfNone result ((r : RequestSpec) → IsRequest kind.Accrue (word_texts words.now) r → ⊥) }
 {
     match date_at(words, 0) {
         Some(date) => Some(Request::OverFiles(Task::Accrue(date))),
@@ -30,8 +30,8 @@ pub(crate) fn accrue_of(words: &[String]) -> Option<Request>
 
 /// `breaks FROM` by its parameter.
 pub(crate) fn breaks_of(words: &[String]) -> Option<Request>
-    ensures some { IfSome result (λ r. IsRequest kind.Breaks (texts words.now) r) }
-    ensures none { IfNone result ((r : RequestSpec) → IsRequest kind.Breaks (texts words.now) r → ⊥) }
+    ensures some { IfSome result (λ r. IsRequest kind.Breaks (word_texts words.now) r) }
+    ensures none { IfNone result ((r : RequestSpec) → IsRequest kind.Breaks (word_texts words.now) r → ⊥) }
 {
     match from_at(words, 0) {
         Some(from) => Some(Request::OverFiles(Task::Breaks(from))),
@@ -41,8 +41,8 @@ pub(crate) fn breaks_of(words: &[String]) -> Option<Request>
 
 /// `bulk N` by its parameter.
 pub(crate) fn bulk_of(words: &[String]) -> Option<Request>
-    ensures some { IfSome result (λ r. IsRequest kind.Bulk (texts words.now) r) }
-    ensures none { IfNone result ((r : RequestSpec) → IsRequest kind.Bulk (texts words.now) r → ⊥) }
+    ensures some { IfSome result (λ r. IsRequest kind.Bulk (word_texts words.now) r) }
+    ensures none { IfNone result ((r : RequestSpec) → IsRequest kind.Bulk (word_texts words.now) r → ⊥) }
 {
     match count_at(words, 0) {
         Some(count) => Some(Request::Bulk(count)),
@@ -52,8 +52,8 @@ pub(crate) fn bulk_of(words: &[String]) -> Option<Request>
 
 /// `observations STREAM` by its parameter.
 pub(crate) fn observations_of(words: &[String]) -> Option<Request>
-    ensures some { IfSome result (λ r. IsRequest kind.Observations (texts words.now) r) }
-    ensures none { IfNone result ((r : RequestSpec) → IsRequest kind.Observations (texts words.now) r → ⊥) }
+    ensures some { IfSome result (λ r. IsRequest kind.Observations (word_texts words.now) r) }
+    ensures none { IfNone result ((r : RequestSpec) → IsRequest kind.Observations (word_texts words.now) r → ⊥) }
 {
     match stream_at(words, 0) {
         Some(stream) => Some(Request::OverFiles(Task::Observations(stream))),
@@ -63,8 +63,8 @@ pub(crate) fn observations_of(words: &[String]) -> Option<Request>
 
 /// `overnight STREAM` by its parameter.
 pub(crate) fn overnight_of(words: &[String]) -> Option<Request>
-    ensures some { IfSome result (λ r. IsRequest kind.Overnight (texts words.now) r) }
-    ensures none { IfNone result ((r : RequestSpec) → IsRequest kind.Overnight (texts words.now) r → ⊥) }
+    ensures some { IfSome result (λ r. IsRequest kind.Overnight (word_texts words.now) r) }
+    ensures none { IfNone result ((r : RequestSpec) → IsRequest kind.Overnight (word_texts words.now) r → ⊥) }
 {
     match stream_at(words, 0) {
         Some(stream) => Some(Request::OverFiles(Task::Overnight(stream))),
@@ -74,8 +74,8 @@ pub(crate) fn overnight_of(words: &[String]) -> Option<Request>
 
 /// `average STREAM KIND STEP` by its parameters.
 pub(crate) fn average_of(words: &[String]) -> Option<Request>
-    ensures some { IfSome result (λ r. IsRequest kind.Average (texts words.now) r) }
-    ensures none { IfNone result ((r : RequestSpec) → IsRequest kind.Average (texts words.now) r → ⊥) }
+    ensures some { IfSome result (λ r. IsRequest kind.Average (word_texts words.now) r) }
+    ensures none { IfNone result ((r : RequestSpec) → IsRequest kind.Average (word_texts words.now) r → ⊥) }
 {
     let stream = stream_at(words, 0)?;
     let mean = mean_at(words, 1)?;
@@ -85,8 +85,8 @@ pub(crate) fn average_of(words: &[String]) -> Option<Request>
 
 /// `interpolate STREAM SIDE LOW HIGH` by its parameters.
 pub(crate) fn interpolate_of(words: &[String]) -> Option<Request>
-    ensures some { IfSome result (λ r. IsRequest kind.Interpolate (texts words.now) r) }
-    ensures none { IfNone result ((r : RequestSpec) → IsRequest kind.Interpolate (texts words.now) r → ⊥) }
+    ensures some { IfSome result (λ r. IsRequest kind.Interpolate (word_texts words.now) r) }
+    ensures none { IfNone result ((r : RequestSpec) → IsRequest kind.Interpolate (word_texts words.now) r → ⊥) }
 {
     let stream = stream_at(words, 0)?;
     let side = side_at(words, 1)?;
@@ -102,8 +102,8 @@ pub(crate) fn interpolate_of(words: &[String]) -> Option<Request>
 
 /// `carrier DOC` by the name of its file, which ends in `.xml`.
 pub(crate) fn carrier_of(words: &[String]) -> Option<Request>
-    ensures some { IfSome result (λ r. IsRequest kind.Carrier (texts words.now) r) }
-    ensures none { IfNone result ((r : RequestSpec) → IsRequest kind.Carrier (texts words.now) r → ⊥) }
+    ensures some { IfSome result (λ r. IsRequest kind.Carrier (word_texts words.now) r) }
+    ensures none { IfNone result ((r : RequestSpec) → IsRequest kind.Carrier (word_texts words.now) r → ⊥) }
 {
     let name = words.first()?;
     match form_of(name.as_str()) {
@@ -126,8 +126,8 @@ pub(crate) fn form_of(name: &str) -> Form
 
 // The day that the word with this index is a date of.
 fn date_at(words: &[String], index: usize) -> Option<Day>
-    ensures some { IfSome result (λ d. At IsDateWord (texts words.now) index d) }
-    ensures none { IfNone result ((d : ℤ) → At IsDateWord (texts words.now) index d → ⊥) }
+    ensures some { IfSome result (λ d. At IsDateWord (word_texts words.now) index d) }
+    ensures none { IfNone result ((d : ℤ) → At IsDateWord (word_texts words.now) index d → ⊥) }
 {
     let word = words.get(index)?;
     date_of(word.as_str())
@@ -135,8 +135,8 @@ fn date_at(words: &[String], index: usize) -> Option<Day>
 
 // The first day that the word with this index asks for.
 fn from_at(words: &[String], index: usize) -> Option<Option<Day>>
-    ensures some { IfSome result (λ f. At IsFromWord (texts words.now) index f) }
-    ensures none { IfNone result ((f : Option ℤ) → At IsFromWord (texts words.now) index f → ⊥) }
+    ensures some { IfSome result (λ f. At IsFromWord (word_texts words.now) index f) }
+    ensures none { IfNone result ((f : Option ℤ) → At IsFromWord (word_texts words.now) index f → ⊥) }
 {
     let word = words.get(index)?;
     from_of(word.as_str())
@@ -170,8 +170,8 @@ fn date_of(word: &str) -> Option<Day>
 
 // The number of documents that the word with this index is.
 fn count_at(words: &[String], index: usize) -> Option<u32>
-    ensures some { IfSome result (λ n. At IsCountWord (texts words.now) index n) }
-    ensures none { IfNone result ((n : ℕ) → At IsCountWord (texts words.now) index n → ⊥) }
+    ensures some { IfSome result (λ n. At IsCountWord (word_texts words.now) index n) }
+    ensures none { IfNone result ((n : ℕ) → At IsCountWord (word_texts words.now) index n → ⊥) }
 {
     let word = words.get(index)?;
     count_of(word.as_str())
@@ -199,8 +199,8 @@ fn is_count(word: &str, count: u32) -> bool
 
 // The number of a stream that the word with this index is.
 fn stream_at(words: &[String], index: usize) -> Option<u8>
-    ensures some { IfSome result (λ n. At IsStreamWord (texts words.now) index n) }
-    ensures none { IfNone result ((n : ℕ) → At IsStreamWord (texts words.now) index n → ⊥) }
+    ensures some { IfSome result (λ n. At IsStreamWord (word_texts words.now) index n) }
+    ensures none { IfNone result ((n : ℕ) → At IsStreamWord (word_texts words.now) index n → ⊥) }
 {
     let word = words.get(index)?;
     stream_of(word.as_str())
@@ -219,8 +219,8 @@ fn stream_of(word: &str) -> Option<u8>
 
 // The mean that the word with this index names.
 fn mean_at(words: &[String], index: usize) -> Option<Mean>
-    ensures some { IfSome result (λ m. At IsMeanWord (texts words.now) index m) }
-    ensures none { IfNone result ((m : MeanSpec) → At IsMeanWord (texts words.now) index m → ⊥) }
+    ensures some { IfSome result (λ m. At IsMeanWord (word_texts words.now) index m) }
+    ensures none { IfNone result ((m : MeanSpec) → At IsMeanWord (word_texts words.now) index m → ⊥) }
 {
     let word = words.get(index)?;
     mean_of(word.as_str())
@@ -242,8 +242,8 @@ fn mean_of(word: &str) -> Option<Mean>
 
 // The side that the word with this index names.
 fn side_at(words: &[String], index: usize) -> Option<Side>
-    ensures some { IfSome result (λ s. At IsSideWord (texts words.now) index s) }
-    ensures none { IfNone result ((s : SideSpec) → At IsSideWord (texts words.now) index s → ⊥) }
+    ensures some { IfSome result (λ s. At IsSideWord (word_texts words.now) index s) }
+    ensures none { IfNone result ((s : SideSpec) → At IsSideWord (word_texts words.now) index s → ⊥) }
 {
     let word = words.get(index)?;
     side_of(word.as_str())
@@ -265,8 +265,8 @@ fn side_of(word: &str) -> Option<Side>
 
 // The days of a step that the word with this index is.
 fn step_at(words: &[String], index: usize) -> Option<u32>
-    ensures some { IfSome result (λ n. At IsStepWord (texts words.now) index n) }
-    ensures none { IfNone result ((n : ℕ) → At IsStepWord (texts words.now) index n → ⊥) }
+    ensures some { IfSome result (λ n. At IsStepWord (word_texts words.now) index n) }
+    ensures none { IfNone result ((n : ℕ) → At IsStepWord (word_texts words.now) index n → ⊥) }
 {
     let word = words.get(index)?;
     step_of(word.as_str())
@@ -283,7 +283,7 @@ fn step_of(word: &str) -> Option<u32>
 
 // The days of a number of days or weeks.
 fn days_of(step: Frequency) -> Option<u32>
-    ensures { result ≡ days_of step.unit step.count }
+    ensures { result ≡ days_of_unit step.unit step.count }
 {
     match step.unit {
         Unit::D => Some(u32::from(step.count)),
@@ -296,8 +296,8 @@ fn days_of(step: Frequency) -> Option<u32>
 
 // The tenor that the word with this index is.
 fn tenor_at(words: &[String], index: usize) -> Option<Frequency>
-    ensures some { IfSome result (λ f. At IsTenorWord (texts words.now) index f) }
-    ensures none { IfNone result ((f : FrequencySpec) → At IsTenorWord (texts words.now) index f → ⊥) }
+    ensures some { IfSome result (λ f. At IsTenorWord (word_texts words.now) index f) }
+    ensures none { IfNone result ((f : FrequencySpec) → At IsTenorWord (word_texts words.now) index f → ⊥) }
 {
     let word = words.get(index)?;
     tenor_of(word.as_str())

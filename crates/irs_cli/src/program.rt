@@ -3,9 +3,9 @@
 //! No standard has these words, texts and statuses, so they are our rule. All memory is taken before the
 //! first write.
 ghost use Rattle.std.specs.Prelude.{◌≡◌, ℕ, List, IfOk, IfSome};
-ghost use Rattle.irs_cli.specs.Commands.{texts};
+ghost use Rattle.irs_cli.specs.Commands.{word_texts};
 ghost use Rattle.irs_answers.specs.Common.{AreRead};
-ghost use Rattle.irs_answers.specs.Given.{IsWithin, given_by, given_with};
+ghost use Rattle.irs_answers.specs.Given.{IsWithinLimits, files_given_by, given_with};
 ghost use Rattle.irs_answers.specs.Outcomes.{Ends};
 ghost use Rattle.irs_answers.specs.Replying.{reply_status, reply_text};
 ghost use Rattle.irs_answers.specs.Causes.{cause_of};
@@ -14,7 +14,7 @@ ghost use Rattle.irs_cli.specs.Causes.{IsCauseFor, IsCauseOfWritten, IsNotedFor,
 ghost use Rattle.irs_cli.specs.Causes.{run_cause_of, run_reply_status, run_reply_text, run_status};
 ghost use Rattle.irs_cli.specs.Due.{DueOf};
 ghost use Rattle.irs_cli.specs.Private.Due.{IsLawfulRequest};
-ghost use Rattle.irs_cli.specs.Private.Outcomes.{IfAnswered};
+ghost use Rattle.irs_cli.specs.Private.Outcomes.{IfRunAnswered};
 ghost use Rattle.irs_cli.specs.Run.{Ran, Replies, source, written};
 ghost use Rattle.irs_cli.specs.Sharing.{IsCommon};
 
@@ -49,7 +49,7 @@ pub fn run<F: Files, S: Sink>(alloc: Global, words: &[String], files: &mut F, ou
     ensures ran { let source = source (F.told files.old) (F.gives files.old) (F.failed files.new) (F.faults files.old)
         (F.faults files.new) in
         let written = written (S.written out.old) (S.written out.new) (S.faults out.old) (S.faults out.new) in
-        Ran (texts words.now) source written result }
+        Ran (word_texts words.now) source written result }
 {
     run_with(alloc, words, None, files, out)
 }
@@ -63,12 +63,12 @@ pub fn run_with<F: Files, S: Sink>(
     files: &mut F,
     out: &mut S,
 ) -> u8
-    requires { IfSome common (λ c. IsCommon (texts words.now) (F.told files.old) (F.gives files.old) c.now) }
+    requires { IfSome common (λ c. IsCommon (word_texts words.now) (F.told files.old) (F.gives files.old) c.now) }
     ensures told { (n : List ℕ) → F.told files.new n ≡ F.told files.old n }
     ensures ran { let source = source (F.told files.old) (F.gives files.old) (F.failed files.new) (F.faults files.old)
         (F.faults files.new) in
         let written = written (S.written out.old) (S.written out.new) (S.faults out.old) (S.faults out.new) in
-        Ran (texts words.now) source written result }
+        Ran (word_texts words.now) source written result }
 {
     let cause = cause_of_run(alloc, words, common, files, out);
     cause.status()
@@ -83,14 +83,14 @@ pub fn cause_of_run<F: Files, S: Sink>(
     files: &mut F,
     out: &mut S,
 ) -> RunCause
-    requires { IfSome common (λ c. IsCommon (texts words.now) (F.told files.old) (F.gives files.old) c.now) }
+    requires { IfSome common (λ c. IsCommon (word_texts words.now) (F.told files.old) (F.gives files.old) c.now) }
     ensures told { (n : List ℕ) → F.told files.new n ≡ F.told files.old n }
     ensures ran { let source = source (F.told files.old) (F.gives files.old) (F.failed files.new) (F.faults files.old)
         (F.faults files.new) in
         let written = written (S.written out.old) (S.written out.new) (S.faults out.old) (S.faults out.new) in
-        Ran (texts words.now) source written (run_status result) }
+        Ran (word_texts words.now) source written (run_status result) }
     // It is that of the text that was written, and its note is that for the files as the fetches gave them.
-    ensures cause { IsCauseOfWritten (texts words.now) (F.gives files.old) result (S.written out.old)
+    ensures cause { IsCauseOfWritten (word_texts words.now) (F.gives files.old) result (S.written out.old)
         (S.written out.new) }
 {
     match reply_for(alloc, words, common, files) {
@@ -110,13 +110,13 @@ pub fn reply_for<F: Files>(
     common: Option<&Common>,
     files: &mut F,
 ) -> Result<RunReply, Memory>
-    requires { IfSome common (λ c. IsCommon (texts words.now) (F.told files.old) (F.gives files.old) c.now) }
+    requires { IfSome common (λ c. IsCommon (word_texts words.now) (F.told files.old) (F.gives files.old) c.now) }
     ensures told { (n : List ℕ) → F.told files.new n ≡ F.told files.old n }
     ensures replies { IfOk result
-        (λ r. Replies (texts words.now) (source (F.told files.old) (F.gives files.old) (F.failed files.new)
+        (λ r. Replies (word_texts words.now) (source (F.told files.old) (F.gives files.old) (F.failed files.new)
         (F.faults files.old) (F.faults files.new)) (run_reply_status r) (run_reply_text r)) }
     ensures cause { IfOk result
-        (λ r. IsRunCause (texts words.now) (F.gives files.old) (run_cause_of r) (run_reply_status r)
+        (λ r. IsRunCause (word_texts words.now) (F.gives files.old) (run_cause_of r) (run_reply_status r)
         (run_reply_text r)) }
 {
     match carry_out(alloc, words, common, files) {
@@ -132,13 +132,13 @@ fn carry_out<F: Files>(
     common: Option<&Common>,
     files: &mut F,
 ) -> Result<NotedReply, Refusal>
-    requires { IfSome common (λ c. IsCommon (texts words.now) (F.told files.old) (F.gives files.old) c.now) }
+    requires { IfSome common (λ c. IsCommon (word_texts words.now) (F.told files.old) (F.gives files.old) c.now) }
     ensures told { (n : List ℕ) → F.told files.new n ≡ F.told files.old n }
-    ensures answered { IfAnswered result
-        (Replies (texts words.now) (source (F.told files.old) (F.gives files.old) (F.failed files.new)
+    ensures answered { IfRunAnswered result
+        (Replies (word_texts words.now) (source (F.told files.old) (F.gives files.old) (F.failed files.new)
         (F.faults files.old) (F.faults files.new))) }
     ensures cause { IfOk result
-        (λ r. IsReplyCause (texts words.now) (F.gives files.old) (cause_of r.reply) r.note (reply_status r.reply)
+        (λ r. IsReplyCause (word_texts words.now) (F.gives files.old) (cause_of r.reply) r.note (reply_status r.reply)
         (reply_text r.reply)) }
 {
     let Some(command) = command_of(alloc, words)? else {
@@ -160,12 +160,12 @@ fn carry_out<F: Files>(
 // What a request over its files comes to.
 fn reply_to(alloc: Global, request: Request, files: TaskFiles) -> Result<NotedReply, Memory>
     requires lawful { IsLawfulRequest request }
-    requires within { IsWithin (given_by files) }
+    requires within { IsWithinLimits (files_given_by files) }
     ensures due { IfOk result
-        (λ r. Ends (DueOf request (given_by files)) (reply_status r.reply) (reply_text r.reply)) }
+        (λ r. Ends (DueOf request (files_given_by files)) (reply_status r.reply) (reply_text r.reply)) }
     ensures cause { IfOk result
         (λ r. IsCauseFor request (cause_of r.reply) (reply_status r.reply) (reply_text r.reply)) }
-    ensures noted { IfOk result (λ r. IsNotedFor request (given_by files) (cause_of r.reply) r.note) }
+    ensures noted { IfOk result (λ r. IsNotedFor request (files_given_by files) (cause_of r.reply) r.note) }
 {
     match request {
         Request::OverFiles(task) => reply_of(alloc, task, files),

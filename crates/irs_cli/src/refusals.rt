@@ -3,7 +3,7 @@ ghost use Rattle.std.specs.Prelude.{◌≡◌, Some, IfOk};
 ghost use Rattle.irs_cli.specs.Causes.{run_reply_status, run_reply_text};
 ghost use Rattle.irs_cli.specs.Private.Causes.{IsUnreplied};
 ghost use Rattle.irs_cli.specs.Outcomes.{of_fetch};
-ghost use Rattle.irs_cli.specs.Private.Outcomes.{answer_of};
+ghost use Rattle.irs_cli.specs.Private.Outcomes.{run_answer_of};
 ghost use Rattle.irs_cli.specs.declared.refusals.Refusal.TheVariants.{Memory as OfMemory};
 
 use crate::causes::RunReply;
@@ -46,7 +46,7 @@ impl From<Memory> for Refusal {
 impl Refusal {
     /// What a refusal comes to; `Memory` has no line.
     pub(crate) fn reply(self) -> Result<RunReply, Memory>
-        ensures answer { IfOk result (λ r. answer_of self ≡ Some (run_reply_status r, run_reply_text r)) }
+        ensures answer { IfOk result (λ r. run_answer_of self ≡ Some (run_reply_status r, run_reply_text r)) }
         ensures unreplied { IfOk result IsUnreplied }
     {
         match self {

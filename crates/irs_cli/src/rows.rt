@@ -1,7 +1,7 @@
 //! The text of a schedule: its lines are gathered on a page, and a full page is written.
 ghost use Rattle.std.specs.Prelude.{◌≡◌, OnOk, OnErr};
 ghost use Rattle.irs_outside.specs.Outside.{Rose, Grew, GrewByFront};
-ghost use Rattle.irs_schedule.specs.RowTexts.{text_of};
+ghost use Rattle.irs_schedule.specs.RowTexts.{schedule_text};
 
 use crate::page::Page;
 use crate::{PutFailed, Sink};
@@ -10,9 +10,9 @@ use irs_schedule::{Schedule, row_text};
 
 /// Writes the text of a schedule, and nothing after a write that failed.
 pub(crate) fn put_schedule<S: Sink>(out: &mut S, schedule: &Schedule) -> Result<(), PutFailed>
-    ensures ok { OnOk result (Grew (S.written out.old) (S.written out.new) (text_of schedule.now)) }
+    ensures ok { OnOk result (Grew (S.written out.old) (S.written out.new) (schedule_text schedule.now)) }
     ensures quiet { OnOk result (S.faults out.new ≡ S.faults out.old) }
-    ensures err { OnErr result (GrewByFront (S.written out.old) (S.written out.new) (text_of schedule.now)) }
+    ensures err { OnErr result (GrewByFront (S.written out.old) (S.written out.new) (schedule_text schedule.now)) }
     ensures rose { OnErr result (Rose (S.faults out.old) (S.faults out.new)) }
 {
     let mut page = Page::new();

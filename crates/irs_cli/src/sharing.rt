@@ -1,6 +1,6 @@
 //! The files that many runs of the same words have in common: the fixings and the calendars, read once.
 ghost use Rattle.std.specs.Prelude.{◌≡◌, ℕ, List, map, IfOk, IfSome};
-ghost use Rattle.irs_cli.specs.Commands.{texts};
+ghost use Rattle.irs_cli.specs.Commands.{word_texts};
 ghost use Rattle.irs_cli.specs.Private.Commands.{wanted_by};
 ghost use Rattle.irs_cli.specs.Sharing.{IsCommon, belongs, files_with};
 
@@ -16,7 +16,7 @@ use std::alloc::Global;
 pub fn read_common<F: Files>(alloc: Global, words: &[String], files: &mut F) -> Option<Common>
     // What the source states of its files is the same afterwards.
     ensures told { (n : List ℕ) → F.told files.new n ≡ F.told files.old n }
-    ensures common { IfSome result (IsCommon (texts words.now) (F.told files.old) (F.gives files.old)) }
+    ensures common { IfSome result (IsCommon (word_texts words.now) (F.told files.old) (F.gives files.old)) }
 {
     let Ok(Some(command)) = command_of(alloc, words) else {
         return None;

@@ -16,9 +16,13 @@ use Rattle.irs_base.proofs.RoundingLaws.{rounded_size}
 use Rattle.irs_terms.specs.declared.codes.CompCode.{CompCode}
 use Rattle.irs_terms.specs.declared.codes.CompCode.TheVariants.{Simple, Straight, Flat, SpreadExclusive}
 use Rattle.irs_compound.proofs.Sizes.{positive_size}
-use Rattle.irs_compound.specs.Amounts.{IsFraction, IsTerm, IsPayment, AllPriced, AmountOf, IsOutOfRange, Pays}
-use Rattle.irs_compound.specs.Amounts.{RoundedAt, Follows, Stands, Within, Passes, amount, total, kept, kept_of}
-use Rattle.irs_compound.specs.Amounts.{denominator, code_for, most_amount, most_exact, most_places, most_units}
+use Rattle.irs_compound.specs.Amounts.{IsDayCountFraction, IsTermOver, IsPaymentOfTerms, AllPriced, AmountOf}
+use Rattle.irs_compound.specs.Amounts.{IsOutOfRange}
+use Rattle.irs_compound.specs.Amounts.{Pays}
+use Rattle.irs_compound.specs.Amounts.{RoundedAt, Follows, StandsAfter, StaysWithin, PeriodPasses, amount, total}
+use Rattle.irs_compound.specs.Amounts.{sum_kept}
+use Rattle.irs_compound.specs.Amounts.{kept_of}
+use Rattle.irs_compound.specs.Amounts.{denominator, code_for, most_amount, most_exact, most_currency_places, most_units}
 use Rattle.irs_compound.specs.PartsLaws.{AllFractions, all_fractions, follows_exists, follows_once}
 use Rattle.irs_compound.specs.Private.PartsLaws.{follows_more}
 use Rattle.irs_compound.specs.PartsLaws.{stands_exists}
@@ -33,23 +37,23 @@ record Parted (code : CompCode) (ps : List PeriodTerm) (cs : List Parts) : Type 
   earlier : List Parts
   last : Parts
   there : slice_get ps (length ps - 1) ≡ Some period
-  term : IsTerm (denominator ps) period
+  term : IsTermOver (denominator ps) period
   follows : Follows code (take (length ps - 1) ps) earlier
-  stands : Stands code period earlier last
+  stands : StandsAfter code period earlier last
   sum : total cs ≡ total earlier +ℤ amount last
 
-parted : (code : CompCode) (ps : List PeriodTerm) (d : PeriodTerm) (cs : List Parts) → IsPayment ps → AllPriced ps
+parted : (code : CompCode) (ps : List PeriodTerm) (d : PeriodTerm) (cs : List Parts) → IsPaymentOfTerms ps → AllPriced ps
     → Follows code ps cs → Parted code ps cs
 parted code ps d cs payment priced follows =
     let some = payment.0 in
     let fits : AllFractions ps = all_fractions (denominator ps) ps payment.2 in
-    let term : IsTerm (denominator ps) (get_or ps (length ps - 1) d) =
-    All-get_or (IsTerm (denominator ps)) ps (length ps - 1) d (omega (arith, some)) payment.2 in
+    let term : IsTermOver (denominator ps) (get_or ps (length ps - 1) d) =
+    All-get_or (IsTermOver (denominator ps)) ps (length ps - 1) d (omega (arith, some)) payment.2 in
     let i = length ps - 1 in
     let inside : i < length ps = omega (arith, some) in
     let p = get_or ps i d in
     let before =
-    follows_exists code [] (take i ps) (All-take (λ (q : PeriodTerm). IsFraction q.frac) i ps fits)
+    follows_exists code [] (take i ps) (All-take (λ (q : PeriodTerm). IsDayCountFraction q.frac) i ps fits)
     (All-take (λ (q : PeriodTerm). IsSome q.rates) i ps priced) in
     let last = stands_exists code p before.0 term.1
     (All-get_or (λ (q : PeriodTerm). IsSome q.rates) ps i d inside priced) in
@@ -80,7 +84,7 @@ SumFits SpreadExclusive den sum = unsigned_abs sum ≤ most_amount
 not_above : (m n : ℕ) → ((m ≤ n → ⊥) → ⊥) → m ≤ n
 not_above m n h = elim (cases_lt n m) [ inl more ↦ absurd (h (λ less. omega (arith, more, less))) | inr fits ↦ fits ]
 
-sum_fits : (code : CompCode) (p : PeriodTerm) (c : Parts) (sum kept_sum : ℤ) → ((Within code p c sum kept_sum → ⊥) → ⊥)
+sum_fits : (code : CompCode) (p : PeriodTerm) (c : Parts) (sum kept_sum : ℤ) → ((StaysWithin code p c sum kept_sum → ⊥) → ⊥)
     → SumFits code p.frac.den sum
 sum_fits Simple p c sum kept_sum h =
     not_above (unsigned_abs sum) (most_exact * unsigned_abs p.frac.den) (λ out. h (λ w. out w.1))
@@ -95,7 +99,7 @@ tens k n few = sym (pow-add 10 (k - n) n) ∙ ap (λ j. 10 ^ j) (omega (arith, f
 many_above : (m n : ℕ) → 1 ≤ m → 1 ≤ n → 0 < m * n
 many_above m n h k = let p : 1 * 1 ≤ m * n = mul-le-mul h k in omega (arith, p)
 
-simple_size : (n : ℕ) (sum m : ℤ) (places : ℕ) → 1 ≤ n → places ≤ most_places → unsigned_abs sum ≤ most_exact * n
+simple_size : (n : ℕ) (sum m : ℤ) (places : ℕ) → 1 ≤ n → places ≤ most_currency_places → unsigned_abs sum ≤ most_exact * n
     → Rounded Nearest sum (pos (n * 10 ^ (13 - places))) m → unsigned_abs m ≤ most_units places
 simple_size n sum m places some few small rounds =
     let ten = ten_above (13 - places) in
@@ -104,14 +108,14 @@ simple_size n sum m places some few small rounds =
     rounded_size Nearest sum m (n * 10 ^ (13 - places)) (most_units places)
     (many_above n (10 ^ (13 - places)) some (omega (arith, ten))) (omega (arith, small, whole)) rounds
 
-compound_size : (sum m : ℤ) (places : ℕ) → places ≤ most_places → unsigned_abs sum ≤ most_amount
+compound_size : (sum m : ℤ) (places : ℕ) → places ≤ most_currency_places → unsigned_abs sum ≤ most_amount
     → Rounded Nearest sum (pos (10 ^ (6 - places))) m → unsigned_abs m ≤ most_units places
 compound_size sum m places few small rounds =
     let whole : 10 ^ (6 - places) * 10 ^ places ≡ 10 ^ 6 = tens 6 places (omega (arith, few)) in
     rounded_size Nearest sum m (10 ^ (6 - places)) (most_units places) (ten_above (6 - places))
     (omega (arith, small, whole)) rounds
 
-rounded_fits : (code : CompCode) (den sum : ℤ) (places : ℕ) (m : ℤ) → pos 1 ≤ℤ den → places ≤ most_places
+rounded_fits : (code : CompCode) (den sum : ℤ) (places : ℕ) (m : ℤ) → pos 1 ≤ℤ den → places ≤ most_currency_places
     → SumFits code den sum → RoundedAt code den sum places m → unsigned_abs m ≤ most_units places
 rounded_fits Simple den sum places m low few small rounds =
     let is : den ≡ pos (unsigned_abs den) = positive_size den (omega (arith, signed_arith, low)) in
@@ -123,8 +127,8 @@ rounded_fits Flat den sum places m low few small rounds = compound_size sum m pl
 rounded_fits SpreadExclusive den sum places m low few small rounds = compound_size sum m places few small rounds
 
 -- a payment of which no period leaves the range pays at most 10^14 currency units
-amount_bounded : (code : CompCode) (ps : List PeriodTerm) (places : ℕ) (m : ℤ) → IsPayment ps → places ≤ most_places
-    → AllPriced ps → ((n : ℕ) → Passes code ps n → ⊥) → Pays code ps places m → unsigned_abs m ≤ most_units places
+amount_bounded : (code : CompCode) (ps : List PeriodTerm) (places : ℕ) (m : ℤ) → IsPaymentOfTerms ps → places ≤ most_currency_places
+    → AllPriced ps → ((n : ℕ) → PeriodPasses code ps n → ⊥) → Pays code ps places m → unsigned_abs m ≤ most_units places
 amount_bounded code [] places m payment few priced none pays = absurd (omega (arith, payment.0))
 amount_bounded code (q ∷ qs) places m payment few priced none pays =
     let ps = q ∷ qs in
@@ -132,7 +136,7 @@ amount_bounded code (q ∷ qs) places m payment few priced none pays =
     let term = part.term in
     let sum = total part.earlier +ℤ amount part.last in
     let small : SumFits code part.period.frac.den sum =
-    sum_fits code part.period part.last sum (kept code part.earlier +ℤ kept_of code part.last)
+    sum_fits code part.period part.last sum (sum_kept code part.earlier +ℤ kept_of code part.last)
     (λ passes. none (length ps) (record {
       from_one = payment.0;
       earlier = part.earlier;
@@ -150,8 +154,8 @@ amount_bounded code (q ∷ qs) places m payment few priced none pays =
     (subst (λ (d : ℤ). pos 1 ≤ℤ d) term.2 term.1.2) few fits pays.rounds
 
 -- so an amount is at most that
-pub amount_small : (code : CompCode) (ps : List PeriodTerm) (places : ℕ) (m : Option ℤ) → IsPayment ps
-    → places ≤ most_places → ((n : ℕ) → IsOutOfRange code ps n → ⊥) → AmountOf code ps places m
+pub amount_small : (code : CompCode) (ps : List PeriodTerm) (places : ℕ) (m : Option ℤ) → IsPaymentOfTerms ps
+    → places ≤ most_currency_places → ((n : ℕ) → IsOutOfRange code ps n → ⊥) → AmountOf code ps places m
     → IfSome m (λ units. unsigned_abs units ≤ most_units places)
 amount_small code ps places None payment few none h = tt
 amount_small code ps places (Some m) payment few none h =

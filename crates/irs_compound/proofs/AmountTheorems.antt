@@ -12,9 +12,11 @@ use Rattle.irs_base.specs.Private.Order.{IsDecided}
 use Rattle.irs_base.proofs.Firsts.{lt_false, one_first, tied_last}
 use Rattle.irs_terms.specs.declared.codes.CompCode.{CompCode}
 use Rattle.irs_terms.specs.declared.codes.CompCode.TheVariants.{Simple, Straight, Flat, SpreadExclusive}
-use Rattle.irs_compound.specs.Amounts.{IsFraction, AllPriced, SomeUnpriced, AmountOf, Passes, IsOutOfRange}
+use Rattle.irs_compound.specs.Amounts.{IsDayCountFraction, AllPriced, SomeUnpriced, AmountOf, PeriodPasses}
+use Rattle.irs_compound.specs.Amounts.{IsOutOfRange}
 use Rattle.irs_compound.specs.Private.Amounts.{IsFirstOut}
-use Rattle.irs_compound.specs.Amounts.{RatesWithin, PartsWithin, SumsWithin, Within, amount, total, kept, kept_of}
+use Rattle.irs_compound.specs.Amounts.{RatesWithin, PartsWithin, SumsWithin, StaysWithin, amount, total, sum_kept}
+use Rattle.irs_compound.specs.Amounts.{kept_of}
 use Rattle.irs_compound.specs.Amounts.{code_for, most_amount, most_exact}
 use Rattle.irs_compound.specs.AmountLaws.{pays_exists}
 use Rattle.irs_compound.specs.Private.AmountLaws.{priced_or_not}
@@ -76,7 +78,7 @@ decides_sums Flat p c sum kept_sum = decides_parts c sum kept_sum
 decides_sums SpreadExclusive p c sum kept_sum = decides_parts c sum kept_sum
 
 decides_within : (code : CompCode) (p : PeriodTerm) (c : Parts) (sum kept_sum : ℤ)
-    → IsDecided (Within code p c sum kept_sum)
+    → IsDecided (StaysWithin code p c sum kept_sum)
 decides_within code p c sum kept_sum = decides_both (decides_rates p.rates) (decides_sums code p c sum kept_sum)
 
 -- ---- the first period that leaves the range
@@ -85,21 +87,21 @@ blank : PeriodTerm
 blank = record { notional = pos 0; rates = None; frac = record { num = pos 0; den = pos 0 } }
 
 module _ (code : CompCode) (ps : List PeriodTerm) (fits : AllFractions ps) (priced : AllPriced ps) where
-  decides_passes : (n : ℕ) → 1 ≤ n → n ≤ length ps → IsDecided (Passes code ps n)
+  decides_passes : (n : ℕ) → 1 ≤ n → n ≤ length ps → IsDecided (PeriodPasses code ps n)
   decides_passes n low high =
       let i = n - 1 in
       let p = get_or ps i blank in
       let inside : i < length ps = omega (arith, low, high) in
       let there : slice_get ps i ≡ Some p = slice_get-get_or ps i blank inside in
-      let fraction : IsFraction p.frac = All-get_or (λ (q : PeriodTerm). IsFraction q.frac) ps i blank inside fits in
+      let fraction : IsDayCountFraction p.frac = All-get_or (λ (q : PeriodTerm). IsDayCountFraction q.frac) ps i blank inside fits in
       let rates : IsSome p.rates = All-get_or (λ (q : PeriodTerm). IsSome q.rates) ps i blank inside priced in
       let before =
-      follows_exists code [] (take i ps) (All-take (λ (q : PeriodTerm). IsFraction q.frac) i ps fits)
+      follows_exists code [] (take i ps) (All-take (λ (q : PeriodTerm). IsDayCountFraction q.frac) i ps fits)
       (All-take (λ (q : PeriodTerm). IsSome q.rates) i ps priced) in
       let cs = before.0 in
       let last = stands_exists code p cs fraction rates in
       let c = last.0 in
-      elim (decides_within code p c (total cs +ℤ amount c) (kept code cs +ℤ kept_of code c)) [
+      elim (decides_within code p c (total cs +ℤ amount c) (sum_kept code cs +ℤ kept_of code c)) [
         | inl within ↦ inr (λ x. not_passed code ps n p cs c fits fraction there before.1 last.1 within x)
         | inr out ↦ inl (record {
           from_one = low;
@@ -114,8 +116,8 @@ module _ (code : CompCode) (ps : List PeriodTerm) (fits : AllFractions ps) (pric
         })
       ]
 
-  first_up_to : (k : ℕ) → k ≤ length ps → ((n : ℕ) × First nat_lt (Passes code ps) n)
-      ⊎ ((n : ℕ) → n ≤ k → Passes code ps n → ⊥)
+  first_up_to : (k : ℕ) → k ≤ length ps → ((n : ℕ) × First nat_lt (PeriodPasses code ps) n)
+      ⊎ ((n : ℕ) → n ≤ k → PeriodPasses code ps n → ⊥)
   first_up_to zero le = inr (λ n up x. let low = x.from_one in omega (arith, up, low))
   first_up_to (suc k) le = elim (first_up_to k (omega (arith, le))) [
     | inl first ↦ inl first
@@ -128,7 +130,7 @@ module _ (code : CompCode) (ps : List PeriodTerm) (fits : AllFractions ps) (pric
     ]
   ]
 
-  passes_decided : ((n : ℕ) × First nat_lt (Passes code ps) n) ⊎ ((n : ℕ) → Passes code ps n → ⊥)
+  passes_decided : ((n : ℕ) × First nat_lt (PeriodPasses code ps) n) ⊎ ((n : ℕ) → PeriodPasses code ps n → ⊥)
   passes_decided = elim (first_up_to (length ps) (omega arith)) [
     | inl first ↦ inl first
     | inr none ↦ inr (λ n x. none n (number_within code ps n x) x)

@@ -10,8 +10,10 @@ use Rattle.irs_base.specs.Order.{First}
 use Rattle.irs_base.proofs.Firsts.{lt_false}
 use Rattle.irs_terms.specs.declared.codes.CompCode.{CompCode}
 use Rattle.irs_terms.specs.declared.codes.CompCode.TheVariants.{Simple, Straight, Flat, SpreadExclusive}
-use Rattle.irs_compound.specs.Amounts.{Pays, RoundedAt, IsTerm, StandsAt, Stands, Follows, SumsWithin, Within, Passes}
-use Rattle.irs_compound.specs.Amounts.{amount, total, kept_of, kept, denominator, most_exact}
+use Rattle.irs_compound.specs.Amounts.{Pays, RoundedAt, IsTermOver, StandsAt, StandsAfter, Follows, SumsWithin}
+use Rattle.irs_compound.specs.Amounts.{StaysWithin}
+use Rattle.irs_compound.specs.Amounts.{PeriodPasses}
+use Rattle.irs_compound.specs.Amounts.{amount, total, kept_of, sum_kept, denominator, most_exact}
 use Rattle.irs_compound.specs.Private.Balances.{BalanceFits, Takes, Stops, Balances}
 use Rattle.irs_compound.specs.PartsLaws.{all_fractions}
 use Rattle.irs_compound.specs.Private.PartsLaws.{follows_more, not_passed, number_within, total-push, kept-push}
@@ -27,37 +29,37 @@ within_fits Flat den p c b e h = (h.2, h.3)
 within_fits SpreadExclusive den p c b e h = (h.2, h.3)
 
 -- the parts so far in the place of their balance
-stands_behind : (code : CompCode) (p : PeriodTerm) (b : Balance) (cs : List Parts) (c : Parts) → b.kept ≡ kept code cs
-    → IsSomeAnd p.rates (λ r. StandsAt code p r b.kept c) → Stands code p cs c
+stands_behind : (code : CompCode) (p : PeriodTerm) (b : Balance) (cs : List Parts) (c : Parts) → b.kept ≡ sum_kept code cs
+    → IsSomeAnd p.rates (λ r. StandsAt code p r b.kept c) → StandsAfter code p cs c
 stands_behind code p b cs c e h = subst (λ (n : ℤ). IsSomeAnd p.rates (λ r. StandsAt code p r n c)) e h
 
 -- none of the first i periods leaves the range, nor does the next one
-none_more : (code : CompCode) (ps : List PeriodTerm) (i : ℕ) → ((n : ℕ) → n ≤ i → Passes code ps n → ⊥)
-    → (Passes code ps (i + 1) → ⊥) → (n : ℕ) → n ≤ i + 1 → Passes code ps n → ⊥
+none_more : (code : CompCode) (ps : List PeriodTerm) (i : ℕ) → ((n : ℕ) → n ≤ i → PeriodPasses code ps n → ⊥)
+    → (PeriodPasses code ps (i + 1) → ⊥) → (n : ℕ) → n ≤ i + 1 → PeriodPasses code ps n → ⊥
 none_more code ps i below next n le x = elim (cases_lt n (i + 1)) [
   | inl less ↦ below n (omega (arith, less)) x
-  | inr more ↦ next (subst (Passes code ps) (omega (arith, le, more)) x)
+  | inr more ↦ next (subst (PeriodPasses code ps) (omega (arith, le, more)) x)
 ]
 
 -- the balance after one more period
 pub balances_more : (code : CompCode) (ps : List PeriodTerm) (i : ℕ) (d : PeriodTerm) (before next : Balance)
-    → All (IsTerm (denominator ps)) ps → i < length ps → Balances code ps i before
+    → All (IsTermOver (denominator ps)) ps → i < length ps → Balances code ps i before
     → Takes code (get_or ps i d) before next → Balances code ps (i + 1) next
 balances_more code ps i d before next all inside s t =
     let p = get_or ps i d in
-    let term : IsTerm (denominator ps) p = All-get_or (IsTerm (denominator ps)) ps i d inside all in
+    let term : IsTermOver (denominator ps) p = All-get_or (IsTermOver (denominator ps)) ps i d inside all in
     let there : slice_get ps i ≡ Some p = slice_get-get_or ps i d inside in
-    let stands : Stands code p s.parts t.parts = stands_behind code p before s.parts t.parts s.keeps t.stands in
+    let stands : StandsAfter code p s.parts t.parts = stands_behind code p before s.parts t.parts s.keeps t.stands in
     let sum : next.sum ≡ total s.parts +ℤ amount t.parts =
     ap (λ (b : Balance). b.sum) t.is ∙ ap (λ (n : ℤ). n +ℤ amount t.parts) s.sums in
-    let keep : next.kept ≡ kept code s.parts +ℤ kept_of code t.parts =
+    let keep : next.kept ≡ sum_kept code s.parts +ℤ kept_of code t.parts =
     ap (λ (b : Balance). b.kept) t.is ∙ ap (λ (n : ℤ). n +ℤ kept_of code t.parts) s.keeps in
-    let within : Within code p t.parts next.sum next.kept =
-    subst (λ (b : Balance). Within code p t.parts b.sum b.kept) (sym t.is) t.within in
-    let within1 : Within code p t.parts (total s.parts +ℤ amount t.parts) next.kept =
-    subst (λ (n : ℤ). Within code p t.parts n next.kept) sum within in
-    let within2 : Within code p t.parts (total s.parts +ℤ amount t.parts) (kept code s.parts +ℤ kept_of code t.parts) =
-    subst (λ (n : ℤ). Within code p t.parts (total s.parts +ℤ amount t.parts) n) keep within1 in
+    let within : StaysWithin code p t.parts next.sum next.kept =
+    subst (λ (b : Balance). StaysWithin code p t.parts b.sum b.kept) (sym t.is) t.within in
+    let within1 : StaysWithin code p t.parts (total s.parts +ℤ amount t.parts) next.kept =
+    subst (λ (n : ℤ). StaysWithin code p t.parts n next.kept) sum within in
+    let within2 : StaysWithin code p t.parts (total s.parts +ℤ amount t.parts) (sum_kept code s.parts +ℤ kept_of code t.parts) =
+    subst (λ (n : ℤ). StaysWithin code p t.parts (total s.parts +ℤ amount t.parts) n) keep within1 in
     let more : take (i + 1) ps ≡ take i ps ++ p ∷ [] = take_more ps i d inside in
     let back : i + 1 - 1 ≡ i = omega arith in
     let f : Follows code (take i ps ++ p ∷ []) (s.parts ++ t.parts ∷ []) =
@@ -75,10 +77,10 @@ balances_more code ps i d before next all inside s t =
     }
 
 passes_here : (code : CompCode) (ps : List PeriodTerm) (n : ℕ) (p : PeriodTerm) (before : Balance) → 1 ≤ n
-    → slice_get ps (n - 1) ≡ Some p → Balances code ps (n - 1) before → Stops code p before → Passes code ps n
+    → slice_get ps (n - 1) ≡ Some p → Balances code ps (n - 1) before → Stops code p before → PeriodPasses code ps n
 passes_here code ps n p before one there s t =
-    let passes1 : Within code p t.parts (total s.parts +ℤ amount t.parts) (before.kept +ℤ kept_of code t.parts) → ⊥ =
-    subst (λ (n : ℤ). Within code p t.parts (n +ℤ amount t.parts) (before.kept +ℤ kept_of code t.parts)
+    let passes1 : StaysWithin code p t.parts (total s.parts +ℤ amount t.parts) (before.kept +ℤ kept_of code t.parts) → ⊥ =
+    subst (λ (n : ℤ). StaysWithin code p t.parts (n +ℤ amount t.parts) (before.kept +ℤ kept_of code t.parts)
     → ⊥) s.sums t.passes in
     record {
       from_one = one;
@@ -88,14 +90,14 @@ passes_here code ps n p before one there s t =
       there = there;
       follows = s.follows;
       stands = stands_behind code p before s.parts t.parts s.keeps t.stands;
-      passes = subst (λ (n : ℤ). Within code p t.parts (total s.parts +ℤ amount t.parts) (n +ℤ kept_of code t.parts)
+      passes = subst (λ (n : ℤ). StaysWithin code p t.parts (total s.parts +ℤ amount t.parts) (n +ℤ kept_of code t.parts)
           → ⊥) s.keeps passes1;
     }
 
 -- a period that leaves the range is the first
 pub passes_first : (code : CompCode) (ps : List PeriodTerm) (i n : ℕ) (d : PeriodTerm) (before : Balance) → n ≡ i
     → i < length ps → Balances code ps i before → Stops code (get_or ps i d) before
-    → First nat_lt (Passes code ps) (n + 1)
+    → First nat_lt (PeriodPasses code ps) (n + 1)
 passes_first code ps i n d before e inside s t =
     let back : n + 1 - 1 ≡ i = omega (arith, e) in
     let there : slice_get ps (n + 1 - 1) ≡ Some (get_or ps i d) = rw back (slice_get-get_or ps i d inside) in
@@ -122,5 +124,5 @@ pays_from code ps den b places m e s r = record {
 
 -- where the balance of all periods is made none of them leaves the range
 pub none_passes : (code : CompCode) (ps : List PeriodTerm) (b : Balance) → Balances code ps (length ps) b → (n : ℕ)
-    → Passes code ps n → ⊥
+    → PeriodPasses code ps n → ⊥
 none_passes code ps b s n x = s.none_passes n (number_within code ps n x) x

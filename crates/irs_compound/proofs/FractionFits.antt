@@ -10,7 +10,7 @@ use Rattle.irs_daycount.specs.Actual.{act_act_denominator}
 use Rattle.irs_daycount.specs.Fractions.{Fraction, IsNumerator, denominator_of}
 use Rattle.irs_daycount.specs.Private.FractionLaws.{one_denominator}
 use Rattle.irs_daycount.proofs.FractionBounds.{fraction_bounded}
-use Rattle.irs_compound.specs.Amounts.{IsFraction}
+use Rattle.irs_compound.specs.Amounts.{IsDayCountFraction}
 
 -- the denominator of a day count fraction is from 1 to that of ACT/ACT.ISDA
 abbrev IsDenominator : ℤ → Type 0
@@ -27,14 +27,14 @@ denominators ThirtyE360Isda = (omega (arith, signed_arith), omega (arith, signed
 
 -- a fraction of days in range is a fraction of the amounts
 pub fraction_fits : (code : DayCountCode) (s e : ℤ) (f : Frac) → IsDay s → IsDay e → IsNumerator s e f.num
-    → f.den ≡ denominator_of code → IsFraction f
+    → f.den ≡ denominator_of code → IsDayCountFraction f
 fraction_fits code s e f a b n is =
     let d : IsDenominator f.den = subst IsDenominator (sym is) (denominators code) in
     (n.0, omega (arith, signed_arith, n.1, a, b), d.0, d.1)
 
 -- so the fraction by a day count is, of days in range of which the first is before the second
 pub fraction_is_fit : (code : DayCountCode) (s e : ℤ) (last : Bool) (f : Frac) → IsDay s → IsDay e → s <ℤ e
-    → Fraction code s e last f → IsFraction f
+    → Fraction code s e last f → IsDayCountFraction f
 fraction_is_fit code s e last f start end order h =
     fraction_fits code s e f start end (fraction_bounded code s e last f start end order h)
     (one_denominator code s e last f h)

@@ -2,7 +2,7 @@
 use Rattle.std.proofs.Common.{Bool, ℤ, pos, ◌-ℤ◌, ◌≤ℤ◌, ◌<ℤ◌, ◌≤◌, Option, Some, None, IfSome, option_map, arith}
 use Rattle.std.proofs.Common.{unsigned_abs, All, List, [], ◌∷◌, length, subst, sym}
 use Rattle.std.proofs.lemmas.List.Elements.{All-head}
-use Rattle.irs_compound.specs.Amounts.{IsTerm, denominator}
+use Rattle.irs_compound.specs.Amounts.{IsTermOver, denominator}
 use Rattle.irs_compound.specs.declared.periods.PeriodTerm.{PeriodTerm}
 use Rattle.jiff_core.proofs.SignedLemmas.{signed_arith}
 use Rattle.irs_base.specs.Days.{IsDay}
@@ -16,7 +16,7 @@ use Rattle.irs_daycount.specs.Fractions.{days_of, fraction_of}
 use Rattle.irs_daycount.specs.Private.FractionLaws.{fraction_is}
 use Rattle.irs_daycount.proofs.FractionBounds.{fraction_bounded}
 use Rattle.irs_compound.proofs.RateSizes.{rate_size}
-use Rattle.irs_compound.specs.PeriodRates.{most_rounded_rate, rates_by}
+use Rattle.irs_compound.specs.PeriodRates.{most_rounded_rate, leg_rates}
 use Rattle.irs_compound.specs.declared.periods.Rates.{Rates}
 
 -- a numerator of a day count fraction in its range
@@ -54,14 +54,14 @@ all_in_by (Some r) h = h
 
 -- the whole rate by a lawful leg
 pub all_in_small : (leg : Leg) (start : ℤ) (observed : Option ℤ) → IsLawfulLeg leg → IfSome observed IsRate
-    → IfSome (option_map (λ (r : Rates). r.all_in) (rates_by leg start observed))
+    → IfSome (option_map (λ (r : Rates). r.all_in) (leg_rates leg start observed))
     (λ (r : ℤ). unsigned_abs r ≤ most_rounded_rate)
 all_in_small leg start observed lawful rate =
-    all_in_by (rates_by leg start observed) (rate_size leg start observed lawful rate)
+    all_in_by (leg_rates leg start observed) (rate_size leg start observed lawful rate)
 
 -- periods with one denominator have that of the first
-pub one_denominator_of : (den : ℤ) (ts : List PeriodTerm) → 1 ≤ length ts → All (IsTerm den) ts
-    → All (IsTerm (denominator ts)) ts
+pub one_denominator_of : (den : ℤ) (ts : List PeriodTerm) → 1 ≤ length ts → All (IsTermOver den) ts
+    → All (IsTermOver (denominator ts)) ts
 one_denominator_of den [] some h = absurd (omega (arith, some))
 one_denominator_of den (t ∷ ts) some h =
-    subst (λ (d : ℤ). All (IsTerm d) (t ∷ ts)) (sym (All-head (IsTerm den) t ts h).2) h
+    subst (λ (d : ℤ). All (IsTermOver d) (t ∷ ts)) (sym (All-head (IsTermOver den) t ts h).2) h

@@ -15,7 +15,7 @@ use Rattle.irs_terms.specs.declared.step_list.StepValues.{StepValues}
 use Rattle.irs_terms.specs.Lawful.{IsLawfulValues, IsLawfulFloat, IsLawfulLeg, IsRate}
 use Rattle.irs_compound.specs.InForce.{value_in_force}
 use Rattle.irs_compound.specs.Private.InForceLaws.{in_force_is, in_force_within}
-use Rattle.irs_compound.specs.PeriodRates.{rate_at, exact_base, treated, rates_of, fixed_rates_of, rates_by}
+use Rattle.irs_compound.specs.PeriodRates.{rate_by_rounding, exact_base, treated, rates_of, fixed_rates_of, leg_rates}
 use Rattle.irs_compound.specs.PeriodRates.{most_rounded_rate}
 use Rattle.irs_compound.specs.Private.PeriodRates.{most_exact_rate}
 use Rattle.irs_compound.specs.Tens.{ten_above}
@@ -37,7 +37,7 @@ sum_within a b m n h k =
 
 -- a rate of 110 in units of 10^-18 is one of 110 in units of 10^-9, at any number of places
 rounded_rate_size : (rounding : Rounding) (exact : ℤ) → rounding.places ≤ 9 → unsigned_abs exact ≤ most_exact_rate
-    → unsigned_abs (rate_at rounding exact) ≤ most_rounded_rate
+    → unsigned_abs (rate_by_rounding rounding exact) ≤ most_rounded_rate
 rounded_rate_size rounding exact few small =
     let n = rounding.places in
     let whole = rounded rounding.dir exact (pos (10 ^ (18 - n))) in
@@ -76,7 +76,7 @@ pub floating_size : (f : FloatTerms) (start observed : ℤ) → IsLawfulFloat f 
 unfolding rates_of
 floating_size f start observed h k =
     let exact = exact_base f start observed +ℤ value_in_force f.spread start *ℤ pos (10 ^ 9) in
-    treated_size f.treatment (rate_at f.rounding exact) (rounded_rate_size f.rounding exact h.rounding
+    treated_size f.treatment (rate_by_rounding f.rounding exact) (rounded_rate_size f.rounding exact h.rounding
     (exact_size (value_in_force f.multiplier start) observed (value_in_force f.spread start)
     (value_within IsRate f.multiplier start h.multiplier) k (value_within IsRate f.spread start h.spread)))
 
@@ -88,7 +88,7 @@ fixed_size values start h = value_within IsRate values start h
 
 -- the rate of a period by its leg
 pub rate_size : (leg : Leg) (start : ℤ) (observed : Option ℤ) → IsLawfulLeg leg → IfSome observed IsRate
-    → IfSome (rates_by leg start observed) (λ r. unsigned_abs r.all_in ≤ most_rounded_rate)
+    → IfSome (leg_rates leg start observed) (λ r. unsigned_abs r.all_in ≤ most_rounded_rate)
 rate_size (Fixed values) start observed h k = let small = fixed_size values start h in omega (arith, small)
 rate_size (Floating f) start None h k = tt
 rate_size (Floating f) start (Some o) h k = floating_size f start o h k

@@ -2,7 +2,7 @@
 use Rattle.std.proofs.Common.{◌≡◌, sym, subst, Option, Some, None, IsSomeAnd, IfSome, IfNone, SomeIff}
 use Rattle.irs_terms.specs.declared.codes.CompCode.{CompCode}
 use Rattle.irs_compound.specs.Amounts.{StandsAt, RatesWithin, SumsWithin}
-use Rattle.irs_compound.specs.Private.Balances.{after, Takes, Stops}
+use Rattle.irs_compound.specs.Private.Balances.{balance_after, Takes, Stops}
 use Rattle.irs_compound.specs.declared.balances.Balance.{Balance}
 use Rattle.irs_compound.specs.declared.periods.Rates.{Rates}
 use Rattle.irs_compound.specs.declared.periods.PeriodTerm.{PeriodTerm}
@@ -16,12 +16,12 @@ unpriced o r P e h = subst (λ (x : Option Rates). IsSomeAnd x P) e h
 
 -- the amounts with one more period are within the limits
 abbrev pub SumsAfter : CompCode → PeriodTerm → Balance → Parts → Type 0
-SumsAfter code p b c = SumsWithin code p c (after code b c).sum (after code b c).kept
+SumsAfter code p b c = SumsWithin code p c (balance_after code b c).sum (balance_after code b c).kept
 
 -- a period within the range takes the balance on
 pub takes : (result : Option Balance) (code : CompCode) (p : PeriodTerm) (r : Rates) (before : Balance) (c : Parts)
     → p.rates ≡ Some r → RatesWithin r → StandsAt code p r before.kept c
-    → SomeIff result (SumsAfter code p before c) (after code before c)
+    → SomeIff result (SumsAfter code p before c) (balance_after code before c)
     → IfSome result (λ next. Takes code p before next)
 takes None code p r before c e w h k = tt
 takes (Some b) code p r before c e w h k = record {
@@ -34,7 +34,7 @@ takes (Some b) code p r before c e w h k = record {
 -- a period out of range stops it
 pub stops : (result : Option Balance) (code : CompCode) (p : PeriodTerm) (r : Rates) (before : Balance) (c : Parts)
     → p.rates ≡ Some r → StandsAt code p r before.kept c
-    → SomeIff result (SumsAfter code p before c) (after code before c) → IfNone result (Stops code p before)
+    → SomeIff result (SumsAfter code p before c) (balance_after code before c) → IfNone result (Stops code p before)
 stops (Some b) code p r before c e h k = tt
 stops None code p r before c e h k = record {
   parts = c;

@@ -2,7 +2,7 @@
 use Rattle.std.proofs.Common.{◌≡◌, ℕ, ℤ, pos, ◌-◌, ◌^◌, ◌*ℤ◌, ◌≤ℤ◌, arith, subst, List, [], ◌∷◌}
 use Rattle.std.proofs.lemmas.List.Elements.{All-head}
 use Rattle.irs_base.proofs.RoundingLaws.{nearest_once, nearest_exists}
-use Rattle.irs_compound.specs.Amounts.{IsFraction, IsPayment, AllPriced, Pays, RoundedAt}
+use Rattle.irs_compound.specs.Amounts.{IsDayCountFraction, IsPaymentOfTerms, AllPriced, Pays, RoundedAt}
 use Rattle.irs_compound.specs.Amounts.{total, denominator}
 use Rattle.irs_compound.specs.PartsLaws.{follows_once, follows_exists}
 use Rattle.irs_compound.specs.Tens.{ten_above, above, scaled_above}
@@ -16,7 +16,7 @@ use Rattle.jiff_core.proofs.SignedLemmas.{signed_arith}
 -- the common denominator of a payment is at least 1
 denominator_above : (ps : List PeriodTerm) → AllFractions ps → pos 1 ≤ℤ denominator ps
 denominator_above [] f = omega (arith, signed_arith)
-denominator_above (p ∷ ps) f = (All-head (λ q. IsFraction q.frac) p ps f).2
+denominator_above (p ∷ ps) f = (All-head (λ q. IsDayCountFraction q.frac) p ps f).2
 
 -- a sum has one rounded amount
 rounded_sum_once : (code : CompCode) (ps : List PeriodTerm) (sum : ℤ) (k : ℕ) (m n : ℤ) → AllFractions ps
@@ -60,11 +60,11 @@ pays_exists code ps k f h =
     (m.0, record { parts = cs.0; follows = cs.1; rounds = m.1 })
 
 -- a payment of periods has one amount
-pub one_amount_of : (code : CompCode) (ps : List PeriodTerm) (k : ℕ) (m n : ℤ) → IsPayment ps → Pays code ps k m
+pub one_amount_of : (code : CompCode) (ps : List PeriodTerm) (k : ℕ) (m n : ℤ) → IsPaymentOfTerms ps → Pays code ps k m
     → Pays code ps k n → m ≡ n
 one_amount_of code ps k m n h a b = pays_once code ps k m n (all_fractions (denominator ps) ps h.2) a b
 
 -- a payment of periods with rates has an amount
-pub some_amount_of : (code : CompCode) (ps : List PeriodTerm) (k : ℕ) → IsPayment ps → AllPriced ps
+pub some_amount_of : (code : CompCode) (ps : List PeriodTerm) (k : ℕ) → IsPaymentOfTerms ps → AllPriced ps
     → (m : ℤ) × Pays code ps k m
 some_amount_of code ps k h p = pays_exists code ps k (all_fractions (denominator ps) ps h.2) p

@@ -28,16 +28,16 @@ abbrev pub most_units : ℕ → ℕ
 most_units places = 10 ^ 14 * 10 ^ places
 
 -- the most decimals of a currency
-abbrev pub most_places : ℕ
-most_places = 3
+abbrev pub most_currency_places : ℕ
+most_currency_places = 3
 
 -- a fraction of a day count: its numerator and its denominator lie in the range of the seven codes
-abbrev pub IsFraction : Frac → Type 0
-IsFraction f = (pos 0 ≤ℤ f.num) × (f.num ≤ℤ pos most_numerator) × (pos 1 ≤ℤ f.den) × (f.den ≤ℤ pos act_act_denominator)
+abbrev pub IsDayCountFraction : Frac → Type 0
+IsDayCountFraction f = (pos 0 ≤ℤ f.num) × (f.num ≤ℤ pos most_numerator) × (pos 1 ≤ℤ f.den) × (f.den ≤ℤ pos act_act_denominator)
 
 -- a period of a payment whose fractions have this denominator
-abbrev pub IsTerm : ℤ → PeriodTerm → Type 0
-IsTerm den p = IsNotional p.notional × IsFraction p.frac × (p.frac.den ≡ den)
+abbrev pub IsTermOver : ℤ → PeriodTerm → Type 0
+IsTermOver den p = IsNotional p.notional × IsDayCountFraction p.frac × (p.frac.den ≡ den)
 
 -- the denominator of the first period
 abbrev pub denominator : List PeriodTerm → ℤ
@@ -45,8 +45,8 @@ denominator [] = pos 1
 denominator (p ∷ ps) = p.frac.den
 
 -- the periods of one payment: at least one, and all with one denominator
-abbrev pub IsPayment : List PeriodTerm → Type 0
-IsPayment ps = (1 ≤ length ps) × (length ps ≤ most_periods) × All (IsTerm (denominator ps)) ps
+abbrev pub IsPaymentOfTerms : List PeriodTerm → Type 0
+IsPaymentOfTerms ps = (1 ≤ length ps) × (length ps ≤ most_periods) × All (IsTermOver (denominator ps)) ps
 
 -- each period has its rates
 abbrev pub AllPriced : List PeriodTerm → Type 0
@@ -78,9 +78,9 @@ kept_of Flat c = amount c
 kept_of SpreadExclusive c = c.main
 
 -- the sum of what bears interest later
-abbrev pub kept : CompCode → List Parts → ℤ
-kept code [] = pos 0
-kept code (c ∷ cs) = kept_of code c +ℤ kept code cs
+abbrev pub sum_kept : CompCode → List Parts → ℤ
+sum_kept code [] = pos 0
+sum_kept code (c ∷ cs) = kept_of code c +ℤ sum_kept code cs
 
 -- The parts of a period, where `before` is what bears interest of the earlier periods of the payment.
 -- Without compounding: notional times rate times fraction, exact, in units of 10^-13 over the denominator.
@@ -100,15 +100,15 @@ StandsAt SpreadExclusive p r before c =
     × Interest (pos 100 *ℤ p.notional) (r.all_in -ℤ r.base) p.frac c.extra
 
 -- the parts of a period whose rates are there, after those of all earlier periods of the payment
-abbrev pub Stands : CompCode → PeriodTerm → List Parts → Parts → Type 0
-Stands code p earlier c = IsSomeAnd p.rates (λ r. StandsAt code p r (kept code earlier) c)
+abbrev pub StandsAfter : CompCode → PeriodTerm → List Parts → Parts → Type 0
+StandsAfter code p earlier c = IsSomeAnd p.rates (λ r. StandsAt code p r (sum_kept code earlier) c)
 
 -- the parts of each period are those that follow from the parts of all periods before it
 abbrev pub FollowsFrom : CompCode → List Parts → List PeriodTerm → List Parts → Type 0
 FollowsFrom code earlier [] [] = Unit {0}
 FollowsFrom code earlier [] (c ∷ cs) = ⊥
 FollowsFrom code earlier (p ∷ ps) [] = ⊥
-FollowsFrom code earlier (p ∷ ps) (c ∷ cs) = Stands code p earlier c × FollowsFrom code (earlier ++ c ∷ []) ps cs
+FollowsFrom code earlier (p ∷ ps) (c ∷ cs) = StandsAfter code p earlier c × FollowsFrom code (earlier ++ c ∷ []) ps cs
 
 -- the list of parts of a payment's periods
 abbrev pub Follows : CompCode → List PeriodTerm → List Parts → Type 0
@@ -135,19 +135,19 @@ SumsWithin Flat p c sum kept_sum = PartsWithin c sum kept_sum
 SumsWithin SpreadExclusive p c sum kept_sum = PartsWithin c sum kept_sum
 
 -- neither the rates of a period nor its amounts leave the range
-abbrev pub Within : CompCode → PeriodTerm → Parts → ℤ → ℤ → Type 0
-Within code p c sum kept_sum = IsSomeAnd p.rates RatesWithin × SumsWithin code p c sum kept_sum
+abbrev pub StaysWithin : CompCode → PeriodTerm → Parts → ℤ → ℤ → Type 0
+StaysWithin code p c sum kept_sum = IsSomeAnd p.rates RatesWithin × SumsWithin code p c sum kept_sum
 
 -- the period with that number, from 1, leaves the range
-pub record Passes (code : CompCode) (ps : List PeriodTerm) (number : ℕ) : Type 0 where
+pub record PeriodPasses (code : CompCode) (ps : List PeriodTerm) (number : ℕ) : Type 0 where
   pub from_one : 1 ≤ number
   pub earlier : List Parts
   pub period : PeriodTerm
   pub parts : Parts
   pub there : slice_get ps (number - 1) ≡ Some period
   pub follows : Follows code (take (number - 1) ps) earlier
-  pub stands : Stands code period earlier parts
-  pub passes : Within code period parts (total earlier +ℤ amount parts) (kept code earlier +ℤ kept_of code parts) → ⊥
+  pub stands : StandsAfter code period earlier parts
+  pub passes : StaysWithin code period parts (total earlier +ℤ amount parts) (sum_kept code earlier +ℤ kept_of code parts) → ⊥
 
 -- a sum rounded to the decimals of the currency, in units of 10^-places
 abbrev pub RoundedAt : CompCode → ℤ → ℤ → ℕ → ℤ → Type 0
@@ -170,7 +170,7 @@ code_for code (p ∷ q ∷ ps) = code
 
 -- the period with that number, from 1, leaves the range, in a payment whose rates are all there
 abbrev pub IsOutOfRange : CompCode → List PeriodTerm → ℕ → Type 0
-IsOutOfRange code ps number = AllPriced ps × Passes (code_for code ps) ps number
+IsOutOfRange code ps number = AllPriced ps × PeriodPasses (code_for code ps) ps number
 
 -- the amount of a payment: absent where the rates of a period are
 abbrev pub AmountOf : CompCode → List PeriodTerm → ℕ → Option ℤ → Type 0

@@ -4,17 +4,17 @@ use Rattle.irs_base.specs.Limits.{most_rate}
 use Rattle.irs_terms.specs.declared.amounts.FloatTerms.{FloatTerms}
 use Rattle.irs_terms.specs.declared.amounts.Leg.{Leg}
 use Rattle.irs_terms.specs.declared.amounts.Leg.TheVariants.{Fixed, Floating}
-use Rattle.irs_observed.specs.ObservedRates.{Fraction, IsPeriodRate, period_rate_at}
+use Rattle.irs_observed.specs.ObservedRates.{RateFraction, IsPeriodRate, period_rate_at}
 use Rattle.irs_observed.specs.declared.overnight_rate.OvernightRate.{OvernightRate}
 use Rattle.irs_observed.specs.declared.overnight_rate.OvernightRate.TheVariants.{Stated, Known, Absent, OutOfRange}
 use Rattle.irs_compound.specs.declared.periods.Rates.{Rates}
 use Rattle.irs_compound.specs.InForce.{InForce, value_in_force}
-use Rattle.irs_compound.specs.PeriodRates.{AreRates, Treats, fixed_rates_of, rates_by, rates_of, treated}
+use Rattle.irs_compound.specs.PeriodRates.{AreRates, Treats, fixed_rates_of, leg_rates, rates_of, treated}
 
 -- the rates of a period by the multiplier and spread in force on its unadjusted start and the fraction x. The
 -- base rate is the multiplier times x, and the rate is that plus the spread. Each is rounded once from its
 -- exact value. The treatment of a rate below 0 applies to the rounded rate, and the base rate stays
-pub record RatesOver (f : FloatTerms) (start : ℤ) (x : Fraction) (rates : Rates) : Type 0 where
+pub record RatesOver (f : FloatTerms) (start : ℤ) (x : RateFraction) (rates : Rates) : Type 0 where
   pub multiplier : ℤ
   pub spread : ℤ
   pub multiplies : InForce f.multiplier start multiplier
@@ -45,7 +45,7 @@ AreRatesIn leg start observed (Some r) rates = AreRatesBy leg start r rates
 -- ---- the same by functions
 
 -- the rates by a fraction
-unfoldable pub rates_over : FloatTerms → ℤ → Fraction → Rates
+unfoldable pub rates_over : FloatTerms → ℤ → RateFraction → Rates
 rates_over f start x = record {
   base = period_rate_at x (value_in_force f.multiplier start) (pos 0) f.rounding;
   all_in = treated f.treatment
@@ -66,7 +66,7 @@ overnight_rates_by (Floating f) start r = floating_rates_by f start r
 
 -- the rates of a period
 abbrev pub rates_in : Leg → ℤ → Option ℤ → Option OvernightRate → Option Rates
-rates_in leg start observed None = rates_by leg start observed
+rates_in leg start observed None = leg_rates leg start observed
 rates_in leg start observed (Some r) = overnight_rates_by leg start r
 
 -- the fraction of a rate that is known has a denominator above 0

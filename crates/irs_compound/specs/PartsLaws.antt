@@ -4,7 +4,7 @@ use Rattle.std.proofs.Common.{◌∙◌, List, [], ◌∷◌, ◌++◌, Option, 
 use Rattle.std.proofs.Common.{IsSome, All}
 use Rattle.std.proofs.lemmas.List.Elements.{All-head, All-tail, All-weaker}
 use Rattle.irs_base.proofs.RoundingLaws.{nearest_once, nearest_exists}
-use Rattle.irs_compound.specs.Amounts.{IsFraction, IsTerm, Interest, kept, StandsAt, Stands}
+use Rattle.irs_compound.specs.Amounts.{IsDayCountFraction, IsTermOver, Interest, sum_kept, StandsAt, StandsAfter}
 use Rattle.irs_compound.specs.Amounts.{FollowsFrom, AllPriced}
 use Rattle.irs_compound.specs.declared.periods.Rates.{Rates}
 use Rattle.irs_compound.specs.declared.periods.PeriodTerm.{PeriodTerm}
@@ -24,13 +24,13 @@ same_parts c d h k =
     ap (λ m. mk m c.extra) h ∙ ap (λ e. mk d.main e) k
 
 -- a balance earns one amount of interest in a period
-interest_once : (b r : ℤ) (p : PeriodTerm) (x y : ℤ) → IsFraction p.frac → Interest b r p.frac x
+interest_once : (b r : ℤ) (p : PeriodTerm) (x y : ℤ) → IsDayCountFraction p.frac → Interest b r p.frac x
     → Interest b r p.frac y → x ≡ y
 interest_once b r p x y f h k =
     nearest_once (b *ℤ r *ℤ p.frac.num) (p.frac.den *ℤ pos (10 ^ 9)) x y (divisor_above p.frac.den f.2) h k
 
 -- a period adds one pair of parts at given rates
-at_once : (code : CompCode) (p : PeriodTerm) (r : Rates) (before : ℤ) (c d : Parts) → IsFraction p.frac
+at_once : (code : CompCode) (p : PeriodTerm) (r : Rates) (before : ℤ) (c d : Parts) → IsDayCountFraction p.frac
     → StandsAt code p r before c → StandsAt code p r before d → c ≡ d
 at_once Simple p r before c d f h k = same_parts c d (h.0 ∙ sym k.0) (h.1 ∙ sym k.1)
 at_once Straight p r before c d f h k =
@@ -43,34 +43,34 @@ at_once SpreadExclusive p r before c d f h k =
     (interest_once (pos 100 *ℤ p.notional) (r.all_in -ℤ r.base) p c.extra d.extra f h.1 k.1)
 
 -- a period with rates adds one pair of parts
-priced_once : (o : Option Rates) (code : CompCode) (p : PeriodTerm) (before : ℤ) (c d : Parts) → IsFraction p.frac
+priced_once : (o : Option Rates) (code : CompCode) (p : PeriodTerm) (before : ℤ) (c d : Parts) → IsDayCountFraction p.frac
     → IsSomeAnd o (λ r. StandsAt code p r before c) → IsSomeAnd o (λ r. StandsAt code p r before d) → c ≡ d
 priced_once None code p before c d f h k = absurd h
 priced_once (Some r) code p before c d f h k = at_once code p r before c d f h k
 
 -- a period adds one pair of parts
-pub stands_once : (code : CompCode) (p : PeriodTerm) (earlier : List Parts) (c d : Parts) → IsFraction p.frac
-    → Stands code p earlier c → Stands code p earlier d → c ≡ d
-stands_once code p earlier c d f h k = priced_once p.rates code p (kept code earlier) c d f h k
+pub stands_once : (code : CompCode) (p : PeriodTerm) (earlier : List Parts) (c d : Parts) → IsDayCountFraction p.frac
+    → StandsAfter code p earlier c → StandsAfter code p earlier d → c ≡ d
+stands_once code p earlier c d f h k = priced_once p.rates code p (sum_kept code earlier) c d f h k
 
 -- two lists over the same periods are equal, by induction on the earlier amounts
 pub follows_once : (code : CompCode) (earlier : List Parts) (ps : List PeriodTerm) (cs ds : List Parts)
-    → All (λ p. IsFraction p.frac) ps → FollowsFrom code earlier ps cs → FollowsFrom code earlier ps ds → cs ≡ ds
+    → All (λ p. IsDayCountFraction p.frac) ps → FollowsFrom code earlier ps cs → FollowsFrom code earlier ps ds → cs ≡ ds
 follows_once code earlier [] [] [] f h k = refl
 follows_once code earlier [] [] (d ∷ ds) f h k = absurd k
 follows_once code earlier [] (c ∷ cs) ds f h k = absurd h
 follows_once code earlier (p ∷ ps) [] ds f h k = absurd h
 follows_once code earlier (p ∷ ps) (c ∷ cs) [] f h k = absurd k
 follows_once code earlier (p ∷ ps) (c ∷ cs) (d ∷ ds) f h k =
-    let e : c ≡ d = stands_once code p earlier c d (All-head (λ q. IsFraction q.frac) p ps f) h.0 k.0 in
+    let e : c ≡ d = stands_once code p earlier c d (All-head (λ q. IsDayCountFraction q.frac) p ps f) h.0 k.0 in
     let k' : FollowsFrom code (earlier ++ c ∷ []) ps ds =
     subst (λ (x : Parts). FollowsFrom code (earlier ++ x ∷ []) ps ds) (sym e) k.1 in
     let t : cs ≡ ds =
-    follows_once code (earlier ++ c ∷ []) ps cs ds (All-tail (λ q. IsFraction q.frac) p ps f) h.1 k' in
+    follows_once code (earlier ++ c ∷ []) ps cs ds (All-tail (λ q. IsDayCountFraction q.frac) p ps f) h.1 k' in
     cc
 
 -- a period with rates adds some
-pub at_exists : (code : CompCode) (p : PeriodTerm) (r : Rates) (before : ℤ) → IsFraction p.frac
+pub at_exists : (code : CompCode) (p : PeriodTerm) (r : Rates) (before : ℤ) → IsDayCountFraction p.frac
     → (c : Parts) × StandsAt code p r before c
 at_exists Simple p r before f = (record { main = p.notional *ℤ r.all_in *ℤ p.frac.num; extra = pos 0 }, (refl, refl))
 at_exists Straight p r before f =
@@ -91,31 +91,31 @@ at_exists SpreadExclusive p r before f =
     (record { main = m.0; extra = n.0 }, (m.1, n.1))
 
 -- a period with rates adds a pair of parts
-priced_exists : (o : Option Rates) (code : CompCode) (p : PeriodTerm) (before : ℤ) → IsFraction p.frac → IsSome o
+priced_exists : (o : Option Rates) (code : CompCode) (p : PeriodTerm) (before : ℤ) → IsDayCountFraction p.frac → IsSome o
     → (c : Parts) × IsSomeAnd o (λ r. StandsAt code p r before c)
 priced_exists None code p before f h = cc
 priced_exists (Some r) code p before f h = at_exists code p r before f
 
 -- so it does after earlier periods
-pub stands_exists : (code : CompCode) (p : PeriodTerm) (earlier : List Parts) → IsFraction p.frac → IsSome p.rates
-    → (c : Parts) × Stands code p earlier c
-stands_exists code p earlier f h = priced_exists p.rates code p (kept code earlier) f h
+pub stands_exists : (code : CompCode) (p : PeriodTerm) (earlier : List Parts) → IsDayCountFraction p.frac → IsSome p.rates
+    → (c : Parts) × StandsAfter code p earlier c
+stands_exists code p earlier f h = priced_exists p.rates code p (sum_kept code earlier) f h
 
 -- each period of a payment adds some
-pub follows_exists : (code : CompCode) (earlier : List Parts) (ps : List PeriodTerm) → All (λ p. IsFraction p.frac) ps
+pub follows_exists : (code : CompCode) (earlier : List Parts) (ps : List PeriodTerm) → All (λ p. IsDayCountFraction p.frac) ps
     → AllPriced ps → (cs : List Parts) × FollowsFrom code earlier ps cs
 follows_exists code earlier [] f h = ([], tt)
 follows_exists code earlier (p ∷ ps) f h =
-    let c = stands_exists code p earlier (All-head (λ q. IsFraction q.frac) p ps f)
+    let c = stands_exists code p earlier (All-head (λ q. IsDayCountFraction q.frac) p ps f)
     (All-head (λ q. IsSome q.rates) p ps h) in
-    let cs = follows_exists code (earlier ++ c.0 ∷ []) ps (All-tail (λ q. IsFraction q.frac) p ps f)
+    let cs = follows_exists code (earlier ++ c.0 ∷ []) ps (All-tail (λ q. IsDayCountFraction q.frac) p ps f)
     (All-tail (λ q. IsSome q.rates) p ps h) in
     (c.0 ∷ cs.0, (c.1, cs.1))
 
 -- each period has a fraction
 abbrev pub AllFractions : List PeriodTerm → Type 0
-AllFractions ps = All (λ p. IsFraction p.frac) ps
+AllFractions ps = All (λ p. IsDayCountFraction p.frac) ps
 
 -- terms with one denominator are fractions
-pub all_fractions : (den : ℤ) (ps : List PeriodTerm) → All (IsTerm den) ps → AllFractions ps
-all_fractions den ps h = All-weaker (IsTerm den) (λ p. IsFraction p.frac) (λ p t. t.1) ps h
+pub all_fractions : (den : ℤ) (ps : List PeriodTerm) → All (IsTermOver den) ps → AllFractions ps
+all_fractions den ps h = All-weaker (IsTermOver den) (λ p. IsDayCountFraction p.frac) (λ p t. t.1) ps h

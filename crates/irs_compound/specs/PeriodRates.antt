@@ -54,8 +54,8 @@ AreRates (Floating float) start (Some observed) None = ⊥
 AreRates (Floating float) start (Some observed) (Some rates) = RatesOf float start observed rates
 
 -- a rounded rate as a function
-abbrev pub rate_at : Rounding → ℤ → ℤ
-rate_at rounding exact =
+abbrev pub rate_by_rounding : Rounding → ℤ → ℤ
+rate_by_rounding rounding exact =
     rounded rounding.dir exact (pos (10 ^ (18 - rounding.places))) *ℤ pos (10 ^ (9 - rounding.places))
 
 -- a rounded rate by its treatment as a function
@@ -70,9 +70,9 @@ exact_base f start observed = value_in_force f.multiplier start *ℤ observed
 -- the rates as a function
 unfoldable pub rates_of : FloatTerms → ℤ → ℤ → Rates
 rates_of f start observed = record {
-  base = rate_at f.rounding (exact_base f start observed);
+  base = rate_by_rounding f.rounding (exact_base f start observed);
   all_in = treated f.treatment
-      (rate_at f.rounding (exact_base f start observed +ℤ value_in_force f.spread start *ℤ pos (10 ^ 9)));
+      (rate_by_rounding f.rounding (exact_base f start observed +ℤ value_in_force f.spread start *ℤ pos (10 ^ 9)));
 }
 
 -- the rates of a fixed stream as a function
@@ -80,9 +80,9 @@ unfoldable pub fixed_rates_of : StepValues → ℤ → Rates
 fixed_rates_of values start = record { base = value_in_force values start; all_in = value_in_force values start }
 
 -- the rates by the leg as a function
-abbrev pub rates_by : Leg → ℤ → Option ℤ → Option Rates
-rates_by (Fixed values) start observed = Some (fixed_rates_of values start)
-rates_by (Floating float) start observed = option_map (rates_of float start) observed
+abbrev pub leg_rates : Leg → ℤ → Option ℤ → Option Rates
+leg_rates (Fixed values) start observed = Some (fixed_rates_of values start)
+leg_rates (Floating float) start observed = option_map (rates_of float start) observed
 
 -- the size of a rounded rate, in units of 10^-9: ten times the greatest rate, and the greatest spread
 abbrev pub most_rounded_rate : ℕ

@@ -2,7 +2,8 @@
 ghost use Rattle.std.specs.Prelude.{◌≡◌, ◌-◌, ◌≤◌, IfOk, IfErr, length, nat_lt, pos, ◌≤ℤ◌};
 ghost use Rattle.irs_base.specs.Order.{First};
 ghost use Rattle.irs_daycount.specs.Actual.{act_act_denominator};
-ghost use Rattle.irs_compound.specs.Amounts.{IsPayment, AllPriced, Passes, RoundedAt, code_for, most_places};
+ghost use Rattle.irs_compound.specs.Amounts.{IsPaymentOfTerms, AllPriced, PeriodPasses, RoundedAt, code_for};
+ghost use Rattle.irs_compound.specs.Amounts.{most_currency_places};
 ghost use Rattle.irs_compound.specs.Private.Balances.{BalanceFits, Balances};
 ghost use Rattle.irs_compound.specs.Outcomes.{MeetsPosition};
 ghost use Rattle.irs_compound.specs.Private.Outcomes.{pay_of};
@@ -17,9 +18,9 @@ use irs_terms::CompCode;
 /// The amount of a payment that has all its rates, in units of 10^-places, or the first period that
 /// leaves the range. One period is never compounded.
 pub fn amount_by(code: CompCode, periods: &[PeriodTerm], places: u8) -> Result<i128, OutOfRange>
-    requires payment { IsPayment periods.now }
+    requires payment { IsPaymentOfTerms periods.now }
     requires priced { AllPriced periods.now }
-    requires places_fit { places ≤ most_places }
+    requires places_fit { places ≤ most_currency_places }
     ensures { MeetsPosition (pay_of (code_for code periods.now) periods.now places) result }
 {
     compounded(code_for(code, periods), periods, places)
@@ -36,9 +37,9 @@ fn code_for(code: CompCode, periods: &[PeriodTerm]) -> CompCode
 }
 
 fn compounded(code: CompCode, periods: &[PeriodTerm], places: u8) -> Result<i128, OutOfRange>
-    requires payment { IsPayment periods.now }
+    requires payment { IsPaymentOfTerms periods.now }
     requires priced { AllPriced periods.now }
-    requires places_fit { places ≤ most_places }
+    requires places_fit { places ≤ most_currency_places }
     ensures { MeetsPosition (pay_of code periods.now places) result }
 {
     let balance = balance_of(code, periods)?;
@@ -47,10 +48,10 @@ fn compounded(code: CompCode, periods: &[PeriodTerm], places: u8) -> Result<i128
 
 // The balance over all periods of a payment.
 fn balance_of(code: CompCode, periods: &[PeriodTerm]) -> Result<Balance, OutOfRange>
-    requires payment { IsPayment periods.now }
+    requires payment { IsPaymentOfTerms periods.now }
     requires priced { AllPriced periods.now }
     ensures ok { IfOk result (λ b. Balances code periods.now (length periods.now) b) }
-    ensures out { IfErr result (λ e. First nat_lt (Passes code periods.now) e.period) }
+    ensures out { IfErr result (λ e. First nat_lt (PeriodPasses code periods.now) e.period) }
 {
     let mut balance = Balance { sum: 0, kept: 0 };
     let mut position: u32 = 0;
@@ -69,7 +70,7 @@ fn rounded_sum(code: CompCode, balance: Balance, den: i64, places: u8) -> i128
     requires den_low { pos 1 ≤ℤ den }
     requires den_high { den ≤ℤ pos act_act_denominator }
     requires balance_fits { BalanceFits code den balance }
-    requires places_fit { places ≤ most_places }
+    requires places_fit { places ≤ most_currency_places }
     ensures { RoundedAt code den balance.sum places result }
 {
     match code {

@@ -10,10 +10,11 @@ ghost use Rattle.irs_base.specs.Limits.{most_notional, most_rate};
 ghost use Rattle.irs_terms.specs.Lawful.{IsNotional};
 ghost use Rattle.irs_daycount.specs.Actual.{act_act_denominator};
 ghost use Rattle.irs_compound.specs.declared.periods.Parts.{Parts};
-ghost use Rattle.irs_compound.specs.Amounts.{IsTerm, StandsAt, PartsWithin, RatesWithin, amount, kept_of, most_amount};
+ghost use Rattle.irs_compound.specs.Amounts.{IsTermOver, StandsAt, PartsWithin, RatesWithin, amount, kept_of};
+ghost use Rattle.irs_compound.specs.Amounts.{most_amount};
 ghost use Rattle.irs_compound.specs.Amounts.{most_exact};
 ghost use Rattle.irs_compound.specs.Private.Amounts.{most_balance, most_product};
-ghost use Rattle.irs_compound.specs.Private.Balances.{BalanceFits, Takes, Stops, after};
+ghost use Rattle.irs_compound.specs.Private.Balances.{BalanceFits, Takes, Stops, balance_after};
 
 use crate::interest::{earned, interest};
 use crate::periods::{Parts, PeriodTerm, Rates};
@@ -39,7 +40,7 @@ pub struct Balance {
 /// The balance with one more period, which has its rates; `None` where a rate, an amount or a sum
 /// leaves the range.
 pub fn next_balance(code: CompCode, p: &PeriodTerm, before: Balance) -> Option<Balance>
-    requires term { IsTerm p.now.frac.den p.now }
+    requires term { IsTermOver p.now.frac.den p.now }
     requires priced { IsSome p.now.rates }
     requires before_fits { BalanceFits code p.now.frac.den before }
     ensures some { IfSome result (λ next. Takes code p.now before next) }
@@ -69,7 +70,7 @@ fn are_within(rates: Rates) -> bool
 
 // Without compounding: notional times rate times fraction.
 fn exact_parts(p: &PeriodTerm, rates: Rates) -> Parts
-    requires term { IsTerm p.now.frac.den p.now }
+    requires term { IsTermOver p.now.frac.den p.now }
     requires rates_fit { RatesWithin rates }
     ensures parts { StandsAt CompCode.Simple p.now rates (pos 0) result }
     ensures size { unsigned_abs result.main ≤ most_product }
@@ -82,7 +83,7 @@ fn exact_parts(p: &PeriodTerm, rates: Rates) -> Parts
 
 // Straight: the notional and all earlier amounts bear interest at the rate.
 fn straight_parts(p: &PeriodTerm, rates: Rates, before: i128) -> Parts
-    requires term { IsTerm p.now.frac.den p.now }
+    requires term { IsTermOver p.now.frac.den p.now }
     requires rates_fit { RatesWithin rates }
     requires before_fits { unsigned_abs before ≤ most_amount }
     ensures { StandsAt CompCode.Straight p.now rates before result }
@@ -95,7 +96,7 @@ fn straight_parts(p: &PeriodTerm, rates: Rates, before: i128) -> Parts
 
 // Flat: the notional bears interest at the rate, all earlier amounts at the base rate.
 fn flat_parts(p: &PeriodTerm, rates: Rates, before: i128) -> Parts
-    requires term { IsTerm p.now.frac.den p.now }
+    requires term { IsTermOver p.now.frac.den p.now }
     requires rates_fit { RatesWithin rates }
     requires before_fits { unsigned_abs before ≤ most_amount }
     ensures { StandsAt CompCode.Flat p.now rates before result }
@@ -109,7 +110,7 @@ fn flat_parts(p: &PeriodTerm, rates: Rates, before: i128) -> Parts
 // Spread exclusive: the notional and all earlier compounded parts bear interest at the base rate, the
 // notional alone at what the rate is above it.
 fn exclusive_parts(p: &PeriodTerm, rates: Rates, before: i128) -> Parts
-    requires term { IsTerm p.now.frac.den p.now }
+    requires term { IsTermOver p.now.frac.den p.now }
     requires rates_fit { RatesWithin rates }
     requires before_fits { unsigned_abs before ≤ most_amount }
     ensures { StandsAt CompCode.SpreadExclusive p.now rates before result }
@@ -188,8 +189,8 @@ fn exact_sum(before: i128, parts: Parts, den: i64) -> Option<i128>
 fn add_parts(code: CompCode, before: Balance, parts: Parts) -> Option<Balance>
     requires sum_fits { unsigned_abs before.sum ≤ most_amount }
     requires kept_fits { unsigned_abs before.kept ≤ most_amount }
-    ensures { SomeIff result (PartsWithin parts (after code before parts).sum (after code before parts).kept)
-        (after code before parts) }
+    ensures { SomeIff result (PartsWithin parts (balance_after code before parts).sum (balance_after code before parts).kept)
+        (balance_after code before parts) }
 {
     if parts.main.unsigned_abs() > MOST_AMOUNT || parts.extra.unsigned_abs() > MOST_AMOUNT {
         return None;

@@ -3,7 +3,8 @@ ghost use Rattle.std.specs.Prelude.{◌≡◌, ℕ, ℤ, ◌≤◌, List, nat_lt
 ghost use Rattle.irs_base.specs.Outcomes.{unless_broken};
 ghost use Rattle.irs_terms.specs.declared.codes.CompCode.{CompCode};
 ghost use Rattle.irs_compound.specs.declared.periods.PeriodTerm.{PeriodTerm};
-ghost use Rattle.irs_compound.specs.Amounts.{IsPayment, AllPriced, Passes, Pays, code_for, most_places};
+ghost use Rattle.irs_compound.specs.Amounts.{IsPaymentOfTerms, AllPriced, PeriodPasses, Pays, code_for};
+ghost use Rattle.irs_compound.specs.Amounts.{most_currency_places};
 ghost use Rattle.irs_compound.specs.AmountLaws.{one_amount_of, some_amount_of};
 ghost use Rattle.irs_compound.specs.Outcomes.{MeetsPosition};
 
@@ -34,19 +35,19 @@ pub trait Compounding {
     /// notional and a fraction of one of the seven day counts. `places` is at most 3. `OutOfRange` is
     /// the first period where a rate, an amount or a sum leaves the range.
     fn amount(&self, periods: &[PeriodTerm], places: u8) -> Result<i128, OutOfRange>
-        requires payment { IsPayment periods.now }
+        requires payment { IsPaymentOfTerms periods.now }
         requires priced { AllPriced periods.now }
-        requires places_fit { places ≤ most_places }
+        requires places_fit { places ≤ most_currency_places }
         ensures { let amount_of = unless_broken nat_lt (passes self.now periods.now) (pays self.now periods.now places) in
             MeetsPosition amount_of result };
 
     // Periods pay at most one amount.
     ghost one_amount: { (s : Self) (ps : List PeriodTerm) (k : ℕ) (m n : ℤ)
-        → IsPayment ps → pays s ps k m → pays s ps k n → m ≡ n };
+        → IsPaymentOfTerms ps → pays s ps k m → pays s ps k n → m ≡ n };
 
     // Where all rates are there, they pay one.
     ghost some_amount: { (s : Self) (ps : List PeriodTerm) (k : ℕ)
-        → IsPayment ps → AllPriced ps → (m : ℤ) × pays s ps k m };
+        → IsPaymentOfTerms ps → AllPriced ps → (m : ℤ) × pays s ps k m };
 }
 
 /// No compounding: the sum of notional times rate times fraction, exact, rounded once.
@@ -56,7 +57,7 @@ pub struct Simple;
 impl Compounding for Simple {
     ghost pays = { λ s ps. Pays (code_for CompCode.Simple ps) ps };
 
-    ghost passes = { λ s ps. Passes (code_for CompCode.Simple ps) ps };
+    ghost passes = { λ s ps. PeriodPasses (code_for CompCode.Simple ps) ps };
 
     fn amount(&self, periods: &[PeriodTerm], places: u8) -> Result<i128, OutOfRange> {
         amount_by(CompCode::Simple, periods, places)
@@ -75,7 +76,7 @@ pub struct Straight;
 impl Compounding for Straight {
     ghost pays = { λ s ps. Pays (code_for CompCode.Straight ps) ps };
 
-    ghost passes = { λ s ps. Passes (code_for CompCode.Straight ps) ps };
+    ghost passes = { λ s ps. PeriodPasses (code_for CompCode.Straight ps) ps };
 
     fn amount(&self, periods: &[PeriodTerm], places: u8) -> Result<i128, OutOfRange> {
         amount_by(CompCode::Straight, periods, places)
@@ -94,7 +95,7 @@ pub struct Flat;
 impl Compounding for Flat {
     ghost pays = { λ s ps. Pays (code_for CompCode.Flat ps) ps };
 
-    ghost passes = { λ s ps. Passes (code_for CompCode.Flat ps) ps };
+    ghost passes = { λ s ps. PeriodPasses (code_for CompCode.Flat ps) ps };
 
     fn amount(&self, periods: &[PeriodTerm], places: u8) -> Result<i128, OutOfRange> {
         amount_by(CompCode::Flat, periods, places)
@@ -114,7 +115,7 @@ pub struct SpreadExclusive;
 impl Compounding for SpreadExclusive {
     ghost pays = { λ s ps. Pays (code_for CompCode.SpreadExclusive ps) ps };
 
-    ghost passes = { λ s ps. Passes (code_for CompCode.SpreadExclusive ps) ps };
+    ghost passes = { λ s ps. PeriodPasses (code_for CompCode.SpreadExclusive ps) ps };
 
     fn amount(&self, periods: &[PeriodTerm], places: u8) -> Result<i128, OutOfRange> {
         amount_by(CompCode::SpreadExclusive, periods, places)

@@ -13,7 +13,7 @@ ghost use Rattle.irs_observed.specs.OvernightRates.{HasBounds};
 ghost use Rattle.irs_compound.specs.declared.periods.Rates.{Rates};
 ghost use Rattle.irs_compound.specs.OvernightRates.{AreRatesIn, IsAbove, floating_rates_by, out_of_range, overnight_rates_by};
 ghost use Rattle.irs_compound.specs.OvernightRates.{rates_in, rates_over};
-ghost use Rattle.irs_compound.specs.PeriodRates.{fixed_rates_of, rates_by, rates_of, treated};
+ghost use Rattle.irs_compound.specs.PeriodRates.{fixed_rates_of, leg_rates, rates_of, treated};
 
 use crate::periods::Rates;
 use crate::rates::treated;
@@ -69,7 +69,7 @@ fn without_parameters(leg: &Leg, start: Day, observed: Option<i64>) -> Option<Ra
     requires leg { IsLawfulLeg leg.now }
     requires rises { LegStepsRise leg.now }
     requires observed_fits { IfSome observed IsRate }
-    ensures value { result ≡ rates_by leg.now start observed }
+    ensures value { result ≡ leg_rates leg.now start observed }
     ensures size { IfSome result (λ r. unsigned_abs r.all_in ≤ most_period_rate) }
 {
     rates_of_rising(leg, start, observed)

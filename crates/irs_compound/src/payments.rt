@@ -3,8 +3,8 @@
 ghost use Rattle.std.specs.Prelude.{◌≡◌, ◌≤◌, ℕ, ℤ, List, length, Option, IfSome, MatchBool, unsigned_abs};
 ghost use Rattle.irs_base.specs.Outcomes.{Determined};
 ghost use Rattle.irs_compound.specs.declared.periods.Parts.{Parts};
-ghost use Rattle.irs_compound.specs.Amounts.{IsPayment, AllPriced, SomeUnpriced, IsOutOfRange, Follows};
-ghost use Rattle.irs_compound.specs.Amounts.{most_places, most_units};
+ghost use Rattle.irs_compound.specs.Amounts.{IsPaymentOfTerms, AllPriced, SomeUnpriced, IsOutOfRange, Follows};
+ghost use Rattle.irs_compound.specs.Amounts.{most_currency_places, most_units};
 ghost use Rattle.irs_compound.specs.Outcomes.{MeetsPosition, payment_amount_of};
 
 use crate::amounts::amount_by;
@@ -22,8 +22,8 @@ pub fn payment_amount(
     periods: &[PeriodTerm],
     places: u8,
 ) -> Result<Option<i128>, OutOfRange>
-    requires payment { IsPayment periods.now }
-    requires places_fit { places ≤ most_places }
+    requires payment { IsPaymentOfTerms periods.now }
+    requires places_fit { places ≤ most_currency_places }
     ensures meets { MeetsPosition (payment_amount_of code periods.now places) result }
 {
     if !all_priced(periods) {
@@ -38,7 +38,7 @@ pub fn payment_amount(
 /// A law: a payment has one amount, present or absent, or one first period that leaves the range. There
 /// is one list of what each of its periods adds.
 pub fn payment_amount_is_determined(code: CompCode, periods: &[PeriodTerm], places: u8)
-    requires { IsPayment periods.now }
+    requires { IsPaymentOfTerms periods.now }
     ensures determined { Determined (payment_amount_of code periods.now places) }
     ensures one_list { (cs ds : List Parts) → Follows code periods.now cs → Follows code periods.now ds → cs ≡ ds }
 {}
@@ -46,8 +46,8 @@ pub fn payment_amount_is_determined(code: CompCode, periods: &[PeriodTerm], plac
 /// A law: an amount is at most 10^14 units of currency in size, and a position that leaves the range is
 /// one of the payment's.
 pub fn payment_amount_is_bounded(code: CompCode, periods: &[PeriodTerm], places: u8)
-    requires payment { IsPayment periods.now }
-    requires places_fit { places ≤ most_places }
+    requires payment { IsPaymentOfTerms periods.now }
+    requires places_fit { places ≤ most_currency_places }
     ensures size { (m : Option ℤ) → (payment_amount_of code periods.now places).Answers m
         → IfSome m (λ units. unsigned_abs units ≤ most_units places) }
     ensures position { (n : ℕ) → IsOutOfRange code periods.now n → (1 ≤ n) × (n ≤ length periods.now) }

@@ -11,7 +11,7 @@ ghost use Rattle.irs_terms.specs.Lawful.{IsRate, IsLawfulValues, IsLawfulFloat};
 ghost use Rattle.irs_base.specs.Limits.{most_rate};
 ghost use Rattle.irs_compound.specs.declared.periods.Rates.{Rates};
 ghost use Rattle.irs_compound.specs.InForce.{value_in_force};
-ghost use Rattle.irs_compound.specs.PeriodRates.{RatesOf, FixedRatesOf, rate_at, treated};
+ghost use Rattle.irs_compound.specs.PeriodRates.{RatesOf, FixedRatesOf, rate_by_rounding, treated};
 ghost use Rattle.irs_compound.specs.Private.PeriodRates.{all_in_at};
 ghost use Rattle.irs_compound.specs.PeriodRates.{rates_of, fixed_rates_of};
 ghost use Rattle.irs_compound.specs.Private.PeriodRates.{most_exact_base, most_exact_rate};
@@ -79,7 +79,7 @@ pub(crate) fn rates_from(f: &FloatTerms, multiplier: i128, spread: i128, observe
     requires multiplier_fits { IsRate multiplier }
     requires spread_fits { IsRate spread }
     requires observed_fits { unsigned_abs observed ≤ most_rate }
-    ensures base { result.base ≡ rate_at f.now.rounding (multiplier *ℤ observed) }
+    ensures base { result.base ≡ rate_by_rounding f.now.rounding (multiplier *ℤ observed) }
     ensures all_in { result.all_in ≡ all_in_at f.now (multiplier *ℤ observed +ℤ spread *ℤ pos (10 ^ 9)) }
     ensures base_fits { unsigned_abs result.base ≤ most_rounded_rate }
     ensures all_in_fits { unsigned_abs result.all_in ≤ most_rounded_rate }
@@ -138,7 +138,7 @@ fn with_spread(exact: i128, spread: i128) -> i128
 fn rounded_rate(rounding: Rounding, exact: i128) -> i64
     requires exact_fits { unsigned_abs exact ≤ most_exact_rate }
     requires places_fit { rounding.places ≤ 9 }
-    ensures value { result ≡ rate_at rounding exact }
+    ensures value { result ≡ rate_by_rounding rounding exact }
     ensures size { unsigned_abs result ≤ most_rounded_rate }
 {
     scaled(rounded_whole(rounding, exact), rounding.places) as i64

@@ -5,7 +5,7 @@ ghost use Rattle.irs_terms.specs.Lawful.{IsRate, IsLawfulValues, IsLawfulFloat, 
 ghost use Rattle.irs_terms.specs.StepDates.{StepsRise, LegStepsRise};
 ghost use Rattle.irs_compound.specs.declared.periods.Rates.{Rates};
 ghost use Rattle.irs_compound.specs.InForce.{value_in_force};
-ghost use Rattle.irs_compound.specs.PeriodRates.{AreRates, rates_of, fixed_rates_of, rates_by, most_rounded_rate};
+ghost use Rattle.irs_compound.specs.PeriodRates.{AreRates, rates_of, fixed_rates_of, leg_rates, most_rounded_rate};
 
 use crate::periods::Rates;
 use crate::rates::{fixed_from, rates_from};
@@ -23,7 +23,7 @@ pub fn rates_of_rising(leg: &Leg, start: Day, observed: Option<i64>) -> Option<R
     requires rises { LegStepsRise leg.now }
     requires observed_fits { IfSome observed IsRate }
     ensures rates { AreRates leg.now start observed result }
-    ensures value { result ≡ rates_by leg.now start observed }
+    ensures value { result ≡ leg_rates leg.now start observed }
     ensures size { IfSome result (λ r. unsigned_abs r.all_in ≤ most_rounded_rate) }
 {
     rates_by_leg(leg, start, observed)
@@ -39,7 +39,7 @@ fn rates_by_leg(leg: &Leg, start: Day, observed: Option<i64>) -> Option<Rates>
     requires leg { IsLawfulLeg leg.now }
     requires rises { LegStepsRise leg.now }
     requires observed_fits { IfSome observed IsRate }
-    ensures { result ≡ rates_by leg.now start observed }
+    ensures { result ≡ leg_rates leg.now start observed }
 {
     match leg {
         Leg::Fixed(values) => Some(fixed_of_rising(values, start)),

@@ -9,14 +9,15 @@ use Rattle.irs_observed.specs.DailyRates.{AreKnown, DailyRates, Through, daily_r
 use Rattle.irs_observed.specs.Factors.{GrowsBy, one_factor}
 use Rattle.irs_observed.specs.ObservationPeriods.{ObservedPeriod}
 use Rattle.irs_observed.specs.ObservedRates.{AddsBy, days_of_year, rate_precision}
-use Rattle.irs_observed.specs.OvernightRates.{OvernightSource, period_of, periods_of}
+use Rattle.irs_observed.specs.OvernightRates.{OvernightSource, period_of, source_periods}
 use Rattle.irs_observed.specs.declared.method.DailyRateMethod.{DailyRateMethod}
 use Rattle.irs_observed.specs.declared.method.DailyRateMethod.TheVariants.{Compounding, Averaging}
 use Rattle.irs_observed.specs.declared.observation.Observation.{Observation}
 use Rattle.irs_observed.proofs.FactorLemmas.{one_grown}
 use Rattle.irs_observed.proofs.OutcomeLemmas.{one_observations}
 use Rattle.irs_observed.proofs.ThroughLemmas.{one_through}
-use Rattle.irs_daily.specs.ObservedRows.{AreDailyRows, AreObservedRows, AreRowsBy, AreRowsOf, AreRowsOfKind, day_rows, joined}
+use Rattle.irs_daily.specs.ObservedRows.{AreDailyRows, AreObservedRows, AreRowsBy, AreRowsOf, AreRowsOfKind, day_rows}
+use Rattle.irs_daily.specs.ObservedRows.{joined_rows}
 use Rattle.irs_daily.specs.PeriodFactors.{IsFactor, IsFactorOrAbsent}
 use Rattle.irs_daily.specs.declared.rows.ObservedRow.{ObservedRow}
 use Rattle.irs_daily.specs.declared.rows.ObservedRow.TheVariants.{Daily}
@@ -95,7 +96,7 @@ one_of_kind source daily i kind a b (inr h) (inr k) =
 module _ (source : OvernightSource) (rates : RateTable) where
   one_of : (i : ℕ) (a b : List ObservedRow) → AreRowsOf source rates i a → AreRowsOf source rates i b → a ≡ b
   one_of i a b h k =
-      let same = one_kind source.stream source.span (periods_of source) i h.kind k.kind h.is_kind k.is_kind in
+      let same = one_kind source.stream source.span (source_periods source) i h.kind k.kind h.is_kind k.is_kind in
       let daily : DailyRates = daily_rates rates source.index in
       one_of_kind source daily i k.kind a b
       (subst (λ (kind : PeriodKind). AreRowsOfKind source daily i kind a) same h.are_rows) k.are_rows
@@ -105,4 +106,4 @@ module _ (source : OvernightSource) (rates : RateTable) where
   pub one_list : (a b : List ObservedRow) → AreObservedRows source rates a → AreObservedRows source rates b → a ≡ b
   one_list a b h k =
       let parts = one_numbered (AreRowsOf source rates) one_of 1 h.parts k.parts (h.many ∙ sym k.many) h.each k.each in
-      h.is ∙ ap joined parts ∙ sym k.is
+      h.is ∙ ap joined_rows parts ∙ sym k.is

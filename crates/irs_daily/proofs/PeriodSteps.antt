@@ -10,10 +10,10 @@ use Rattle.irs_resets.specs.declared.observed.PeriodKind.{PeriodKind}
 use Rattle.irs_resets.proofs.KindLaws.{one_kind}
 use Rattle.irs_observed.specs.DailyRates.{DailyRates, daily_rates}
 use Rattle.irs_observed.specs.ObservationPeriods.{ObservedPeriod}
-use Rattle.irs_observed.specs.ObservationRules.{Lacks}
+use Rattle.irs_observed.specs.ObservationRules.{LacksObservations}
 use Rattle.irs_observed.specs.Observations.{AreObservations}
 use Rattle.irs_observed.specs.ObservedRates.{PassesLimit}
-use Rattle.irs_observed.specs.OvernightRates.{IsKindIn, OvernightSource, period_of, periods_of}
+use Rattle.irs_observed.specs.OvernightRates.{IsKindIn, OvernightSource, period_of, source_periods}
 use Rattle.irs_observed.specs.RateOrigins.{HasOwnRate, StatesRate}
 use Rattle.irs_observed.specs.declared.method.DailyRateMethod.{DailyRateMethod}
 use Rattle.irs_observed.specs.declared.observation.NoObservations.{NoObservations}
@@ -29,7 +29,7 @@ use Rattle.irs_daily.specs.declared.rows.ObservedRow.TheVariants.{Stub}
 -- ---- daily rates
 
 module _ (method : DailyRateMethod) (daily : DailyRates) (p : ObservedPeriod) (i : ℕ) (os : List Observation)
-    (none : (why : NoObservations) → Lacks p why → ⊥) (are : AreObservations p os) where
+    (none : (why : NoObservations) → LacksObservations p why → ⊥) (are : AreObservations p os) where
   none_daily : (PassesLimit method daily os → ⊥) → (why : NoRowsWhy) → HasNoDailyRows method daily p why → ⊥
   none_daily kept (Unobserved why) h = none why h
   none_daily kept OutOfRange h =
@@ -62,7 +62,7 @@ module _ (source : OvernightSource) (rates : RateTable) (i : ℕ) (kind : Period
     λ why h. h.daily (
       rate,
       subst (λ (k : PeriodKind). StatesRate k source.stream.stubs rate)
-          (sym (one_kind source.stream source.span (periods_of source) i h.kind kind h.is_kind is)) states,
+          (sym (one_kind source.stream source.span (source_periods source) i h.kind kind h.is_kind is)) states,
     ),
     record { kind = kind; is_kind = is; are_rows = inl ((rate, states), ap₂ ◌∷◌ head days) },
   )

@@ -7,7 +7,7 @@ use Rattle.irs_resets.specs.Rates.{RateTable}
 use Rattle.irs_resets.proofs.FileLemmas.{below}
 use Rattle.irs_resets.proofs.RowLemmas.{many_rows}
 use Rattle.irs_observed.specs.OvernightRates.{OvernightSource}
-use Rattle.irs_daily.specs.ObservedRows.{AreObservedRows, AreRowsOf, joined}
+use Rattle.irs_daily.specs.ObservedRows.{AreObservedRows, AreRowsOf, joined_rows}
 use Rattle.irs_daily.specs.Outcomes.{HasNoRows, NoneBefore}
 use Rattle.irs_daily.specs.declared.rows.NoRowsWhy.{NoRowsWhy}
 use Rattle.irs_daily.specs.declared.rows.ObservedRow.{ObservedRow}
@@ -20,7 +20,7 @@ pub record ListsTo (source : OvernightSource) (rates : RateTable) (adjusted : Li
   pub many : length parts + 1 ≡ number
   pub within : 1 < number → number ≤ length adjusted
   pub each : EachNumbered (AreRowsOf source rates) 1 parts
-  pub is : rows ≡ joined parts
+  pub is : rows ≡ joined_rows parts
 
 module _ (source : OvernightSource) (rates : RateTable) where
   pub lists_none : (adjusted : List ℤ) (rows : List ObservedRow) → rows ≡ [] → ListsTo source rates adjusted 1 rows

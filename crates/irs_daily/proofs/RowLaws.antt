@@ -7,9 +7,9 @@ use Rattle.irs_resets.specs.Rates.{RateTable}
 use Rattle.irs_resets.specs.declared.observed.PeriodKind.{PeriodKind}
 use Rattle.irs_resets.proofs.KindLaws.{one_kind}
 use Rattle.irs_observed.specs.DailyRates.{DailyRates, daily_rates}
-use Rattle.irs_observed.specs.ObservedRates.{Fraction, IsObservedRate, PassesLimit}
+use Rattle.irs_observed.specs.ObservedRates.{RateFraction, IsObservedRate, PassesLimit}
 use Rattle.irs_observed.specs.OvernightRates.{AreOvernightRates, IsOvernightRate, IsRateBy, IsRateOf}
-use Rattle.irs_observed.specs.OvernightRates.{OvernightSource, period_of, periods_of}
+use Rattle.irs_observed.specs.OvernightRates.{OvernightSource, period_of, source_periods}
 use Rattle.irs_observed.specs.Private.OvernightWalk.{NoneLacks}
 use Rattle.irs_observed.specs.RateOrigins.{HasOwnRate}
 use Rattle.irs_observed.specs.declared.method.DailyRateMethod.{DailyRateMethod}
@@ -21,7 +21,7 @@ use Rattle.irs_observed.proofs.FirstOvernight.{none_lacks_at}
 use Rattle.irs_observed.proofs.OutcomeLemmas.{one_observations}
 use Rattle.irs_daily.specs.Laws.{NoneOutOfRange, RatesHaveRows, RowsShowRates, Show, rate_of_factor, rows_with}
 use Rattle.irs_daily.specs.ObservedRows.{AreRowsBy, AreRowsOfKind}
-use Rattle.irs_daily.specs.Outcomes.{HasNoRows, PassesOver}
+use Rattle.irs_daily.specs.Outcomes.{HasNoRows, PassesFactorLimit}
 use Rattle.irs_daily.specs.PeriodFactors.{IsFactor, IsFactorOrAbsent}
 use Rattle.irs_daily.specs.declared.rows.NoRowsWhy.{NoRowsWhy}
 use Rattle.irs_daily.specs.declared.rows.NoRowsWhy.TheVariants.{Unobserved, OutOfRange as PassedLimit}
@@ -47,7 +47,7 @@ module _ (source : OvernightSource) (rates : RateTable) where
   kept_of : (i : ℕ) (kind : PeriodKind) (r : OvernightRate)
       → IsRateOf source (daily_rates rates source.index) i kind r → (r ≡ OutOfRange → ⊥)
       → (HasOwnRate kind source.stream.stubs → ⊥)
-      → PassesOver source.method (daily_rates rates source.index) (period_of source i) → ⊥
+      → PassesFactorLimit source.method (daily_rates rates source.index) (period_of source i) → ⊥
   kept_of i kind r (inl own) within daily past = daily (own.0, own.1)
   kept_of i kind r (inr h) within daily past =
       let over = h.1 in
@@ -59,7 +59,7 @@ module _ (source : OvernightSource) (rates : RateTable) where
   kept_at : (i : ℕ) (r : OvernightRate) → IsOvernightRate source rates i r → (r ≡ OutOfRange → ⊥)
       → HasNoRows source rates i PassedLimit → ⊥
   kept_at i r is within h =
-      let same = one_kind source.stream source.span (periods_of source) i is.kind h.kind is.is_kind h.is_kind in
+      let same = one_kind source.stream source.span (source_periods source) i is.kind h.kind is.is_kind h.is_kind in
       kept_of i h.kind r
       (subst (λ (k : PeriodKind). IsRateOf source (daily_rates rates source.index) i k r) same is.is_rate) within h.daily
       h.none
@@ -83,11 +83,11 @@ module _ (source : OvernightSource) (rates : RateTable) where
 
 -- ---- the rows show the rates
 
-same_fraction : (x y : Fraction) → x.numerator ≡ y.numerator → x.denominator ≡ y.denominator → x ≡ y
+same_fraction : (x y : RateFraction) → x.numerator ≡ y.numerator → x.denominator ≡ y.denominator → x ≡ y
 same_fraction x y a b = ap₂ (λ (n d : ℤ). record { numerator = n; denominator = d }) a b
 
 -- the factor of a rate
-factor_of : (method : DailyRateMethod) (daily : DailyRates) (os : List Observation) (x : Fraction)
+factor_of : (method : DailyRateMethod) (daily : DailyRates) (os : List Observation) (x : RateFraction)
     → IsObservedRate method daily os x → (f : ℤ) × IsFactor method daily os f × (x ≡ rate_of_factor method os f)
 factor_of (Compounding year) daily os x h =
     (h.factor, h.grows, same_fraction x (rate_of_factor (Compounding year) os h.factor) h.numerator h.denominator)
@@ -126,6 +126,6 @@ show_of source daily i kind rows r (inr over) (inr h) =
 pub rows_show_rates : (source : OvernightSource) (rates : RateTable) → RowsShowRates source rates
 rows_show_rates source rates i r rows is h =
     let daily : DailyRates = daily_rates rates source.index in
-    let same = one_kind source.stream source.span (periods_of source) i h.kind is.kind h.is_kind is.is_kind in
+    let same = one_kind source.stream source.span (source_periods source) i h.kind is.kind h.is_kind is.is_kind in
     show_of source daily i is.kind rows r is.is_rate
     (subst (λ (k : PeriodKind). AreRowsOfKind source daily i k rows) same h.are_rows)

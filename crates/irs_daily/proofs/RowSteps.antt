@@ -5,7 +5,7 @@ use Rattle.std.specs.List.{flat_map}
 use Rattle.std.proofs.lemmas.List.{append-nil, take_all}
 use Rattle.irs_observed.specs.DailyRates.{DailyRates}
 use Rattle.irs_observed.specs.declared.observation.Observation.{Observation}
-use Rattle.irs_daily.specs.ObservedRows.{day_row, day_rows, joined}
+use Rattle.irs_daily.specs.ObservedRows.{day_row, day_rows, joined_rows}
 use Rattle.irs_daily.specs.declared.rows.ObservedRow.{ObservedRow}
 use Rattle.irs_daily.specs.declared.rows.ObservedRow.TheVariants.{Observed}
 
@@ -72,7 +72,7 @@ rows_all daily n os k all = ap (λ (l : List Observation). day_rows daily n l) (
 
 -- the rows of one period more
 pub joined_more : (parts : List (List ObservedRow)) (rows : List ObservedRow)
-    → joined (parts ++ rows ∷ []) ≡ joined parts ++ rows
+    → joined_rows (parts ++ rows ∷ []) ≡ joined_rows parts ++ rows
 joined_more [] rows = append-nil rows
 joined_more (p ∷ parts) rows =
-    ap (λ (l : List ObservedRow). p ++ l) (joined_more parts rows) ∙ sym (append_assoc p (joined parts) rows)
+    ap (λ (l : List ObservedRow). p ++ l) (joined_more parts rows) ∙ sym (append_assoc p (joined_rows parts) rows)

@@ -4,7 +4,7 @@ use Rattle.irs_base.specs.Members.{Every}
 use Rattle.irs_resets.specs.Rates.{RateTable}
 use Rattle.irs_observed.specs.DailyRates.{DailyRates, daily_rates}
 use Rattle.irs_observed.specs.Factors.{one_factor}
-use Rattle.irs_observed.specs.ObservedRates.{Fraction, days_of_year, rate_precision}
+use Rattle.irs_observed.specs.ObservedRates.{RateFraction, days_of_year, rate_precision}
 use Rattle.irs_observed.specs.Observations.{total_weight}
 use Rattle.irs_observed.specs.Outcomes.{overnight_rates_of}
 use Rattle.irs_observed.specs.OvernightRates.{IsOvernightRate, OvernightSource}
@@ -35,7 +35,7 @@ RatesHaveRows source rates =
     → (i : ℕ) (why : NoRowsWhy) → HasNoRows source rates i why → ⊥
 
 -- the observed rate that a factor gives over the days of the observation period
-abbrev pub rate_of_factor : DailyRateMethod → List Observation → ℤ → Fraction
+abbrev pub rate_of_factor : DailyRateMethod → List Observation → ℤ → RateFraction
 rate_of_factor (Compounding year) os f = record {
   numerator = (f -ℤ one_factor rate_precision) *ℤ pos (days_of_year year);
   denominator = one_factor rate_precision *ℤ pos (total_weight os);

@@ -7,7 +7,7 @@ use Rattle.irs_resets.specs.declared.observed.PeriodKind.{PeriodKind}
 use Rattle.irs_observed.specs.DailyRates.{DailyRates, daily_rates}
 use Rattle.irs_observed.specs.ObservationPeriods.{ObservedPeriod}
 use Rattle.irs_observed.specs.Observations.{AreObservations}
-use Rattle.irs_observed.specs.OvernightRates.{IsKindIn, OvernightSource, period_of, periods_of}
+use Rattle.irs_observed.specs.OvernightRates.{IsKindIn, OvernightSource, period_of, source_periods}
 use Rattle.irs_observed.specs.RateOrigins.{HasOwnRate}
 use Rattle.irs_observed.specs.declared.method.DailyRateMethod.{DailyRateMethod}
 use Rattle.irs_observed.specs.declared.observation.Observation.{Observation}
@@ -53,12 +53,12 @@ pub record AreRowsOf (source : OvernightSource) (rates : RateTable) (i : ℕ) (r
   pub are_rows : AreRowsOfKind source (daily_rates rates source.index) i kind rows
 
 -- the lists one after another
-abbrev pub joined : List (List ObservedRow) → List ObservedRow
-joined parts = flat_map (λ (rows : List ObservedRow). rows) parts
+abbrev pub joined_rows : List (List ObservedRow) → List ObservedRow
+joined_rows parts = flat_map (λ (rows : List ObservedRow). rows) parts
 
 -- the rows of all calculation periods, in order
 pub record AreObservedRows (source : OvernightSource) (rates : RateTable) (rows : List ObservedRow) : Type 0 where
   pub parts : List (List ObservedRow)
-  pub many : length parts ≡ periods_of source
+  pub many : length parts ≡ source_periods source
   pub each : EachNumbered (AreRowsOf source rates) 1 parts
-  pub is : rows ≡ joined parts
+  pub is : rows ≡ joined_rows parts

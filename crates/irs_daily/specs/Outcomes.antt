@@ -6,7 +6,7 @@ use Rattle.irs_resets.specs.ResetDates.{IsPeriod}
 use Rattle.irs_resets.specs.declared.observed.PeriodKind.{PeriodKind}
 use Rattle.irs_observed.specs.DailyRates.{DailyRates, daily_rates}
 use Rattle.irs_observed.specs.ObservationPeriods.{ObservedPeriod}
-use Rattle.irs_observed.specs.ObservationRules.{Lacks}
+use Rattle.irs_observed.specs.ObservationRules.{LacksObservations}
 use Rattle.irs_observed.specs.Observations.{AreObservations}
 use Rattle.irs_observed.specs.ObservedRates.{PassesLimit}
 use Rattle.irs_observed.specs.OvernightRates.{IsKindIn, OvernightSource, period_of}
@@ -22,15 +22,15 @@ use Rattle.irs_daily.specs.declared.rows.ObservedRow.{ObservedRow}
 -- ---- one period
 
 -- each daily rate of the observations of a calculation period is there, and a compounded factor passes 10^4 in size
-pub record PassesOver (method : DailyRateMethod) (daily : DailyRates) (p : ObservedPeriod) : Type 0 where
+pub record PassesFactorLimit (method : DailyRateMethod) (daily : DailyRates) (p : ObservedPeriod) : Type 0 where
   pub observations : List Observation
   pub are_observations : AreObservations p observations
   pub passes : PassesLimit method daily observations
 
 -- a calculation period that takes daily rates has no rows for this reason
 abbrev pub HasNoDailyRows : DailyRateMethod → DailyRates → ObservedPeriod → NoRowsWhy → Type 0
-HasNoDailyRows method daily p (Unobserved why) = Lacks p why
-HasNoDailyRows method daily p OutOfRange = PassesOver method daily p
+HasNoDailyRows method daily p (Unobserved why) = LacksObservations p why
+HasNoDailyRows method daily p OutOfRange = PassesFactorLimit method daily p
 
 -- period i takes daily rates, and has no rows for this reason. Where a schedule was made there is none: the first
 -- reason is K48 or K33, and the other K39

@@ -24,14 +24,14 @@ factor_decimals (Compounding year) = factor_places
 factor_decimals Averaging = rate_places
 
 -- a number with these decimals, or `-` where there is none
-abbrev pub dec_or_dash : ℕ → Option ℤ → List ℕ
-dec_or_dash places None = codes "-"
-dec_or_dash places (Some v) = dec_text v places
+abbrev pub number_or_dash : ℕ → Option ℤ → List ℕ
+number_or_dash places None = codes "-"
+number_or_dash places (Some v) = dec_text v places
 
 -- `c PERIOD METHOD FACTOR`
-abbrev pub period_fields : PeriodRow → List ℕ
-period_fields r =
-    codes "c" ++ 32 ∷ decimal r.number ++ 32 ∷ method_name r.method ++ 32 ∷ dec_or_dash (factor_decimals r.method) r.factor
+abbrev pub period_row_text : PeriodRow → List ℕ
+period_row_text r =
+    codes "c" ++ 32 ∷ decimal r.number ++ 32 ∷ method_name r.method ++ 32 ∷ number_or_dash (factor_decimals r.method) r.factor
 
 -- `c PERIOD stub -`
 abbrev pub stub_fields : ℕ → List ℕ
@@ -41,11 +41,11 @@ stub_fields number = codes "c" ++ 32 ∷ decimal number ++ codes " stub -"
 abbrev pub day_fields : DayRow → List ℕ
 day_fields r =
     codes "o" ++ 32 ∷ decimal r.number ++ 32 ∷ day_text r.observation.day ++ 32 ∷ decimal r.observation.weight
-    ++ 32 ∷ day_text r.observation.observed ++ 32 ∷ dec_or_dash rate_places r.rate
+    ++ 32 ∷ day_text r.observation.observed ++ 32 ∷ number_or_dash rate_places r.rate
 
 -- the fields of a row
 abbrev pub row_fields : ObservedRow → List ℕ
-row_fields (Daily r) = period_fields r
+row_fields (Daily r) = period_row_text r
 row_fields (Stub number) = stub_fields number
 row_fields (Observed r) = day_fields r
 
@@ -54,9 +54,9 @@ unfoldable pub row_line : ObservedRow → List ℕ
 row_line row = row_fields row ++ codes "\n"
 
 -- the first line, with the number of the stream
-abbrev pub first_line : ℕ → List ℕ
-first_line stream = codes "irs-observations 1" ++ 32 ∷ decimal stream ++ codes "\n"
+abbrev pub observations_first_line : ℕ → List ℕ
+observations_first_line stream = codes "irs-observations 1" ++ 32 ∷ decimal stream ++ codes "\n"
 
 -- the whole text
 abbrev pub observations_text : ℕ → List ObservedRow → List ℕ
-observations_text stream rows = first_line stream ++ flat_map row_line rows ++ codes "end\n"
+observations_text stream rows = observations_first_line stream ++ flat_map row_line rows ++ codes "end\n"

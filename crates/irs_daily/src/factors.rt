@@ -7,7 +7,7 @@ ghost use Rattle.std.specs.Prelude.{◌≡◌, ◌*◌, ◌^◌, ◌<◌, ◌≤
 ghost use Rattle.irs_base.specs.Days.{all_days};
 ghost use Rattle.irs_base.specs.declared.rounding.Direction.TheVariants.{Nearest};
 ghost use Rattle.irs_terms.specs.Lawful.{IsRate};
-ghost use Rattle.irs_observed.specs.Factors.{year_of};
+ghost use Rattle.irs_observed.specs.Factors.{unit_rate};
 ghost use Rattle.irs_observed.specs.ObservedRates.{days_of_year};
 ghost use Rattle.irs_observed.specs.declared.method.DailyRateMethod.TheVariants.{Averaging as Averages};
 ghost use Rattle.irs_observed.specs.declared.method.DailyRateMethod.TheVariants.{Compounding as Compounds};
@@ -34,7 +34,7 @@ fn product(a: i128, b: i128) -> i128
 
 // The rate 1 for a year.
 fn year_of(year: YearDays) -> i128
-    ensures value { result ≡ year_of (days_of_year year) }
+    ensures value { result ≡ unit_rate (days_of_year year) }
     ensures above { pos 0 <ℤ result }
     ensures size { unsigned_abs result ≤ 365 * 10 ^ 9 }
 {

@@ -5,8 +5,10 @@
 //! rates and a rate have 9. What is absent is `-`. A stub with a rate of its own is `c PERIOD stub -`.
 ghost use Rattle.std.specs.Prelude.{◌≡◌, ◌+◌, ◌≤◌, [], ◌∷◌, ◌++◌, length, IfOk, OnOk};
 ghost use Rattle.std.specs.List.{flat_map};
-ghost use Rattle.irs_daily.specs.RowTexts.{day_fields, dec_or_dash, factor_decimals, first_line, method_name};
-ghost use Rattle.irs_daily.specs.RowTexts.{observations_text, period_fields, rate_places, row_fields, row_line, stub_fields};
+ghost use Rattle.irs_daily.specs.RowTexts.{day_fields, number_or_dash, factor_decimals, observations_first_line};
+ghost use Rattle.irs_daily.specs.RowTexts.{method_name};
+ghost use Rattle.irs_daily.specs.RowTexts.{observations_text, period_row_text, rate_places, row_fields, row_line};
+ghost use Rattle.irs_daily.specs.RowTexts.{stub_fields};
 ghost use Rattle.irs_base.specs.Texts.{factor_places};
 
 use crate::rows::{DayRow, ObservedRow, ObservedRows, PeriodRow};
@@ -27,7 +29,7 @@ fn method_name(method: DailyRateMethod) -> &'static str
 // Appends a space and a compounded factor, or a space and `-` where there is none.
 fn put_compounded(line: &mut Line, factor: Option<i128>)
     requires { length line.old + 60 ≤ 512 }
-    ensures text { line.new ≡ line.old ++ 32 ∷ dec_or_dash factor_places factor }
+    ensures text { line.new ≡ line.old ++ 32 ∷ number_or_dash factor_places factor }
     ensures grows { length line.new ≤ length line.old + 60 }
 {
     match factor {
@@ -39,7 +41,7 @@ fn put_compounded(line: &mut Line, factor: Option<i128>)
 // Appends a space and a compounded factor.
 fn put_factor(line: &mut Line, units: i128)
     requires { length line.old + 60 ≤ 512 }
-    ensures text { line.new ≡ line.old ++ 32 ∷ dec_or_dash factor_places (Some units) }
+    ensures text { line.new ≡ line.old ++ 32 ∷ number_or_dash factor_places (Some units) }
     ensures grows { length line.new ≤ length line.old + 60 }
 {
     line.push(b" ");
@@ -49,7 +51,7 @@ fn put_factor(line: &mut Line, units: i128)
 // Appends a space and a number with the decimals of a rate, or a space and `-` where there is none.
 fn put_sum(line: &mut Line, sum: Option<i128>)
     requires { length line.old + 60 ≤ 512 }
-    ensures text { line.new ≡ line.old ++ 32 ∷ dec_or_dash rate_places sum }
+    ensures text { line.new ≡ line.old ++ 32 ∷ number_or_dash rate_places sum }
     ensures grows { length line.new ≤ length line.old + 60 }
 {
     match sum {
@@ -61,7 +63,7 @@ fn put_sum(line: &mut Line, sum: Option<i128>)
 // Appends a space and a rate, or a space and `-` where there is none.
 fn put_rate(line: &mut Line, rate: Option<i64>)
     requires { length line.old + 60 ≤ 512 }
-    ensures text { line.new ≡ line.old ++ 32 ∷ dec_or_dash rate_places rate }
+    ensures text { line.new ≡ line.old ++ 32 ∷ number_or_dash rate_places rate }
     ensures grows { length line.new ≤ length line.old + 60 }
 {
     match rate {
@@ -76,7 +78,7 @@ fn put_rate(line: &mut Line, rate: Option<i64>)
 // Appends a space and a factor with its decimals, or a space and `-` where there is none.
 fn put_by_method(line: &mut Line, method: DailyRateMethod, factor: Option<i128>)
     requires { length line.old + 60 ≤ 512 }
-    ensures text { line.new ≡ line.old ++ 32 ∷ dec_or_dash (factor_decimals method) factor }
+    ensures text { line.new ≡ line.old ++ 32 ∷ number_or_dash (factor_decimals method) factor }
     ensures grows { length line.new ≤ length line.old + 60 }
 {
     match method {
@@ -88,7 +90,7 @@ fn put_by_method(line: &mut Line, method: DailyRateMethod, factor: Option<i128>)
 // Writes the fields of a period to an empty line.
 fn put_period(line: &mut Line, row: &PeriodRow)
     requires { line.old ≡ [] }
-    ensures text { line.new ≡ period_fields row.now }
+    ensures text { line.new ≡ period_row_text row.now }
     ensures grows { length line.new ≤ 150 }
 {
     line.push(b"c");
@@ -159,7 +161,7 @@ fn push_lines(text: &mut Vec<u8>, rows: &[ObservedRow]) -> Result<(), Memory>
 
 // The first line.
 fn first_line(stream: u8) -> Line
-    ensures { result ≡ first_line stream }
+    ensures { result ≡ observations_first_line stream }
 {
     let mut line = Line::new();
     line.push(b"irs-observations 1");

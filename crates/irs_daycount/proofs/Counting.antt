@@ -11,7 +11,7 @@ use Rattle.irs_base.proofs.DateWalks.{IsPlaced, year_place, placed_once}
 use Rattle.irs_daycount.specs.Actual.{ActAct, act_act_denominator, act_act_parts, in_leap_year, in_common_year}
 use Rattle.irs_daycount.specs.Actual.{days_counted}
 use Rattle.irs_terms.specs.declared.results.Frac.{Frac}
-use Rattle.irs_daycount.specs.Private.Places.{weight_of, place_at, place_of}
+use Rattle.irs_daycount.specs.Private.Places.{weight_of, place_at, place_of_day}
 
 by_leap : (b : Bool) → (if b then 366 else 365) * (if b then 365 else 366) ≡ act_act_denominator
 by_leap true = refl
@@ -47,7 +47,7 @@ step_at d y o z p a b = elim (cases_lt (o + 1) (days_in_year (pos y))) [
       omega (arith, same, v, w)
 ]
 
-step : (d : ℤ) → IsDay d → IsDay (d +ℤ pos 1) → place_of (d +ℤ pos 1) ≡ place_of d + weight_of (year_part d).0
+step : (d : ℤ) → IsDay d → IsDay (d +ℤ pos 1) → place_of_day (d +ℤ pos 1) ≡ place_of_day d + weight_of (year_part d).0
 step d a b =
     step_at d (year_part d).0 (year_part d).1 (year_part (d +ℤ pos 1)).0 (year_part (d +ℤ pos 1)).1 (year_place d a)
     (year_place (d +ℤ pos 1) b)
@@ -58,7 +58,7 @@ one_day true x y = omega arith
 one_day false x y = omega arith
 
 -- the places of two days differ by the parts of the days from the one to the other
-pub counted : (s : ℤ) (n : ℕ) → IsDay s → IsDay (s +ℤ pos n) → place_of (s +ℤ pos n) ≡ place_of s + (act_act_parts s n)
+pub counted : (s : ℤ) (n : ℕ) → IsDay s → IsDay (s +ℤ pos n) → place_of_day (s +ℤ pos n) ≡ place_of_day s + (act_act_parts s n)
 counted s zero a b = let e : s +ℤ pos 0 ≡ s = omega (arith, signed_arith) in rw e (omega arith)
 counted s (suc n) a b =
     let here : IsDay (s +ℤ pos n) = (omega (arith, signed_arith, a, b), omega (arith, signed_arith, a, b)) in
@@ -81,13 +81,13 @@ later s e h = (
 )
 
 -- the difference of two places is the numerator of ACT/ACT.ISDA
-pub act_act_is : (s e : ℤ) (f : Frac) → s <ℤ e → IsDay s → IsDay e → f.num +ℤ pos (place_of s) ≡ pos (place_of e)
+pub act_act_is : (s e : ℤ) (f : Frac) → s <ℤ e → IsDay s → IsDay e → f.num +ℤ pos (place_of_day s) ≡ pos (place_of_day e)
     → f.den ≡ pos act_act_denominator → ActAct s e f
 act_act_is s e f h a b num den =
     let n = later s e h in
     let day : IsDay (s +ℤ pos n.0) = subst (λ (d : ℤ). IsDay d) n.1 b in
     let c = counted s n.0 a day in
-    let p : place_of e ≡ place_of (s +ℤ pos n.0) = ap place_of n.1 in
+    let p : place_of_day e ≡ place_of_day (s +ℤ pos n.0) = ap place_of_day n.1 in
     record { days = n.0; ends = n.1; num = omega (arith, signed_arith, num, c, p); den = den }
 
 -- each day passes the test or fails it

@@ -9,7 +9,7 @@ ghost use Rattle.std.specs.Int.{IsInRange};
 ghost use Rattle.jiff_core.specs.Calendar.{IsCivilDate, day_of_year, days_of_months};
 ghost use Rattle.irs_base.specs.Days.{IsDay, last_year};
 ghost use Rattle.irs_daycount.specs.Actual.{ActAct};
-ghost use Rattle.irs_daycount.specs.Private.Places.{most_place, place_at, place_of};
+ghost use Rattle.irs_daycount.specs.Private.Places.{most_place, place_at, place_of_day};
 
 use irs_base::{Civil, Day, civil_of};
 use irs_terms::Frac;
@@ -38,7 +38,7 @@ pub fn act_act(s: Day, e: Day) -> Frac
 
 // Where the day begins, in parts of years that are counted from the year 0.
 fn place(d: Day) -> u32
-    ensures value { result ≡ place_of d }
+    ensures value { result ≡ place_of_day d }
     ensures range { result ≤ most_place }
     ensures day { IsDay d }
 {

@@ -5,7 +5,7 @@ use Rattle.std.specs.Prelude.{codes}
 use Rattle.std.specs.List.{list_any, Contains}
 use Rattle.std.proofs.lemmas.List.Folds.{list_any_at}
 use Rattle.irs_json.specs.Carrier.{child_of}
-use Rattle.irs_json.specs.Leaves.{is_attribute}
+use Rattle.irs_json.specs.Leaves.{is_attribute_name}
 use Rattle.serde_json.specs.Data.{Data}
 use Rattle.irs_elements.specs.Elements.{has_odd, is_odd}
 
@@ -17,13 +17,13 @@ both_absent : (d : Data) → (IsSome (child_of (codes "@id") d) → ⊥) → (Is
     → has_odd d ≡ false
 both_absent d id href = rw (odd_somewhere _ id, odd_somewhere _ href) refl
 
-unnamed : (names : List (List ℕ)) (name : List ℕ) → list_any is_attribute names ≡ false → is_attribute name ≡ true
+unnamed : (names : List (List ℕ)) (name : List ℕ) → list_any is_attribute_name names ≡ false → is_attribute_name name ≡ true
     → Contains names name → ⊥
 unnamed names name none is has =
-    true≢false (sym (list_any_at is_attribute names has.0 name has.1 (ap is_attribute has.2 ∙ is)) ∙ none)
+    true≢false (sym (list_any_at is_attribute_name names has.0 name has.1 (ap is_attribute_name has.2 ∙ is)) ∙ none)
 
 -- where the names are those that are found, and none is an attribute's
-pub no_attribute_is_odd : (d : Data) (names : List (List ℕ)) → list_any is_attribute names ≡ false
+pub no_attribute_is_odd : (d : Data) (names : List (List ℕ)) → list_any is_attribute_name names ≡ false
     → ((name : List ℕ) → IsSome (child_of name d) → Contains names name)
     → has_odd d ≡ false
 no_attribute_is_odd d names none found =

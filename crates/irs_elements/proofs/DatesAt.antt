@@ -4,7 +4,7 @@ use Rattle.irs_base.specs.Dates.{date_at}
 use Rattle.irs_base.specs.Days.{HasDate, IsDay}
 use Rattle.irs_base.specs.Texts.{IsDateText, IsPlainDate, date_text}
 use Rattle.irs_elements.proofs.Exact.{both_true}
-use Rattle.irs_elements.specs.Dates.{day_at, without_z}
+use Rattle.irs_elements.specs.Dates.{leaf_date_at, without_z}
 use Rattle.std.proofs.Common.{◌≡◌, inl, inr, ℕ, Bool, true, false, ◌&&◌, ◌==◌, List, [], ◌∷◌, ◌++◌, length, take, ℤ, pos}
 use Rattle.std.proofs.Common.{slice_index, Option, Some, None, IfSome, IfNone, refl, sym, ap, ◌∙◌, subst, arith}
 use Rattle.std.proofs.Common.{if◌then◌else◌}
@@ -48,8 +48,8 @@ none_by s (Some d) e none = let p = is_plain (without_z s) d e in absurd (none d
 
 -- the text names the day that the function gives, and none where it gives none
 pub day_is : (s : List ℕ) (r : Option ℤ) → IfSome r (λ d. IsDay d × IsDateText s d)
-    → IfNone r ((d : ℤ) → IsDay d → IsDateText s d → ⊥) → r ≡ day_at s
-unfolding day_at
+    → IfNone r ((d : ℤ) → IsDay d → IsDateText s d → ⊥) → r ≡ leaf_date_at s
+unfolding leaf_date_at
 day_is s None some none = none_by s (date_at (without_z s)) refl none
 day_is s (Some d) some none = sym (plain_is (without_z s) d some.0 (dropped s d some.1))
 
@@ -58,6 +58,6 @@ in_range s None e = tt
 in_range s (Some d) e = (is_plain s d e).0
 
 -- a date that is read is a day
-pub day_range : (s : List ℕ) → IfSome (day_at s) IsDay
-unfolding day_at
+pub day_range : (s : List ℕ) → IfSome (leaf_date_at s) IsDay
+unfolding leaf_date_at
 day_range s = in_range (without_z s) (date_at (without_z s)) refl

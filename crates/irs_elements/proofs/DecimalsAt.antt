@@ -1,7 +1,8 @@
 -- The function of a decimal's text gives the number that the text spells.
 use Rattle.irs_base.proofs.DecimalLemmas.{bare_none, digits_true, minus_none, not_parts, not_zeros, one_decimal}
 use Rattle.irs_base.proofs.DecimalLemmas.{plus_none, true_digits, unsigned_is}
-use Rattle.irs_base.specs.Decimals.{AreParts, DecText, bare, plus, minus, IsCut, IsUnsigned, is_digit, is_zero}
+use Rattle.irs_base.specs.Dates.{is_digit}
+use Rattle.irs_base.specs.Decimals.{AreParts, DecText, bare, plus, minus, IsCutAtPoint, IsUnsigned, is_zero}
 use Rattle.irs_base.specs.Decimals.{number_after, number_of, padded}
 use Rattle.irs_elements.proofs.Exact.{Exact, both_true, exact_of, exact_same, true_both}
 use Rattle.irs_elements.specs.Decimals.{are_parts, before_point, behind_point, dec_at, unsigned_at}
@@ -14,8 +15,8 @@ use Rattle.std.specs.List.{list_all}
 is_46 : (c : ℕ) → (c == 46) ≡ true → c ≡ 46
 is_46 c e = grind (arith, nat_tests)
 
-cut_one : (c : ℕ) (cs w f : List ℕ) (b : Bool) → (c == 46) ≡ b → IsCut cs w f
-    → IsCut (c ∷ cs) (if b then [] else c ∷ w) (if b then cs else f)
+cut_one : (c : ℕ) (cs w f : List ℕ) (b : Bool) → (c == 46) ≡ b → IsCutAtPoint cs w f
+    → IsCutAtPoint (c ∷ cs) (if b then [] else c ∷ w) (if b then cs else f)
 cut_one c cs w f true e h = record { no_point = refl; is = inr (ap (λ (x : ℕ). x ∷ cs) (is_46 c e)) }
 cut_one c cs w f false e h = record {
   no_point = rw e h.no_point;
@@ -27,7 +28,7 @@ cut_one c cs w f false e h = record {
 }
 
 -- a text is cut at its first point
-pub cut_is : (s : List ℕ) → IsCut s (before_point s) (behind_point s)
+pub cut_is : (s : List ℕ) → IsCutAtPoint s (before_point s) (behind_point s)
 cut_is [] = record { no_point = refl; is = inl (refl, refl) }
 cut_is (c ∷ cs) = cut_one c cs (before_point cs) (behind_point cs) (c == 46) refl (cut_is cs)
 

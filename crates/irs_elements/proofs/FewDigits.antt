@@ -1,5 +1,6 @@
 -- One to nine digits are a notional.
-use Rattle.irs_base.specs.Decimals.{AreDigits, IsUnsigned, bare, is_digit, number_after, number_of}
+use Rattle.irs_base.specs.Dates.{is_digit}
+use Rattle.irs_base.specs.Decimals.{AreDigits, IsUnsigned, bare, number_after, number_of}
 use Rattle.irs_base.proofs.DecimalLemmas.{digits_true}
 use Rattle.irs_base.specs.Limits.{most_notional}
 use Rattle.irs_elements.proofs.DecimalsAt.{dec_is}
@@ -8,8 +9,7 @@ use Rattle.irs_elements.specs.Decimals.{dec_at}
 use Rattle.irs_elements.specs.Private.Decimals.{digits_at, few_digits_at}
 use Rattle.irs_elements.specs.Numbers.{notional_at, within}
 use Rattle.std.proofs.Common.{◌≡◌, inl, ℕ, ◌+◌, ◌*◌, ◌^◌, ◌<◌, ◌≤◌, nat_le, nat_lt, Bool, true, false, List, []}
-use Rattle.std.proofs.Common.{length, pos, Some, None, if◌then◌else◌, refl, sym, arith}
-use Rattle.std.proofs.Common.{zero, suc, ◌&&◌}
+use Rattle.std.proofs.Common.{length, pos, Some, None, if◌then◌else◌, refl, sym, arith, zero, suc, ◌&&◌}
 use Rattle.std.proofs.Math.Nat.{mul-le-mul_left, one-le-pow, pow-succ'}
 use Rattle.std.proofs.lemmas.Bool.Decides.{nat_tests}
 use Rattle.std.proofs.lemmas.List.{append-nil}

@@ -2,7 +2,7 @@
 use Rattle.irs_base.proofs.DecimalLemmas.{apart, cut_once, no_point, not_parts, padded_whole}
 use Rattle.irs_base.proofs.RoundingLaws.{nearest_once}
 use Rattle.irs_base.proofs.VisibleTexts.{digits_behind}
-use Rattle.irs_base.specs.Decimals.{AreDigits, AreParts, IsCut, number_after, number_of, padded}
+use Rattle.irs_base.specs.Decimals.{AreDigits, AreParts, IsCutAtPoint, number_after, number_of, padded}
 use Rattle.irs_base.specs.Rounding.{Rounded}
 use Rattle.irs_base.specs.Texts.{most_places}
 use Rattle.irs_base.specs.declared.line.Dec.{Dec}
@@ -10,7 +10,7 @@ use Rattle.irs_base.specs.declared.rounding.Direction.TheVariants.{Nearest}
 use Rattle.irs_elements.proofs.DecimalsAt.{cut_is, from_parts, to_parts}
 use Rattle.irs_elements.proofs.Exact.{Exact}
 use Rattle.irs_elements.specs.Decimals.{are_parts, before_point, behind_point}
-use Rattle.irs_elements.specs.Fractions.{IsFraction, carried, fraction_at, fraction_of}
+use Rattle.irs_elements.specs.Fractions.{IsFraction, carried, fraction_at, fraction_from_digits}
 use Rattle.jiff_core.proofs.SignedLemmas.{signed_arith}
 use Rattle.std.proofs.Common.{◌≡◌, ◌⊎◌, ℕ, zero, suc, ◌+◌, ◌-◌, ◌*◌, ◌^◌, ◌<◌, ◌≤◌, nat_le, Bool, true, false}
 use Rattle.std.proofs.Common.{true≢false, List, [], ◌∷◌, ◌++◌, length, take, drop, ℤ, pos, ◌<ℤ◌, Some, None}
@@ -23,11 +23,11 @@ use Rattle.std.proofs.lemmas.Nat.{pow-add}
 -- ---- the parts of a text
 
 -- the front of a text that is cut is the text before its point
-pub whole_is : (text w f : List ℕ) → IsCut text w f → w ≡ before_point text
+pub whole_is : (text w f : List ℕ) → IsCutAtPoint text w f → w ≡ before_point text
 whole_is text w f h = (cut_once text w f (before_point text) (behind_point text) h (cut_is text)).0
 
 -- the rest of a text that is cut is the text after its point
-pub decimals_are : (text w f : List ℕ) → IsCut text w f → f ≡ behind_point text
+pub decimals_are : (text w f : List ℕ) → IsCutAtPoint text w f → f ≡ behind_point text
 decimals_are text w f h = (cut_once text w f (before_point text) (behind_point text) h (cut_is text)).1
 
 -- ---- what digits spell
@@ -108,7 +108,7 @@ value_of w f p h =
 -- ---- both sides
 
 stated : (s : List ℕ) (b : Bool) → are_parts (before_point s) (behind_point s) ≡ b
-    → Exact (IsFraction s) (if b then Some (fraction_of (before_point s) (behind_point s)) else None)
+    → Exact (IsFraction s) (if b then Some (fraction_from_digits (before_point s) (behind_point s)) else None)
 stated s true e =
     let parts = to_parts (before_point s) (behind_point s) e in
     record {
@@ -141,7 +141,7 @@ fraction_exact s = stated s (are_parts (before_point s) (behind_point s)) refl
 
 -- ---- at most one
 
-exact_cut : (s w f : List ℕ) → AreParts w f → ((s ≡ w) × (f ≡ [])) ⊎ (s ≡ w ++ 46 ∷ f) → IsCut s w f
+exact_cut : (s w f : List ℕ) → AreParts w f → ((s ≡ w) × (f ≡ [])) ⊎ (s ≡ w ++ 46 ∷ f) → IsCutAtPoint s w f
 exact_cut s w f p is = record { no_point = no_point w p.0; is = is }
 
 same_dec : (v w : Dec) → v.places ≡ w.places → v.units ≡ w.units → v ≡ w
@@ -175,15 +175,15 @@ one_fraction s v w a b =
 
 -- the fraction of the parts of a text is that of the text
 stated_is : (text w f : List ℕ) (b : Bool) → w ≡ before_point text → f ≡ behind_point text → b ≡ are_parts w f
-    → (if b then Some (fraction_of w f) else None) ≡ fraction_at text
+    → (if b then Some (fraction_from_digits w f) else None) ≡ fraction_at text
 unfolding fraction_at
 stated_is text w f b p q e =
-    ap (λ (t : Bool). if t then Some (fraction_of w f) else None) e
-    ∙ ap (λ (l : List ℕ). if are_parts l f then Some (fraction_of l f) else None) p
-    ∙ ap (λ (l : List ℕ). if are_parts (before_point text) l then Some (fraction_of (before_point text) l) else None) q
+    ap (λ (t : Bool). if t then Some (fraction_from_digits w f) else None) e
+    ∙ ap (λ (l : List ℕ). if are_parts l f then Some (fraction_from_digits l f) else None) p
+    ∙ ap (λ (l : List ℕ). if are_parts (before_point text) l then Some (fraction_from_digits (before_point text) l) else None) q
 
 -- the parts of a text give the fraction of the text
-pub fraction_is : (text w f : List ℕ) → IsCut text w f → AreParts w f → Some (fraction_of w f) ≡ fraction_at text
+pub fraction_is : (text w f : List ℕ) → IsCutAtPoint text w f → AreParts w f → Some (fraction_from_digits w f) ≡ fraction_at text
 fraction_is text w f cut parts =
     stated_is text w f true (whole_is text w f cut) (decimals_are text w f cut) (sym (from_parts w f parts))
 
@@ -192,7 +192,7 @@ not_true true never = absurd (never refl)
 not_true false never = refl
 
 -- a text without parts states none
-pub no_fraction : (text : List ℕ) → ((w f : List ℕ) → IsCut text w f → AreParts w f → ⊥) → None ≡ fraction_at text
+pub no_fraction : (text : List ℕ) → ((w f : List ℕ) → IsCutAtPoint text w f → AreParts w f → ⊥) → None ≡ fraction_at text
 no_fraction text none =
     let w = before_point text in
     let f = behind_point text in

@@ -2,10 +2,10 @@
 use Rattle.std.proofs.Common.{◌≡◌, ℕ, true, false, List, Some, None, is_some, refl}
 use Rattle.serde_json.specs.Data.{Data, null, boolean, number, string, array, object}
 use Rattle.serde_json.specs.Find.{as_object}
-use Rattle.irs_json.specs.Names.{names_in, names_of}
+use Rattle.irs_json.specs.Names.{member_names, element_names}
 
 -- what is no object has no names
-pub no_object : (d : Data) → is_some (as_object d) ≡ false → names_of d ≡ None
+pub no_object : (d : Data) → is_some (as_object d) ≡ false → element_names d ≡ None
 no_object null e = refl
 no_object (boolean b) e = refl
 no_object (number n) e = refl
@@ -14,10 +14,10 @@ no_object (array ds) e = refl
 no_object (object ms) e = cc
 
 -- an object has names
-pub an_object : (d : Data) → is_some (as_object d) ≡ true → (ns : List (List ℕ)) × (names_of d ≡ Some ns)
+pub an_object : (d : Data) → is_some (as_object d) ≡ true → (ns : List (List ℕ)) × (element_names d ≡ Some ns)
 an_object null e = cc
 an_object (boolean b) e = cc
 an_object (number n) e = cc
 an_object (string s) e = cc
 an_object (array ds) e = cc
-an_object (object ms) e = (names_in ms, refl)
+an_object (object ms) e = (member_names ms, refl)

@@ -11,7 +11,7 @@ use Rattle.serde_json.specs.View.{view}
 use Rattle.serde_json.specs.declared.value.Value.{Value}
 use Rattle.irs_json.specs.Carrier.{child_of}
 use Rattle.irs_json.specs.Values.{items_of}
-use Rattle.irs_json.specs.Names.{names_of}
+use Rattle.irs_json.specs.Names.{element_names}
 use Rattle.irs_base.specs.declared.places.Broken.{Broken}
 use Rattle.irs_elements.specs.declared.table.Row.{Row}
 use Rattle.irs_elements.specs.declared.table.Kind.{Kind}
@@ -23,7 +23,7 @@ use Rattle.irs_base.specs.declared.places.Rule.TheVariants.{K2, K3, K4, K5, K7}
 use Rattle.irs_elements.specs.Elements.{place, unmet_place, choice_unmet, is_chosen, own_rule, name_at}
 use Rattle.irs_elements.specs.Private.Elements.{fault_if}
 use Rattle.irs_elements.specs.Elements.{is_unknown, is_element, is_refused, is_required, most, absent_index, index_in}
-use Rattle.irs_elements.specs.Elements.{IsMember, ShapeFault, unknown, unmet, odd, no_href, has_odd, lacks_href}
+use Rattle.irs_elements.specs.Elements.{IsMemberRow, ShapeFault, unknown, unmet, odd, no_href, has_odd, lacks_href}
 use Rattle.irs_elements.specs.Elements.{FaultAt, own, shape, under, FaultUnder, missing, refused, too_many, inside}
 use Rattle.irs_elements.specs.Private.Elements.{names_among}
 use Rattle.irs_elements.specs.Private.Walk.{EndsHold, FaultAmong, MemberFault, end_at}
@@ -53,7 +53,7 @@ pub choice_kept : (names : List (List ℕ)) (ch : Choice) (d : Data)
     → ((u : Unmet) → choice_unmet names ch d ≡ Some u → ⊥) → is_chosen names ch d ≡ true
 choice_kept names ch d h = chosen_by (choice_unmet names ch d) h
 
-no_own : (ch : Choice) (d : Data) (ns : List (List ℕ)) (k : Rule) → names_of d ≡ Some ns
+no_own : (ch : Choice) (d : Data) (ns : List (List ℕ)) (k : Rule) → element_names d ≡ Some ns
     → own_rule (Object ch) d ≡ Some k → ⊥
 no_own ch d ns k h e = let e' : own_rule (Object ch) d ≡ None = rw h refl in cc
 
@@ -67,7 +67,7 @@ module _ (rows : List Row) (names : List (List ℕ)) (stream : ℕ) where
   -- the four ways in which an object breaks a rule
   abbrev Ways : ℕ → ℕ → Choice → Data → Broken → Type 0
   Ways r i ch d f =
-      (((list_any (is_unknown rows names r) (names_among (names_of d)) ≡ true) × (f ≡ place rows stream K4 r i))
+      (((list_any (is_unknown rows names r) (names_among (element_names d)) ≡ true) × (f ≡ place rows stream K4 r i))
       ⊎ ((u : Unmet) × ((choice_unmet names ch d ≡ Some u) × (f ≡ unmet_place rows stream r i u))))
       ⊎ (((has_odd d ≡ true) × (f ≡ place rows stream K3 r i))
       ⊎ ((lacks_href ch d ≡ true) × (f ≡ place rows stream K2 r i)))
@@ -81,14 +81,14 @@ module _ (rows : List Row) (names : List (List ℕ)) (stream : ℕ) where
   from_shape r i ch d f (no_href _ _ _ _ e) = inr (inr (e, refl))
 
   -- a name of the list is a name of an object with that list
-  unknown_of : (r i : ℕ) (ch : Choice) (d : Data) (o : Option (List (List ℕ))) → names_of d ≡ o
+  unknown_of : (r i : ℕ) (ch : Choice) (d : Data) (o : Option (List (List ℕ))) → element_names d ≡ o
       → list_any (is_unknown rows names r) (names_among o) ≡ true
       → ShapeFault rows names stream r ch i d (place rows stream K4 r i)
   unknown_of r i ch d None e u = absurd cc
   unknown_of r i ch d (Some ns) e u = unknown r i ch d ns e u
 
   to_shape : (r i : ℕ) (ch : Choice) (d : Data) (f : Broken) → Ways r i ch d f → ShapeFault rows names stream r ch i d f
-  to_shape r i ch d f (inl (inl (u, is))) = rw is (unknown_of r i ch d (names_of d) refl u)
+  to_shape r i ch d f (inl (inl (u, is))) = rw is (unknown_of r i ch d (element_names d) refl u)
   to_shape r i ch d f (inl (inr (u, (e, is)))) = rw is (unmet r i u ch d e)
   to_shape r i ch d f (inr (inl (e, is))) = rw is (odd r i ch d e)
   to_shape r i ch d f (inr (inr (e, is))) = rw is (no_href r i ch d e)
@@ -96,7 +96,7 @@ module _ (rows : List Row) (names : List (List ℕ)) (stream : ℕ) where
   -- the first fault of an object beside those of its members
   abbrev pub shape_answer : ℕ → ℕ → Choice → Data → Option Broken
   shape_answer r i ch d =
-      earlier_broken (earlier_broken (fault_if (list_any (is_unknown rows names r) (names_among (names_of d)))
+      earlier_broken (earlier_broken (fault_if (list_any (is_unknown rows names r) (names_among (element_names d)))
       (place rows stream K4 r i)) (option_map (unmet_place rows stream r i) (choice_unmet names ch d)))
       (earlier_broken (fault_if (has_odd d) (place rows stream K3 r i))
       (fault_if (lacks_href ch d) (place rows stream K2 r i)))
@@ -108,14 +108,14 @@ module _ (rows : List Row) (names : List (List ℕ)) (stream : ℕ) where
       first_same _ _ _ (to_shape r i ch d) (from_shape r i ch d)
       (first_or _ _ _ _
       (first_or _ _ _ _ (first_if (place rows stream K4 r i)
-      (list_any (is_unknown rows names r) (names_among (names_of d))))
+      (list_any (is_unknown rows names r) (names_among (element_names d))))
       (first_of_rule (unmet_place rows stream r i) (choice_unmet names ch d)))
       (first_or _ _ _ _ (first_if (place rows stream K3 r i) (has_odd d))
       (first_if (place rows stream K2 r i) (lacks_href ch d))))
 
   -- ---- a value by itself
 
-  from_own : (r i : ℕ) (kind : Kind) (d : Data) → ((ch : Choice) → kind ≡ Object ch → names_of d ≡ None) → (f : Broken)
+  from_own : (r i : ℕ) (kind : Kind) (d : Data) → ((ch : Choice) → kind ≡ Object ch → element_names d ≡ None) → (f : Broken)
       → FaultAt rows names stream r kind i d f
       → (k : Rule) × ((own_rule kind d ≡ Some k) × (f ≡ place rows stream k r i))
   from_own r i kind d h f (own _ _ k _ _ e) = (k, (e, refl))
@@ -128,7 +128,7 @@ module _ (rows : List Row) (names : List (List ℕ)) (stream : ℕ) where
   to_own r i kind d f (k, (e, is)) = rw is (own r i k kind d e)
 
   -- a value that is no object or is not to be one
-  pub own_first : (r i : ℕ) (kind : Kind) (d : Data) → ((ch : Choice) → kind ≡ Object ch → names_of d ≡ None)
+  pub own_first : (r i : ℕ) (kind : Kind) (d : Data) → ((ch : Choice) → kind ≡ Object ch → element_names d ≡ None)
       → IsFirstBroken (FaultAt rows names stream r kind i d)
       (option_map (λ k. place rows stream k r i) (own_rule kind d))
   own_first r i kind d h =
@@ -137,14 +137,14 @@ module _ (rows : List Row) (names : List (List ℕ)) (stream : ℕ) where
 
   -- ---- an object
 
-  from_object : (r i : ℕ) (ch : Choice) (d : Data) (ns : List (List ℕ)) → names_of d ≡ Some ns → (f : Broken)
+  from_object : (r i : ℕ) (ch : Choice) (d : Data) (ns : List (List ℕ)) → element_names d ≡ Some ns → (f : Broken)
       → FaultAt rows names stream r (Object ch) i d f
       → ShapeFault rows names stream r ch i d f ⊎ MemberFault rows names stream r i d f
   from_object r i ch d ns h f (own _ _ k _ _ e) = absurd (no_own ch d ns k h e)
   from_object r i ch d ns h f (shape _ _ _ _ ms _ e s) = inl s
   from_object r i ch d ns h f (under _ _ c _ _ ms _ row e m u) = inr (c, (row, (m, u)))
 
-  to_object : (r i : ℕ) (ch : Choice) (d : Data) (ns : List (List ℕ)) → names_of d ≡ Some ns → (f : Broken)
+  to_object : (r i : ℕ) (ch : Choice) (d : Data) (ns : List (List ℕ)) → element_names d ≡ Some ns → (f : Broken)
       → ShapeFault rows names stream r ch i d f ⊎ MemberFault rows names stream r i d f
       → FaultAt rows names stream r (Object ch) i d f
   to_object r i ch d ns h f (inl s) = shape r i ch d ns f h s
@@ -152,7 +152,7 @@ module _ (rows : List Row) (names : List (List ℕ)) (stream : ℕ) where
 
   -- the first fault of an object is the earlier of its shape's and its members'
   pub object_first : (r i : ℕ) (ch : Choice) (d : Data) (ns : List (List ℕ)) (a b : Option Broken)
-      → names_of d ≡ Some ns
+      → element_names d ≡ Some ns
       → IsFirstBroken (ShapeFault rows names stream r ch i d) a → IsFirstBroken (MemberFault rows names stream r i d) b
       → IsFirstBroken (FaultAt rows names stream r (Object ch) i d) (earlier_broken a b)
   object_first r i ch d ns a b h p q =
@@ -162,7 +162,7 @@ module _ (rows : List Row) (names : List (List ℕ)) (stream : ℕ) where
 
   -- the faults of the row c, where it is a member's
   abbrev pub RowFault : ℕ → ℕ → Data → ℕ → Broken → Type 0
-  RowFault r i d c f = (row : Row) × (IsMember rows names r c row × FaultUnder rows names stream c row i d f)
+  RowFault r i d c f = (row : Row) × (IsMemberRow rows names r c row × FaultUnder rows names stream c row i d f)
 
   -- no member of row r is before it
   pub none_before : (r i : ℕ) (d : Data) → IsFirstBroken (Below (RowFault r i d) r) None
@@ -173,7 +173,7 @@ module _ (rows : List Row) (names : List (List ℕ)) (stream : ℕ) where
 
   -- each member of row r is before row n
   abbrev pub AreBefore : ℕ → ℕ → Type 0
-  AreBefore r n = (c : ℕ) (row : Row) → IsMember rows names r c row → c < n
+  AreBefore r n = (c : ℕ) (row : Row) → IsMemberRow rows names r c row → c < n
 
   -- as it does where n is the end of its members
   pub before_end : (ends : List ℕ) (r n : ℕ) → EndsHold rows ends → min (end_at (length rows) ends r) (length rows) ≤ n
@@ -196,13 +196,13 @@ module _ (rows : List Row) (names : List (List ℕ)) (stream : ℕ) where
   one_row : (c : ℕ) (row row' : Row) → slice_get rows c ≡ Some row → slice_get rows c ≡ Some row' → row ≡ row'
   one_row c row row' p q = cc
 
-  from_row : (r i c : ℕ) (d : Data) (row : Row) → IsMember rows names r c row → (f : Broken) → RowFault r i d c f
+  from_row : (r i c : ℕ) (d : Data) (row : Row) → IsMemberRow rows names r c row → (f : Broken) → RowFault r i d c f
       → FaultUnder rows names stream c row i d f
   from_row r i c d row m f (row', (m', u)) =
       subst (λ (x : Row). FaultUnder rows names stream c x i d f) (one_row c row' row m'.found m.found) u
 
   -- the first fault under a row is that of the row
-  pub row_first : (r i c : ℕ) (d : Data) (row : Row) (a : Option Broken) → IsMember rows names r c row
+  pub row_first : (r i c : ℕ) (d : Data) (row : Row) (a : Option Broken) → IsMemberRow rows names r c row
       → IsFirstBroken (FaultUnder rows names stream c row i d) a → IsFirstBroken (RowFault r i d c) a
   row_first r i c d row a m p = first_same _ _ _ (λ f u. (row, (m, u))) (from_row r i c d row m) p
 

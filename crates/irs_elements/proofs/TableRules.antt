@@ -5,7 +5,7 @@ use Rattle.irs_base.specs.declared.places.Rule.TheVariants.{K3, K5, K6}
 use Rattle.irs_elements.specs.Elements.{FaultAt, FaultUnder, ShapeFault, inside, missing, no_href, odd}
 use Rattle.irs_elements.specs.Private.Elements.{IsOfTables}
 use Rattle.irs_elements.specs.Elements.{own, own_rule, refused, shape, too_many, under, unknown, unmet}
-use Rattle.irs_elements.specs.Leaves.{has_value, leaf_rule, out_of_profile, text_of, text_rule}
+use Rattle.irs_elements.specs.Leaves.{has_value, leaf_rule, out_of_profile, text_of_leaf, text_rule}
 use Rattle.irs_elements.specs.declared.table.Choice.{Choice}
 use Rattle.irs_elements.specs.declared.table.Kind.{Kind}
 use Rattle.irs_elements.specs.declared.table.Kind.TheVariants.{Object, Leaf, Passed, Refused}
@@ -13,7 +13,7 @@ use Rattle.irs_elements.specs.declared.table.Leaf.{Leaf as LeafKind}
 use Rattle.irs_elements.specs.declared.table.Row.{Row}
 use Rattle.irs_elements.specs.declared.walk.Unmet.TheVariants.{Both, Neither}
 use Rattle.irs_json.specs.Leaves.{Leaf as LeafSaid, leaf_of}
-use Rattle.irs_json.specs.Names.{names_of}
+use Rattle.irs_json.specs.Names.{element_names}
 use Rattle.serde_json.specs.Data.{Data}
 use Rattle.std.proofs.Common.{◌≡◌, ℕ, Bool, true, false, List, Option, Some, None, if◌then◌else◌, subst}
 use Rattle.std.specs.List.{list_any}
@@ -41,14 +41,14 @@ of_text k s = by_value (has_value k s) (list_any (bytes_eq s) (out_of_profile k)
 
 of_leaf : (k : LeafKind) (o : Option LeafSaid) → Told (leaf_rule k o)
 of_leaf k None = tt
-of_leaf k (Some says) = of_text k (text_of says)
+of_leaf k (Some says) = of_text k (text_of_leaf says)
 
 by_object : (b : Bool) → Told (if b then None else Some K3)
 by_object true = tt
 by_object false = tt
 
 of_own : (kind : Kind) (d : Data) → Told (own_rule kind d)
-of_own (Object choice) d = by_object (is_some (names_of d))
+of_own (Object choice) d = by_object (is_some (element_names d))
 of_own (Leaf k) d = of_leaf k (leaf_of d)
 of_own Passed d = tt
 of_own Refused d = tt

@@ -4,7 +4,8 @@ use Rattle.irs_elements.proofs.DecimalsAt.{dec_exact}
 use Rattle.irs_elements.proofs.Exact.{Exact, both_true}
 use Rattle.irs_elements.proofs.FractionsAt.{below_power}
 use Rattle.irs_elements.specs.Decimals.{dec_at}
-use Rattle.irs_elements.specs.Numbers.{digits_of, has_no_point, is_whole, whole_at}
+use Rattle.irs_base.specs.Decimals.{has_no_point}
+use Rattle.irs_elements.specs.Numbers.{digits_of, is_whole_number, whole_at}
 use Rattle.jiff_core.proofs.SignedLemmas.{signed_arith}
 use Rattle.std.proofs.Common.{◌≡◌, ◌⊎◌, inl, inr, ℕ, ◌+◌, ◌*◌, ◌^◌, ◌<◌, ◌≤◌, nat_le, Bool, true, false, List, [], ◌∷◌}
 use Rattle.std.proofs.Common.{◌++◌, length, ℤ, Option, Some, None, if◌then◌else◌, refl, sym, ap, ◌∙◌, subst, arith}
@@ -63,7 +64,7 @@ one_more (c ∷ cs) = behind_sign c cs ((c == 43) || (c == 45))
 found : (s : List ℕ) (z : ℤ) (o : Option ℤ) → o ≡ dec_at 0 s → o ≡ Some z → DecText s 0 z
 found s z o e h = subst (λ (x : Option ℤ). Exact (DecText s 0) x) (sym e ∙ h) (dec_exact s 0)
 
-by_test : (s : List ℕ) (z : ℤ) (b : Bool) → is_whole s ≡ b → (if b then dec_at 0 s else None) ≡ Some z
+by_test : (s : List ℕ) (z : ℤ) (b : Bool) → is_whole_number s ≡ b → (if b then dec_at 0 s else None) ≡ Some z
     → unsigned_abs z < 10 ^ 10
 by_test s z true e h =
     let n = dec_small s z (found s z (dec_at 0 s) refl h) in
@@ -74,4 +75,4 @@ by_test s z false e h = cc
 
 -- a whole number that is read is below 10^10 in size
 pub whole_small : (s : List ℕ) (z : ℤ) → whole_at s ≡ Some z → unsigned_abs z < 10 ^ 10
-whole_small s z h = by_test s z (is_whole s) refl h
+whole_small s z h = by_test s z (is_whole_number s) refl h

@@ -44,8 +44,8 @@ convention_at =
     ∷ (codes "MODPRECEDING", ModPreceding) ∷ (codes "NEAREST", Nearest) ∷ (codes "NONE", Unadjusted) ∷ [])
 
 -- `period` of a frequency
-abbrev pub unit_at : List ℕ → Option PeriodUnit
-unit_at = among ((codes "D", D) ∷ (codes "W", W) ∷ (codes "M", M) ∷ (codes "Y", Y) ∷ (codes "T", T) ∷ [])
+abbrev pub period_unit_at : List ℕ → Option PeriodUnit
+period_unit_at = among ((codes "D", D) ∷ (codes "W", W) ∷ (codes "M", M) ∷ (codes "Y", Y) ∷ (codes "T", T) ∷ [])
 
 -- `period` of a tenor, which is never the term
 abbrev pub tenor_unit_at : List ℕ → Option PeriodUnit
@@ -120,10 +120,10 @@ day_roll_at (a ∷ b ∷ []) =
 day_roll_at (a ∷ b ∷ c ∷ rest) = None
 
 -- the first of two values that is there
-abbrev pub either : {A : Type 0} → Option A → Option A → Option A
-either None b = b
-either (Some a) b = Some a
+abbrev pub first_there : {A : Type 0} → Option A → Option A → Option A
+first_there None b = b
+first_there (Some a) b = Some a
 
 -- the roll that a text names, or its day of the month
 abbrev pub roll_at : List ℕ → Option RollCode
-roll_at s = either (named_roll_at s) (day_roll_at s)
+roll_at s = first_there (named_roll_at s) (day_roll_at s)

@@ -7,5 +7,5 @@ abbrev pub without_z : List ℕ → List ℕ
 without_z s = if (length s == 11) && (slice_index s 10 == 90) then take 10 s else s
 
 -- `YYYY-MM-DD` of a day in range, with or without a last `Z`
-unfoldable pub day_at : List ℕ → Option ℤ
-day_at s = date_at (without_z s)
+unfoldable pub leaf_date_at : List ℕ → Option ℤ
+leaf_date_at s = date_at (without_z s)

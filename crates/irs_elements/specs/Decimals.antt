@@ -1,5 +1,6 @@
 -- The number that the text of a decimal spells, as a function of the text.
-use Rattle.irs_base.specs.Decimals.{is_digit, is_zero, number_after, number_of, padded}
+use Rattle.irs_base.specs.Dates.{is_digit}
+use Rattle.irs_base.specs.Decimals.{is_zero, number_after, number_of, padded}
 use Rattle.std.specs.List.{list_all}
 use Rattle.std.specs.Prelude.{ℕ, ◌+◌, nat_lt, nat_le, Bool, ◌&&◌, ◌==◌, List, [], ◌∷◌, length, drop, ℤ, pos, neg_ℤ}
 use Rattle.std.specs.Prelude.{Option, Some, None, option_map, if◌then◌else◌}

@@ -15,17 +15,17 @@ use Rattle.irs_elements.specs.declared.table.Row.{Row}
 use Rattle.irs_elements.specs.declared.walk.Unmet.{Unmet}
 use Rattle.irs_elements.specs.declared.walk.Unmet.TheVariants.{Both, Neither}
 use Rattle.irs_json.specs.Carrier.{child_of}
-use Rattle.irs_json.specs.Leaves.{leaf_of, is_attribute}
-use Rattle.irs_json.specs.Names.{names_of}
+use Rattle.irs_json.specs.Leaves.{leaf_of, is_attribute_name}
+use Rattle.irs_json.specs.Names.{element_names}
 use Rattle.irs_json.specs.Values.{items_of}
 use Rattle.serde_json.specs.Data.{Data}
 use Rattle.serde_json.specs.Find.{as_str}
 use Rattle.std.specs.Borrow.{Bor}
 use Rattle.std.specs.List.{list_any, enumerate_from}
-use Rattle.std.specs.Prelude.{map, ◌≡◌, ℕ, Bool, true, false, not, ◌&&◌, ◌||◌, ◌==◌, ◌<◌, ◌≤◌, ◌+◌, List, []}
-use Rattle.std.specs.Prelude.{length}
+use Rattle.std.specs.Prelude.{map, ◌≡◌, ℕ, Bool, true, false, not, ◌&&◌, ◌||◌, ◌==◌, ◌<◌, ◌≤◌, ◌+◌, List, length}
 use Rattle.std.specs.Prelude.{Option, Some, None, is_some, is_none, slice_get, codes, if◌then◌else◌, nat_lt}
 use Rattle.std.specs.Str.{bytes_eq}
+use Rattle.irs_base.specs.Elements.{name_or_empty}
 
 -- ---- counts
 
@@ -61,7 +61,7 @@ absent_index (UpTo n) i = 0
 
 -- the rule that a value breaks by itself
 abbrev pub own_rule : Kind → Data → Option Rule
-own_rule (Object c) d = if is_some (names_of d) then None else Some K3
+own_rule (Object c) d = if is_some (element_names d) then None else Some K3
 own_rule (Leaf k) d = leaf_rule k (leaf_of d)
 own_rule Passed d = None
 own_rule Refused d = None
@@ -127,13 +127,8 @@ unmet_place rows stream r i Neither = place rows stream K2 r i
 -- ---- names
 
 -- the names that the references lead to
-abbrev pub texts : List (Bor (List ℕ)) → List (List ℕ)
-texts names = map (λ n. n.now) names
-
--- a name, where there is one
-abbrev pub name_in : Option (List ℕ) → List ℕ
-name_in None = []
-name_in (Some name) = name
+abbrev pub referenced_texts : List (Bor (List ℕ)) → List (List ℕ)
+referenced_texts names = map (λ n. n.now) names
 
 -- whether two of three hold, or all of them
 abbrev pub are_two : Bool → Bool → Bool → Bool
@@ -142,7 +137,7 @@ are_two a b c = (a && b) || ((a && c) || (b && c))
 module _ (names : List (List ℕ)) where
   -- the name of the row c
   abbrev pub name_at : ℕ → List ℕ
-  name_at c = name_in (slice_get names c)
+  name_at c = name_or_empty (slice_get names c)
 
   -- whether the object d has the member at row c
   abbrev pub stands : ℕ → Data → Bool
@@ -169,10 +164,10 @@ module _ (rows : List Row) (names : List (List ℕ)) where
 
   -- a name that is no attribute's and that no row has
   abbrev pub is_unknown : ℕ → List ℕ → Bool
-  is_unknown r name = not (is_attribute name || is_known r name)
+  is_unknown r name = not (is_attribute_name name || is_known r name)
 
   -- c is the row of a member of the object at row r
-  pub record IsMember (r c : ℕ) (row : Row) : Type 0 where
+  pub record IsMemberRow (r c : ℕ) (row : Row) : Type 0 where
     pub found : slice_get rows c ≡ Some row
     pub parent : row.parent ≡ r
     pub later : r < c
@@ -181,7 +176,7 @@ module _ (rows : List Row) (names : List (List ℕ)) (stream : ℕ) where
   -- the rules that an object breaks beside those of its members
   pub data ShapeFault : ℕ → Choice → ℕ → Data → Broken → Type 0 where
     -- it has a member that the table doesn't know
-    unknown : (r i : ℕ) (choice : Choice) (d : Data) (ns : List (List ℕ)) → names_of d ≡ Some ns
+    unknown : (r i : ℕ) (choice : Choice) (d : Data) (ns : List (List ℕ)) → element_names d ≡ Some ns
         → list_any (is_unknown rows names r) ns ≡ true
         → ShapeFault r choice i d (place rows stream K4 r i)
     -- `@id` or `@href` is no text
@@ -200,13 +195,13 @@ module _ (rows : List Row) (names : List (List ℕ)) (stream : ℕ) where
       own : (r i : ℕ) (k : Rule) (kind : Kind) (d : Data) → own_rule kind d ≡ Some k
           → FaultAt r kind i d (place rows stream k r i)
       -- as an object
-      shape : (r i : ℕ) (choice : Choice) (d : Data) (ns : List (List ℕ)) (f : Broken) → names_of d ≡ Some ns
+      shape : (r i : ℕ) (choice : Choice) (d : Data) (ns : List (List ℕ)) (f : Broken) → element_names d ≡ Some ns
           → ShapeFault r choice i d f
           → FaultAt r (Object choice) i d f
       -- by a member
       under : (r i c : ℕ) (choice : Choice) (d : Data) (ns : List (List ℕ)) (f : Broken) (row : Row)
-          → names_of d ≡ Some ns
-          → IsMember rows names r c row → FaultUnder c row i d f → FaultAt r (Object choice) i d f
+          → element_names d ≡ Some ns
+          → IsMemberRow rows names r c row → FaultUnder c row i d f → FaultAt r (Object choice) i d f
 
     -- those of the member at row c of the object d, which has index i
     pub data FaultUnder : ℕ → Row → ℕ → Data → Broken → Type 0 where

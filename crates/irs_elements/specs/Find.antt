@@ -1,5 +1,5 @@
 -- Finding a value by its name.
-use Rattle.irs_elements.specs.Leaves.{text_of}
+use Rattle.irs_elements.specs.Leaves.{text_of_leaf}
 use Rattle.irs_json.specs.Carrier.{child_of}
 use Rattle.irs_json.specs.Leaves.{leaf_of}
 use Rattle.irs_json.specs.Values.{items_of}
@@ -31,5 +31,5 @@ abbrev pub values_in : List ℕ → Option Data → List Data
 values_in name o = values_of (option_and_then (child_of name) o)
 
 -- the text of a leaf that may be absent
-abbrev pub text_in : Option Data → Option (List ℕ)
-text_in o = option_map text_of (option_and_then leaf_of o)
+abbrev pub leaf_text_in : Option Data → Option (List ℕ)
+leaf_text_in o = option_map text_of_leaf (option_and_then leaf_of o)

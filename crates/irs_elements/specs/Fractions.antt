@@ -26,8 +26,8 @@ carried [] = 0
 carried (c ∷ cs) = if nat_le 53 c then 1 else 0
 
 -- the digits before the point and the decimals that are kept, and what is carried from those after them
-abbrev pub fraction_of : List ℕ → List ℕ → Dec
-fraction_of whole fraction = record {
+abbrev pub fraction_from_digits : List ℕ → List ℕ → Dec
+fraction_from_digits whole fraction = record {
   units = pos (number_after (number_of whole) (take most_places fraction) + carried (drop most_places fraction));
   places = length (take most_places fraction);
 }
@@ -35,4 +35,4 @@ fraction_of whole fraction = record {
 -- the fraction of a text, with its decimals
 unfoldable pub fraction_at : List ℕ → Option Dec
 fraction_at s =
-    if are_parts (before_point s) (behind_point s) then Some (fraction_of (before_point s) (behind_point s)) else None
+    if are_parts (before_point s) (behind_point s) then Some (fraction_from_digits (before_point s) (behind_point s)) else None

@@ -4,11 +4,11 @@ use Rattle.irs_base.specs.declared.places.Rule.TheVariants.{K3, K5, K6}
 use Rattle.irs_elements.specs.Codes.{calculation_method_at, compounding_at, convention_at, day_count_at, day_kind_at}
 use Rattle.irs_elements.specs.Codes.{direction_at}
 use Rattle.irs_elements.specs.Codes.{offset_unit_at, relative_at, roll_at, stub_kind_at, tenor_unit_at, treatment_at}
-use Rattle.irs_elements.specs.Codes.{truth_at, unit_at}
-use Rattle.irs_elements.specs.Dates.{day_at}
+use Rattle.irs_elements.specs.Codes.{truth_at, period_unit_at}
+use Rattle.irs_elements.specs.Dates.{leaf_date_at}
 use Rattle.irs_elements.specs.Fractions.{fraction_at}
 use Rattle.irs_elements.specs.Numbers.{amount_at, multiplier_at, notional_at, observation_days_at, offset_at}
-use Rattle.irs_elements.specs.Numbers.{precision_at, rate_at}
+use Rattle.irs_elements.specs.Numbers.{precision_at, leaf_rate_at}
 use Rattle.irs_elements.specs.Numbers.{whole_at}
 use Rattle.irs_elements.specs.Words.{currency_at, is_center_name, is_index_name}
 use Rattle.irs_elements.specs.declared.table.Leaf.{Leaf as LeafKind}
@@ -25,21 +25,21 @@ use Rattle.std.specs.Prelude.{ℕ, Bool, List, [], ◌∷◌, Option, Some, None
 use Rattle.std.specs.Str.{bytes_eq}
 
 -- the text of a leaf: a whole number's decimal digits, and `true` or `false`
-abbrev pub text_of : Leaf → List ℕ
-text_of (word s) = s
-text_of (whole z) = signed_decimal z
-text_of (truth b) = if b then codes "true" else codes "false"
+abbrev pub text_of_leaf : Leaf → List ℕ
+text_of_leaf (word s) = s
+text_of_leaf (whole z) = signed_decimal z
+text_of_leaf (truth b) = if b then codes "true" else codes "false"
 
 -- whether the text is in the grammar and the range of its kind
 abbrev pub has_value : LeafKind → List ℕ → Bool
-has_value Date s = is_some (day_at s)
+has_value Date s = is_some (leaf_date_at s)
 has_value Multiplier s = is_some (multiplier_at s)
 has_value OffsetDays s = is_some (offset_at s)
 has_value ObservationDays s = is_some (observation_days_at s)
 has_value Precision s = is_some (precision_at s)
 has_value Whole s = is_some (whole_at s)
 has_value Notional s = is_some (notional_at s)
-has_value Rate s = is_some (rate_at s)
+has_value Rate s = is_some (leaf_rate_at s)
 has_value Amount s = is_some (amount_at s)
 has_value Fraction s = is_some (fraction_at s)
 has_value Truth s = is_some (truth_at s)
@@ -47,7 +47,7 @@ has_value CenterName s = is_center_name s
 has_value IndexName s = is_index_name s
 has_value CurrencyName s = is_some (currency_at s)
 has_value Convention s = is_some (convention_at s)
-has_value PeriodUnit s = is_some (unit_at s)
+has_value PeriodUnit s = is_some (period_unit_at s)
 has_value TenorUnit s = is_some (tenor_unit_at s)
 has_value OffsetUnit s = is_some (offset_unit_at s)
 has_value DayType s = is_some (day_kind_at s)
@@ -101,4 +101,4 @@ text_rule kind s =
 -- the rule that a value breaks at a leaf
 abbrev pub leaf_rule : LeafKind → Option Leaf → Option Rule
 leaf_rule kind None = Some K3
-leaf_rule kind (Some leaf) = text_rule kind (text_of leaf)
+leaf_rule kind (Some leaf) = text_rule kind (text_of_leaf leaf)

@@ -70,9 +70,9 @@ path_of_member [] name = name
 path_of_member (c ∷ p) name = c ∷ p ++ 47 ∷ name
 
 -- the number of paths before p
-abbrev pub place_of : List (List ℕ) → List ℕ → ℕ
-place_of [] p = 0
-place_of (q ∷ qs) p = elim (bytes_eq q p) [ true ↦ 0 | false ↦ place_of qs p + 1 ]
+abbrev pub place_of_path : List (List ℕ) → List ℕ → ℕ
+place_of_path [] p = 0
+place_of_path (q ∷ qs) p = elim (bytes_eq q p) [ true ↦ 0 | false ↦ place_of_path qs p + 1 ]
 
 -- ---- lines
 
@@ -85,8 +85,8 @@ abbrev pub line_below : String → String → Form → Count → Line
 line_below above path form often = record { path = codes path; above = codes above; form = form; often = often }
 
 -- members of these names
-abbrev pub at : String → List String → Others
-at above names = record { above = above; names = names }
+abbrev pub others_at : String → List String → Others
+others_at above names = record { above = above; names = names }
 
 -- ---- the rows that a table gives; `places` are the paths of all elements
 
@@ -97,7 +97,7 @@ row_paths t = codes t.top ∷ map (λ (l : Line). l.path) t.lines
 module _ (places rows : List (List ℕ)) where
   -- the row of the member with a name, below the element at a path
   abbrev row_of_member : List ℕ → String → ℕ
-  row_of_member path name = place_of rows (path_of_member path (codes name))
+  row_of_member path name = place_of_path rows (path_of_member path (codes name))
 
   -- the kind of the element at a path, with its choice by rows
   abbrev kind_of : List ℕ → Form → Kind
@@ -112,8 +112,8 @@ module _ (places rows : List (List ℕ)) where
   -- the row of a line
   abbrev pub row_of : Line → Row
   row_of l = record {
-    parent = place_of rows l.above;
-    place = place_of places l.path;
+    parent = place_of_path rows l.above;
+    place = place_of_path places l.path;
     kind =
         kind_of l.path l.form;
     count = l.often;
@@ -124,7 +124,7 @@ module _ (places rows : List (List ℕ)) where
   other_rows place kind [] = []
   other_rows place kind (o ∷ os) =
       map (λ (name : String). record {
-        parent = place_of rows (codes o.above);
+        parent = place_of_path rows (codes o.above);
         place = place;
         kind = kind;
         count =
@@ -132,24 +132,24 @@ module _ (places rows : List (List ℕ)) where
       }) o.names ++ other_rows place kind os
 
 -- the names of members that are passed over or out of profile
-abbrev pub other_names : List Others → List (List ℕ)
-other_names [] = []
-other_names (o ∷ os) = map codes o.names ++ other_names os
+abbrev pub other_row_names : List Others → List (List ℕ)
+other_row_names [] = []
+other_row_names (o ∷ os) = map codes o.names ++ other_row_names os
 
 -- the row of the whole is its own parent, and it is an object that occurs once
 abbrev pub first_row : ℕ → Row
 first_row place = record { parent = 0; place = place; kind = Object Free; count = One }
 
 -- the rows of a table: its first, one for each line, then one for each other name
-abbrev pub rows_of : List (List ℕ) → Table → List Row
-rows_of places t =
-    let whole : ℕ = place_of places (codes t.whole) in
+abbrev pub table_rows : List (List ℕ) → Table → List Row
+table_rows places t =
+    let whole : ℕ = place_of_path places (codes t.whole) in
     let rows : List (List ℕ) = row_paths t in
     first_row whole ∷ map (row_of places rows) t.lines ++ other_rows places rows whole Passed t.passed
     ++ other_rows places rows whole Refused t.refused
 
 -- and their names
-abbrev pub names_of : Table → List (List ℕ)
-names_of t =
-    last_name (codes t.whole) ∷ map (λ (l : Line). last_name l.path) t.lines ++ other_names t.passed
-    ++ other_names t.refused
+abbrev pub table_names : Table → List (List ℕ)
+table_names t =
+    last_name (codes t.whole) ∷ map (λ (l : Line). last_name l.path) t.lines ++ other_row_names t.passed
+    ++ other_row_names t.refused

@@ -1,9 +1,9 @@
 -- The numbers of leaves, with their ranges.
 use Rattle.irs_elements.specs.Decimals.{dec_at}
 use Rattle.irs_base.specs.Limits.{most_multiplier, most_notional, most_observation_offset, most_offset, most_rate}
-use Rattle.std.specs.List.{list_all}
-use Rattle.std.specs.Prelude.{ℕ, nat_le, Bool, not, ◌&&◌, ◌||◌, ◌==◌, List, [], ◌∷◌, length, ℤ, pos, neg_ℤ}
+use Rattle.std.specs.Prelude.{ℕ, nat_le, Bool, ◌&&◌, ◌||◌, ◌==◌, List, [], ◌∷◌, length, ℤ, pos, neg_ℤ}
 use Rattle.std.specs.Prelude.{unsigned_abs, int_le, Option, Some, None, option_map, if◌then◌else◌}
+use Rattle.irs_base.specs.Decimals.{has_no_point}
 
 -- the number, where it lies from low to high
 abbrev pub within : ℤ → ℤ → Option ℤ → Option ℤ
@@ -15,8 +15,8 @@ abbrev pub notional_at : List ℕ → Option ℤ
 notional_at s = within (pos 0) (pos most_notional) (dec_at 4 s)
 
 -- a rate, a spread or a multiplier: 9 places, at most 10 in size
-abbrev pub rate_at : List ℕ → Option ℤ
-rate_at s = within (neg_ℤ (pos most_rate)) (pos most_rate) (dec_at 9 s)
+abbrev pub leaf_rate_at : List ℕ → Option ℤ
+leaf_rate_at s = within (neg_ℤ (pos most_rate)) (pos most_rate) (dec_at 9 s)
 
 -- an amount of cash flows: 12 places
 abbrev pub amount_at : List ℕ → Option ℤ
@@ -27,17 +27,13 @@ abbrev pub digits_of : List ℕ → List ℕ
 digits_of [] = []
 digits_of (c ∷ cs) = if c == 43 || c == 45 then cs else c ∷ cs
 
--- the text has no decimal point
-abbrev pub has_no_point : List ℕ → Bool
-has_no_point s = list_all (λ b. not (b == 46)) s
-
 -- at most nine digits after a sign, without a point
-abbrev pub is_whole : List ℕ → Bool
-is_whole s = nat_le (length (digits_of s)) 9 && has_no_point s
+abbrev pub is_whole_number : List ℕ → Bool
+is_whole_number s = nat_le (length (digits_of s)) 9 && has_no_point s
 
 -- a whole number: a decimal without places and without a point, of at most 9 digits
 abbrev pub whole_at : List ℕ → Option ℤ
-whole_at s = if is_whole s then dec_at 0 s else None
+whole_at s = if is_whole_number s then dec_at 0 s else None
 
 -- the multiplier of a frequency: 1 to 999
 abbrev pub multiplier_at : List ℕ → Option ℕ

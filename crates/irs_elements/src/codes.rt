@@ -3,7 +3,8 @@
 ghost use Rattle.irs_elements.specs.Codes.{calculation_method_at, compounding_at, convention_at, day_count_at};
 ghost use Rattle.irs_elements.specs.Codes.{day_kind_at, day_number_at};
 ghost use Rattle.irs_elements.specs.Codes.{day_roll_at, direction_at, named_roll_at, offset_unit_at, relative_at};
-ghost use Rattle.irs_elements.specs.Codes.{roll_at, stub_kind_at, tenor_unit_at, treatment_at, truth_at, unit_at};
+ghost use Rattle.irs_elements.specs.Codes.{roll_at, stub_kind_at, tenor_unit_at, treatment_at, truth_at};
+ghost use Rattle.irs_elements.specs.Codes.{period_unit_at};
 ghost use Rattle.std.specs.Prelude.{◌≡◌};
 
 use irs_base::{DayName, Direction};
@@ -49,7 +50,7 @@ pub fn convention(text: &str) -> Option<ConvCode>
 
 /// `period` of a frequency.
 pub fn unit(text: &str) -> Option<Unit>
-    ensures { result ≡ unit_at text.now }
+    ensures { result ≡ period_unit_at text.now }
 {
     among!(
         text,

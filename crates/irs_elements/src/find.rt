@@ -1,5 +1,5 @@
 //! Finding a value by its name, and the text of a leaf.
-ghost use Rattle.irs_elements.specs.Find.{member as member_of, once as once_of, seen, text_in, values_in};
+ghost use Rattle.irs_elements.specs.Find.{member as member_of, once as once_of, seen, leaf_text_in, values_in};
 ghost use Rattle.serde_json.specs.View.{view};
 ghost use Rattle.std.specs.Prelude.{◌≡◌, Some, map, option_map};
 
@@ -48,7 +48,7 @@ pub fn values_at<'a>(v: &'a Value, name: &str) -> &'a [Value]
 
 /// The text of a leaf that may be absent. A whole number's digits are written into `digits`.
 pub fn leaf_text<'a>(v: Option<&'a Value>, digits: &'a mut Buffer) -> Option<&'a str>
-    ensures { option_map (λ s. s.now) result ≡ text_in (seen v.entry) }
+    ensures { option_map (λ s. s.now) result ≡ leaf_text_in (seen v.entry) }
 {
     match leaf(v?) {
         None => None,

@@ -5,7 +5,7 @@ ghost use Rattle.irs_base.specs.Decimals.{AreDigits, number_after};
 ghost use Rattle.irs_base.specs.Texts.{most_places};
 ghost use Rattle.irs_base.specs.declared.line.Dec.{Dec as DecRecord};
 ghost use Rattle.irs_elements.specs.Fractions.{IsFraction, carried, fraction_at};
-ghost use Rattle.irs_elements.specs.Fractions.{fraction_of as fraction_by};
+ghost use Rattle.irs_elements.specs.Fractions.{fraction_from_digits as fraction_by};
 ghost use Rattle.std.specs.Prelude.{◌≡◌, ◌+◌, ◌^◌, ◌≤◌, [], IfNone, IfSome, drop, length, take};
 
 use irs_base::{Dec, decimal_parts, number_of_parts};

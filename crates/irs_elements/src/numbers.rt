@@ -1,12 +1,13 @@
 //! Dates and numbers: the value of a text. `None` comes exactly where the text is outside the
 //! grammar or the range of its kind.
-ghost use Rattle.irs_elements.specs.Dates.{day_at};
+ghost use Rattle.irs_elements.specs.Dates.{leaf_date_at};
 ghost use Rattle.irs_elements.specs.Decimals.{dec_at};
 ghost use Rattle.irs_elements.specs.Private.Decimals.{digits_at, few_digits_at};
-ghost use Rattle.irs_elements.specs.Numbers.{amount_at, digits_of, has_no_point as no_point_of};
-ghost use Rattle.irs_elements.specs.Numbers.{is_whole as is_whole_of, multiplier_at, notional_at};
+ghost use Rattle.irs_base.specs.Decimals.{has_no_point as no_point_of};
+ghost use Rattle.irs_elements.specs.Numbers.{amount_at, digits_of, is_whole_number as is_whole_of, multiplier_at};
+ghost use Rattle.irs_elements.specs.Numbers.{notional_at};
 ghost use Rattle.irs_elements.specs.Numbers.{observation_days_at, offset_at};
-ghost use Rattle.irs_elements.specs.Numbers.{precision_at, rate_at, whole_at, within as within_of};
+ghost use Rattle.irs_elements.specs.Numbers.{precision_at, leaf_rate_at, whole_at, within as within_of};
 ghost use Rattle.std.specs.Prelude.{◌≡◌, ◌+◌, ◌*◌, ◌^◌, ◌<◌, ◌≤◌, length, unsigned_abs};
 
 use irs_base::{Day, MOST_RATE, read_date, read_dec};
@@ -25,7 +26,7 @@ const MOST_OBSERVATION_OFFSET: i128 = 30;
 
 /// A date: `YYYY-MM-DD` of a day in range, with or without a last `Z`.
 pub fn day(text: &[u8]) -> Option<Day>
-    ensures { result ≡ day_at text.now }
+    ensures { result ≡ leaf_date_at text.now }
 {
     match read_date(text) {
         None => None,
@@ -96,7 +97,7 @@ pub fn notional(text: &[u8]) -> Option<i128>
 
 /// A rate, a spread or a multiplier: a decimal of 9 places, at most 10 in size.
 pub fn rate(text: &[u8]) -> Option<i128>
-    ensures { result ≡ rate_at text.now }
+    ensures { result ≡ leaf_rate_at text.now }
 {
     let most = MOST_RATE as i128;
     within(-most, most, decimal(text, 9))
@@ -104,7 +105,7 @@ pub fn rate(text: &[u8]) -> Option<i128>
 
 /// The same in 64 bits.
 pub fn small_rate(text: &[u8]) -> Option<i64>
-    ensures { result ≡ rate_at text.now }
+    ensures { result ≡ leaf_rate_at text.now }
 {
     match rate(text) {
         None => None,

@@ -16,10 +16,10 @@ ghost use Rattle.irs_elements.specs.Elements.{is_odd as is_odd_of, is_refused as
 ghost use Rattle.irs_elements.specs.Elements.{is_required as is_required_of, is_unknown, lacks_href as lacks_href_of};
 ghost use Rattle.irs_elements.specs.Elements.{most as most_of, name_at, place};
 ghost use Rattle.irs_elements.specs.Private.Elements.{names_among};
-ghost use Rattle.irs_elements.specs.Elements.{stands as stands_of, texts, unmet_place};
+ghost use Rattle.irs_elements.specs.Elements.{stands as stands_of, referenced_texts, unmet_place};
 ghost use Rattle.irs_json.specs.Carrier.{child_of};
 ghost use Rattle.irs_json.specs.Leaves.{leaf_of};
-ghost use Rattle.irs_json.specs.Names.{names_of};
+ghost use Rattle.irs_json.specs.Names.{element_names};
 ghost use Rattle.serde_json.specs.View.{view};
 ghost use Rattle.std.specs.List.{list_any};
 ghost use Rattle.std.specs.Prelude.{◌≡◌, ◌↔◌, ◌+◌, ◌<◌, ◌≤◌, ◌&&◌, ◌==◌, IsTrue, false, true, nat_lt, length, map};
@@ -158,7 +158,7 @@ fn absent_index(count: Count, index: u32) -> u32
 
 // The name at row c, and the empty name past the table.
 fn name_of(names: &[&'static str], c: usize) -> &'static str
-    ensures { result.now ≡ name_at (texts names.now) c }
+    ensures { result.now ≡ name_at (referenced_texts names.now) c }
 {
     match names.get(c) {
         None => "",
@@ -167,7 +167,7 @@ fn name_of(names: &[&'static str], c: usize) -> &'static str
 }
 
 fn stands(names: &[&'static str], c: usize, v: &Value) -> bool
-    ensures { result ≡ stands_of (texts names.now) c (view v.now) }
+    ensures { result ≡ stands_of (referenced_texts names.now) c (view v.now) }
 {
     child(v, name_of(names, c)).is_some()
 }
@@ -181,7 +181,7 @@ fn are_two(a: bool, b: bool, c: bool) -> bool
 
 // How an object fails its choice.
 fn choice_unmet(names: &[&'static str], choice: Choice, v: &Value) -> Option<Unmet>
-    ensures { result ≡ choice_unmet_of (texts names.now) choice (view v.now) }
+    ensures { result ≡ choice_unmet_of (referenced_texts names.now) choice (view v.now) }
 {
     match choice {
         Choice::Free => None,
@@ -220,7 +220,7 @@ fn choice_fault(
     v: &Value,
 ) -> Option<Broken>
     ensures { result ≡ option_map (unmet_place table.now.rows.now table.now.stream r index)
-        (choice_unmet_of (texts table.now.names.now) choice (view v.now)) }
+        (choice_unmet_of (referenced_texts table.now.names.now) choice (view v.now)) }
 {
     match choice_unmet(table.names, choice, v) {
         None => None,
@@ -232,14 +232,14 @@ fn choice_fault(
 // Whether the row at c is below the object at row r and has the name.
 fn is_named(table: &Table<'_>, r: usize, c: usize, row: &Row, name: &str) -> bool
     ensures { result
-        ≡ (nat_lt r c && row.now.parent == r && bytes_eq (name_at (texts table.now.names.now) c) name.now) }
+        ≡ (nat_lt r c && row.now.parent == r && bytes_eq (name_at (referenced_texts table.now.names.now) c) name.now) }
 {
     r < c && row.parent == r && name_of(table.names, c) == name
 }
 
 // Whether a row below the object at row r has the name; these rows come after its own.
 fn is_known(table: &Table<'_>, r: usize, name: &str) -> bool
-    ensures { result ≡ is_known_in table.now.rows.now (texts table.now.names.now) r name.now }
+    ensures { result ≡ is_known_in table.now.rows.now (referenced_texts table.now.names.now) r name.now }
 {
     for c in r..table.rows.len() {
         if is_named(table, r, c, &table.rows[c], name) {
@@ -251,8 +251,8 @@ fn is_known(table: &Table<'_>, r: usize, name: &str) -> bool
 
 // Whether an object at row r has a member that the table doesn't know.
 fn has_unknown(table: &Table<'_>, r: usize, v: &Value) -> bool
-    ensures { result ≡ list_any (is_unknown table.now.rows.now (texts table.now.names.now) r)
-        (names_among (names_of (view v.now))) }
+    ensures { result ≡ list_any (is_unknown table.now.rows.now (referenced_texts table.now.names.now) r)
+        (names_among (element_names (view v.now))) }
 {
     match members(v) {
         None => false,
@@ -263,8 +263,8 @@ fn has_unknown(table: &Table<'_>, r: usize, v: &Value) -> bool
 }
 
 fn unknown_fault(table: &Table<'_>, r: usize, index: u32, v: &Value) -> Option<Broken>
-    ensures { result ≡ fault_if (list_any (is_unknown table.now.rows.now (texts table.now.names.now) r)
-        (names_among (names_of (view v.now)))) (place table.now.rows.now table.now.stream Rule.K4 r index) }
+    ensures { result ≡ fault_if (list_any (is_unknown table.now.rows.now (referenced_texts table.now.names.now) r)
+        (names_among (element_names (view v.now)))) (place table.now.rows.now table.now.stream Rule.K4 r index) }
 {
     if has_unknown(table, r, v) {
         Some(broken(table, Rule::K4, r, index))
@@ -336,15 +336,15 @@ fn first_of(first: Option<Broken>, found: Option<Broken>) -> Option<Broken>
 // Whether one of the names is an attribute's, or one that the table doesn't know below the object at
 // row r.
 fn is_one_apart(table: &Table<'_>, r: usize, mut listed: MemberIter<'_>) -> bool
-    ensures { result ≡ list_any (is_apart table.now.rows.now (texts table.now.names.now) r) listed.entry }
+    ensures { result ≡ list_any (is_apart table.now.rows.now (referenced_texts table.now.names.now) r) listed.entry }
 {
     listed.any(|name| is_attribute_name(name) || !is_known(table, r, name))
 }
 
 // Whether a member of the object at row r has such a name. Where none has, no attribute is odd.
 fn has_apart(table: &Table<'_>, r: usize, v: &Value) -> bool
-    ensures names { result ≡ list_any (is_apart table.now.rows.now (texts table.now.names.now) r)
-        (names_among (names_of (view v.now))) }
+    ensures names { result ≡ list_any (is_apart table.now.rows.now (referenced_texts table.now.names.now) r)
+        (names_among (element_names (view v.now))) }
     ensures even { result ≡ false → has_odd_of (view v.now) ≡ false }
 {
     match members(v) {
@@ -357,7 +357,7 @@ fn has_apart(table: &Table<'_>, r: usize, v: &Value) -> bool
 fn asked_fault(table: &Table<'_>, r: usize, choice: Choice, index: u32, v: &Value) -> Option<Broken>
     ensures { result ≡ earlier_broken
         (option_map (unmet_place table.now.rows.now table.now.stream r index)
-        (choice_unmet_of (texts table.now.names.now) choice (view v.now)))
+        (choice_unmet_of (referenced_texts table.now.names.now) choice (view v.now)))
         (fault_if (lacks_href_of choice (view v.now)) (place table.now.rows.now table.now.stream Rule.K2 r index)) }
 {
     match choice {
@@ -378,7 +378,7 @@ fn whole_shape_fault(
     v: &Value,
 ) -> Option<Broken>
     ensures { IsFirstBroken
-        (ShapeFault table.now.rows.now (texts table.now.names.now) table.now.stream r choice index (view v.now))
+        (ShapeFault table.now.rows.now (referenced_texts table.now.names.now) table.now.stream r choice index (view v.now))
         result }
 {
     let unknown = unknown_fault(table, r, index, v);
@@ -392,7 +392,7 @@ fn whole_shape_fault(
 // unknown and no attribute is odd.
 fn shape_fault(table: &Table<'_>, r: usize, choice: Choice, index: u32, v: &Value) -> Option<Broken>
     ensures { IsFirstBroken
-        (ShapeFault table.now.rows.now (texts table.now.names.now) table.now.stream r choice index (view v.now))
+        (ShapeFault table.now.rows.now (referenced_texts table.now.names.now) table.now.stream r choice index (view v.now))
         result }
 {
     if has_apart(table, r, v) {
@@ -446,7 +446,7 @@ fn with_sure_ends<'t>(table: &Table<'t>) -> Table<'t>
 /// stream of that number. `None` comes exactly where none is broken.
 pub fn first_fault(table: &Table<'_>, r: usize, kind: Kind, index: u32, v: &Value) -> Option<Broken>
     ensures { IsFirstBroken
-        (FaultAt table.now.rows.now (texts table.now.names.now) table.now.stream r kind index (view v.now)) result }
+        (FaultAt table.now.rows.now (referenced_texts table.now.names.now) table.now.stream r kind index (view v.now)) result }
 {
     value_fault(&with_sure_ends(table), r, kind, index, v)
 }
@@ -456,7 +456,7 @@ pub fn first_fault(table: &Table<'_>, r: usize, kind: Kind, index: u32, v: &Valu
 fn value_fault(table: &Table<'_>, r: usize, kind: Kind, index: u32, v: &Value) -> Option<Broken>
     requires { EndsHold table.now.rows.now table.now.ends.now }
     ensures { IsFirstBroken
-        (FaultAt table.now.rows.now (texts table.now.names.now) table.now.stream r kind index (view v.now)) result }
+        (FaultAt table.now.rows.now (referenced_texts table.now.names.now) table.now.stream r kind index (view v.now)) result }
 {
     match kind {
         Kind::Object(choice) => object_fault(table, r, choice, index, v),
@@ -477,7 +477,7 @@ fn object_fault(
 ) -> Option<Broken>
     requires { EndsHold table.now.rows.now table.now.ends.now }
     ensures { IsFirstBroken
-        (FaultAt table.now.rows.now (texts table.now.names.now) table.now.stream r (Kind.Object choice) index
+        (FaultAt table.now.rows.now (referenced_texts table.now.names.now) table.now.stream r (Kind.Object choice) index
         (view v.now)) result }
 {
     if !v.is_object() {
@@ -503,7 +503,7 @@ fn is_one_right_leaf(name: &str, leaf: Leaf, v: &Value) -> bool
 
 // Whether the member at row c is a leaf that occurs once and breaks no rule, as most members are.
 fn is_right_leaf(table: &Table<'_>, c: usize, row: &Row, v: &Value) -> bool
-    ensures { result ≡ is_right_leaf_of (texts table.now.names.now) c row.now (view v.now) }
+    ensures { result ≡ is_right_leaf_of (referenced_texts table.now.names.now) c row.now (view v.now) }
 {
     match row.kind {
         Kind::Object(_) => false,
@@ -520,7 +520,7 @@ fn is_right_leaf(table: &Table<'_>, c: usize, row: &Row, v: &Value) -> bool
 fn members_fault(table: &Table<'_>, r: usize, index: u32, v: &Value) -> Option<Broken>
     requires { EndsHold table.now.rows.now table.now.ends.now }
     ensures { IsFirstBroken
-        (MemberFault table.now.rows.now (texts table.now.names.now) table.now.stream r index (view v.now)) result }
+        (MemberFault table.now.rows.now (referenced_texts table.now.names.now) table.now.stream r index (view v.now)) result }
 {
     let mut first = None;
     let end = end_of(table, r).min(table.rows.len());
@@ -540,7 +540,7 @@ fn members_fault(table: &Table<'_>, r: usize, index: u32, v: &Value) -> Option<B
 fn fault_under(table: &Table<'_>, c: usize, row: &Row, index: u32, v: &Value) -> Option<Broken>
     requires { EndsHold table.now.rows.now table.now.ends.now }
     ensures { IsFirstBroken
-        (FaultUnder table.now.rows.now (texts table.now.names.now) table.now.stream c row.now index (view v.now))
+        (FaultUnder table.now.rows.now (referenced_texts table.now.names.now) table.now.stream c row.now index (view v.now))
         result }
 {
     match child(v, name_of(table.names, c)) {
@@ -578,7 +578,7 @@ fn fault_among(
     requires few { length list.now ≤ most_of count }
     requires ends { EndsHold table.now.rows.now table.now.ends.now }
     ensures { IsFirstBroken
-        (FaultAmong table.now.rows.now (texts table.now.names.now) table.now.stream c kind (index_in_of count index)
+        (FaultAmong table.now.rows.now (referenced_texts table.now.names.now) table.now.stream c kind (index_in_of count index)
         (map view list.now)) result }
 {
     let mut first = None;

@@ -5,7 +5,7 @@ use Rattle.irs_base.specs.declared.line.Dec.{Dec}
 use Rattle.irs_daycount.specs.Fractions.{denominator_of}
 use Rattle.irs_emit.specs.Private.Paid.{IsPaid}
 use Rattle.irs_schedule.proofs.PlaceLemmas.{decimals_few}
-use Rattle.irs_schedule.specs.Parts.{Part, Covers, KeepsBounds, IsAmount, HasAmount, IsEntry}
+use Rattle.irs_schedule.specs.Parts.{Part, EntriesCover, KeepsBounds, IsAmount, HasAmount, IsEntry}
 use Rattle.irs_schedule.specs.PeriodViews.{period_at, dated_period}
 use Rattle.irs_schedule.specs.declared.entries.PaymentEntry.{PaymentEntry}
 use Rattle.irs_schedule.specs.declared.entries.PeriodEntry.{PeriodEntry}
@@ -31,7 +31,7 @@ pub exchange_few : (p : Part) (j : ℕ) (x : Exchange) → KeepsBounds p → sli
 exchange_few p j x h e =
     few p.currency x.amount (every_get (λ (y : Exchange). IsAmount p.currency y.amount) p.exchanges j x h.exchanged e)
 
-ordered : (a n : ℕ) (ys : List PaymentEntry) → 1 ≤ a → Covers a ys n
+ordered : (a n : ℕ) (ys : List PaymentEntry) → 1 ≤ a → EntriesCover a ys n
     → Every (λ (y : PaymentEntry). (1 ≤ y.first_period) × (y.first_period ≤ y.last_period)) ys
 ordered a n [] l h = tt
 ordered a n (y ∷ ys) l h = ((omega (arith, h.0), h.1), ordered (y.last_period + 1) n ys (omega arith) h.2)

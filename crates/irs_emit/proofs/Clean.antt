@@ -13,7 +13,7 @@ use Rattle.irs_elements.specs.declared.table.Leaf.{Leaf as LeafKind}
 use Rattle.irs_elements.specs.declared.table.Row.{Row}
 use Rattle.irs_json.specs.Carrier.{child_of}
 use Rattle.irs_json.specs.Leaves.{leaf_of}
-use Rattle.irs_json.specs.Names.{names_of}
+use Rattle.irs_json.specs.Names.{element_names}
 use Rattle.irs_json.specs.Values.{items_of}
 use Rattle.serde_json.specs.Data.{Data}
 use Rattle.std.proofs.Common.{◌≡◌, ℕ, zero, suc, ◌+◌, ◌<◌, ◌≤◌, nat_lt, ◌==◌, ◌&&◌, if◌then◌else◌, Bool, true, false}
@@ -123,17 +123,17 @@ module _ (rows : List Row) (names : List (List ℕ)) (stream : ℕ) where
       subst (λ c. MemberFree c row i d) up (each_at r i d (n + 1) rest k row later e p (omega (arith, l)))
 
   -- an object with known names has no fault where its members have none
-  pub object_free : (r i : ℕ) (d : Data) (ns : List (List ℕ)) → names_of d ≡ Some ns
+  pub object_free : (r i : ℕ) (d : Data) (ns : List (List ℕ)) → element_names d ≡ Some ns
       → list_any (is_unknown rows names r) ns ≡ false → has_odd d ≡ false → Each r i d 0 rows
       → NoFault r (Object Free) i d
-  object_free r i d ns e known even each f (own _ _ rule _ _ h) = own_none (names_of d) ns rule e h
+  object_free r i d ns e known even each f (own _ _ rule _ _ h) = own_none (element_names d) ns rule e h
     where
       own_none : (o : Option (List (List ℕ))) (ns : List (List ℕ)) (rule : Rule) → o ≡ Some ns
           → (if is_some o then None else Some K3) ≡ Some rule → ⊥
       own_none None ns rule e h = cc
       own_none (Some m) ns rule e h = cc
   object_free r i d ns e known even each f (shape _ _ choice _ ms _ g (unknown _ _ _ _ ks h u)) =
-      let same = same_some ns ks (names_of d) e h in
+      let same = same_some ns ks (element_names d) e h in
       false_true (list_any (is_unknown rows names r) ks) (ap (list_any (is_unknown rows names r)) (sym same) ∙ known) u
   object_free r i d ns e known even each f (shape _ _ choice _ ms _ g (odd _ _ _ _ h)) = false_true (has_odd d) even h
   object_free r i d ns e known even each f (shape _ _ choice _ ms _ g (no_href _ _ _ _ h)) = cc

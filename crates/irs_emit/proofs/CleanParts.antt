@@ -2,10 +2,11 @@
 use Rattle.irs_audit.specs.declared.flow_table.TheConstants.{FLOW_ROWS, PERIOD_ROWS}
 use Rattle.irs_audit.proofs.FlowLaws.{flow_code_names, flow_names_are, flow_rows_are, period_code_names}
 use Rattle.irs_audit.proofs.FlowLaws.{period_names_are, period_rows_are}
-use Rattle.irs_audit.specs.FlowFaults.{CashflowsFault, FlowFault, OnceFault, PeriodFault, PeriodsFault, StreamFault}
-use Rattle.irs_audit.specs.FlowFaults.{StreamsFault, SwapFault, below, ended, has_both_rates, in_period, in_stream}
+use Rattle.irs_audit.specs.FlowFaults.{CashflowsFault, FlowFault, OnceFault, PeriodFault, PeriodsFault, FlowStreamFault}
+use Rattle.irs_audit.specs.FlowFaults.{FlowStreamsFault, FlowSwapFault, below, ended, has_both_rates, in_period}
+use Rattle.irs_audit.specs.FlowFaults.{in_stream}
 use Rattle.irs_audit.specs.FlowFaults.{is_sound, many_periods, many_streams, no_stream}
-use Rattle.irs_audit.specs.FlowLines.{flow_names, flow_rows, period_names, period_rows}
+use Rattle.irs_audit.specs.FlowLines.{flow_names, flow_rows, period_names, period_table_rows}
 use Rattle.irs_base.specs.Limits.{most_rows, most_streams}
 use Rattle.irs_base.proofs.MemberLemmas.{every_get}
 use Rattle.irs_base.specs.Members.{Every}
@@ -35,7 +36,7 @@ use Rattle.irs_terms.specs.declared.results.Reset.{Reset}
 use Rattle.irs_emit.specs.Emitted.{array_of, cashflows_value, emit_value, exchange_value, fixed_value, floating_value}
 use Rattle.irs_emit.specs.Emitted.{forecast_value, known_exchanges, listed_period, object_with, one_period}
 use Rattle.irs_emit.specs.Emitted.{payment_value, period_members, period_value, period_values, put_known, stream_value}
-use Rattle.irs_emit.specs.Leaves.{amount_leaf, currency_leaf, day_leaf, rate_leaf, text_of}
+use Rattle.irs_emit.specs.Leaves.{amount_leaf, currency_leaf, day_leaf, rate_leaf, utf8_or_empty}
 use Rattle.irs_audit.proofs.StatedLemmas.{flows_agree}
 use Rattle.irs_emit.proofs.Short.{parts_short}
 use Rattle.irs_emit.specs.PartLaws.{IsPartShort, StatesFlows}
@@ -78,13 +79,13 @@ forecast_free : (stream i : ℕ) (c : Currency) (o : Option Dec) → is_currency
 forecast_free stream i c None e h =
     let d = forecast_with c None in
     object_free F M stream 8 i d _ refl refl refl (
-      leaf_member F M stream 9 i _ d CurrencyName (text_of c.letters) refl refl (omega arith) (currency_kept c e),
+      leaf_member F M stream 9 i _ d CurrencyName (utf8_or_empty c.letters) refl refl (omega arith) (currency_kept c e),
       (absent_free F M stream 10 i _ d refl refl, tt),
     )
 forecast_free stream i c (Some v) e h =
     let d = forecast_with c (Some v) in
     object_free F M stream 8 i d _ refl refl refl (
-      leaf_member F M stream 9 i _ d CurrencyName (text_of c.letters) refl refl (omega arith) (currency_kept c e),
+      leaf_member F M stream 9 i _ d CurrencyName (utf8_or_empty c.letters) refl refl (omega arith) (currency_kept c e),
       (
         leaf_member F M stream 10 i _ d Amount (dec_text v.units v.places) refl refl (omega arith)
             (number_kept v.units v.places h.0 h.1),
@@ -261,9 +262,9 @@ by_flow_tables stream i d h =
     flow_names_are h
 
 by_period_tables : (stream i : ℕ) (d : Data) → NoFault PERIOD_ROWS period_code_names stream 0 (Object Free) i d
-    → NoFault period_rows period_names stream 0 (Object Free) i d
+    → NoFault period_table_rows period_names stream 0 (Object Free) i d
 by_period_tables stream i d h =
-    by_tables (λ rows names. NoFault rows names stream 0 (Object Free) i d) PERIOD_ROWS period_rows period_code_names
+    by_tables (λ rows names. NoFault rows names stream 0 (Object Free) i d) PERIOD_ROWS period_table_rows period_code_names
     period_names period_rows_are period_names_are h
 
 -- ---- the calculation periods of a stream
@@ -326,7 +327,7 @@ cash_fault_free stream p h f (inr fault) =
 
 -- a stream has no fault
 abbrev IsSoundStream : Data → Type 0
-IsSoundStream d = (number : ℕ) (f : Broken) → StreamFault number d f → ⊥
+IsSoundStream d = (number : ℕ) (f : Broken) → FlowStreamFault number d f → ⊥
 
 its_cash : (p : Part) → values_in (codes "cashflows") (Some (stream_value p)) ≡ cashflows_value p ∷ []
 unfolding cashflows_value
@@ -350,7 +351,7 @@ streams_sound [] h = tt
 streams_sound (p ∷ s) h = (stream_free p h.0, streams_sound s h.1)
 
 streams_free : (ds : List Data) → 0 < length ds → length ds ≤ most_streams → Every IsSoundStream ds → (f : Broken)
-    → StreamsFault ds f → ⊥
+    → FlowStreamsFault ds f → ⊥
 streams_free ds some few h f (no_stream none) = absurd (omega (arith, some, none))
 streams_free ds some few h f (many_streams lt) = absurd (omega (arith, few, lt))
 streams_free ds some few h f (in_stream g _ _ among) =
@@ -365,12 +366,12 @@ sound_swap [] = refl
 sound_swap (d ∷ ds) = refl
 
 swap_free : (s : List Part) → 0 < length s → length s ≤ most_streams → Every IsPartShort s → (f : Broken)
-    → SwapFault (swap_of s) f → ⊥
+    → FlowSwapFault (swap_of s) f → ⊥
 swap_free s some few h f (inl own) = not_sound (is_sound (swap_of s)) (sound_swap (map stream_value s)) own.0
 swap_free s some few h f (inr inside) =
     let l = mapped_length stream_value s in
     streams_free (map stream_value s) (omega (arith, l, some)) (omega (arith, l, few)) (streams_sound s h) f
-    (subst (λ ds. StreamsFault ds f) (array_values (map stream_value s)) inside.1)
+    (subst (λ ds. FlowStreamsFault ds f) (array_values (map stream_value s)) inside.1)
 
 the_same : (a b : Data) (w : Result Data Broken) → w ≡ Ok a → w ≡ Ok b → a ≡ b
 the_same a b w e h = let both : Ok a ≡ Ok b = sym e ∙ h in cc
@@ -384,7 +385,7 @@ pub emitted_free : (s : List Part) → 0 < length s → length s ≤ most_stream
 emitted_free s some few h f (ended _ e) = no_end (swap_of s) f (the_swap (emit_value s)) (its_swap s) e
 emitted_free s some few h f (below t _ e fault) =
     swap_free s some few h f
-    (subst (λ d. SwapFault d f) (the_same t (swap_of s) (the_swap (emit_value s)) e (its_swap s)) fault)
+    (subst (λ d. FlowSwapFault d f) (the_same t (swap_of s) (the_swap (emit_value s)) e (its_swap s)) fault)
 
 -- bytes that read as the emitted value state the flows of the schedule
 pub states : (s : List Part) (bytes : List ℕ) → Reads bytes (emit_value s) → IsWithin s → StatesFlows bytes s

@@ -24,10 +24,10 @@ use Rattle.irs_audit.specs.StatedFlows.{stated_fraction}
 use Rattle.irs_emit.specs.Emitted.{definition_value, exchange_value, fixed_value, floating_value, observation_value}
 use Rattle.irs_emit.specs.Emitted.{period_members, period_value, put_known}
 use Rattle.irs_emit.specs.Leaves.{count_leaf, currency_leaf, day_leaf, fraction_leaf, notional_leaf, rate_leaf}
-use Rattle.irs_emit.specs.RowLaws.{IsExchangeShort, IsPeriodShort, IsResetShort, IsShort, IsShortRate}
+use Rattle.irs_emit.specs.RowLaws.{IsExchangeShort, IsPeriodShort, IsResetShort, IsShortNumber, IsShortRate}
 use Rattle.irs_json.specs.Carrier.{child_of}
 use Rattle.irs_json.specs.Leaves.{leaf_of}
-use Rattle.irs_json.specs.Names.{names_of}
+use Rattle.irs_json.specs.Names.{element_names}
 use Rattle.irs_schedule.specs.declared.views.CalculationPeriod.{CalculationPeriod}
 use Rattle.jiff_core.proofs.SignedLemmas.{signed_arith}
 use Rattle.std.specs.Fmt.{signed_decimal}
@@ -53,7 +53,7 @@ pub day_kept : (d : ℤ) → IsDay d → leaf_rule Date (leaf_of (day_leaf d)) �
 day_kept d h = leaf_kept Date (day_text d) (day_visible d) (ap is_some (day_back d h))
 
 -- the text of a short number is an amount
-pub number_kept : (z : ℤ) (p : ℕ) → p ≤ 12 → IsShort z p → leaf_rule Amount (leaf_of (string (dec_text z p))) ≡ None
+pub number_kept : (z : ℤ) (p : ℕ) → p ≤ 12 → IsShortNumber z p → leaf_rule Amount (leaf_of (string (dec_text z p))) ≡ None
 number_kept z p l h = leaf_kept Amount (dec_text z p) (number_visible z p h) (ap is_some (number_back z p l h))
 
 -- three capital letters are a currency
@@ -220,7 +220,7 @@ definition_free stream i (Some z) r k h =
 count_kept : (n : ℤ) → unsigned_abs n < 10 ^ 9 → leaf_rule Whole (leaf_of (count_leaf n)) ≡ None
 count_kept n h = leaf_kept Whole (signed_decimal n) (count_visible n h) (ap is_some (count_back n h))
 
-fraction_kept_by : (z : ℤ) → pos 0 ≤ℤ z → IsShort z 10 → leaf_rule Fraction (leaf_of (string (dec_text z 10))) ≡ None
+fraction_kept_by : (z : ℤ) → pos 0 ≤ℤ z → IsShortNumber z 10 → leaf_rule Fraction (leaf_of (string (dec_text z 10))) ≡ None
 fraction_kept_by (pos n) some h =
     leaf_kept Fraction (dec_text (pos n) 10) (number_visible (pos n) 10 h) (ap is_some (fraction_back n h))
 fraction_kept_by (negsuc n) some h = absurd (omega (arith, signed_arith, some))
@@ -236,7 +236,7 @@ pub record HasPeriod (x : CalculationPeriod) (d : Data) : Type 0 where
   pub fraction : child_of (name_at N 8) d ≡ Some (fraction_leaf x.frac)
   pub refused : child_of (name_at N 22) d ≡ None
 
-period_by : (stream i : ℕ) (x : CalculationPeriod) (d : Data) (ns : List (List ℕ)) → names_of d ≡ Some ns
+period_by : (stream i : ℕ) (x : CalculationPeriod) (d : Data) (ns : List (List ℕ)) → element_names d ≡ Some ns
     → list_any (is_unknown P N 0) ns ≡ false → has_odd d ≡ false → HasPeriod x d
     → MemberFree P N stream 7 (row_at 7) i d → MemberFree P N stream 9 (row_at 9) i d → IsPeriodShort x
     → NoFault P N stream 0 (Object Free) i d

@@ -16,11 +16,12 @@ use Rattle.irs_base.specs.Rounding.{Rounded}
 use Rattle.irs_base.specs.declared.rounding.Direction.TheVariants.{Nearest}
 use Rattle.std.specs.List.{list_all}
 use Rattle.std.proofs.lemmas.List.{take_all}
-use Rattle.irs_elements.specs.Dates.{day_at}
-use Rattle.irs_elements.specs.Find.{text_in}
-use Rattle.irs_elements.specs.Numbers.{amount_at, digits_of, has_no_point, is_whole, whole_at}
+use Rattle.irs_elements.specs.Dates.{leaf_date_at}
+use Rattle.irs_elements.specs.Find.{leaf_text_in}
+use Rattle.irs_base.specs.Decimals.{has_no_point}
+use Rattle.irs_elements.specs.Numbers.{amount_at, digits_of, is_whole_number, whole_at}
 use Rattle.irs_json.proofs.Trims.{front_stays, back_stays}
-use Rattle.irs_json.specs.Trim.{is_space, trim, trim_back}
+use Rattle.irs_json.specs.Trim.{is_white_space, trim, trim_back}
 use Rattle.irs_json.specs.Private.Trim.{NoSpaceFirst, NoSpaceLast}
 use Rattle.jiff_core.proofs.SignedLemmas.{signed_arith}
 use Rattle.serde_json.specs.Data.{string}
@@ -35,7 +36,7 @@ use Rattle.std.specs.Fmt.{decimal, signed_decimal}
 
 -- ---- texts without white space
 
-no_space : (x : ℕ) → 33 ≤ x → is_space x ≡ false
+no_space : (x : ℕ) → 33 ≤ x → is_white_space x ≡ false
 no_space x h = grind (arith, nat_tests)
 
 last_visible : (rest : List ℕ) (x : ℕ) → Visible (rest ++ x ∷ []) → 33 ≤ x
@@ -53,13 +54,13 @@ pub trimmed : (s : List ℕ) → Visible s → trim s ≡ s
 trimmed s h = ap trim_back (front_stays s (first_of s h)) ∙ back_stays s (last_of s h)
 
 -- a string without white space is read as its text
-pub visible_text : (s : List ℕ) → Visible s → text_in (Some (string s)) ≡ Some s
+pub visible_text : (s : List ℕ) → Visible s → leaf_text_in (Some (string s)) ≡ Some s
 visible_text s h = ap Some (ap trim_back (front_stays s (first_of s h)) ∙ back_stays s (last_of s h))
 
 -- ---- dates
 
 -- a date is read back as its day
-pub day_back : (d : ℤ) → IsDay d → day_at (day_text d) ≡ Some d
+pub day_back : (d : ℤ) → IsDay d → leaf_date_at (day_text d) ≡ Some d
 day_back d day = sym (day_is (day_text d) (Some d) (day, inl (plain d day)) tt)
 
 -- ---- decimals
@@ -168,13 +169,13 @@ no_longer (c ∷ cs) = sign_left c cs ((c == 43) || (c == 45))
 is_nine : (n : ℕ) → n ≤ 9 → nat_le n 9 ≡ true
 is_nine n h = grind (arith, nat_tests)
 
-whole_pos : (n : ℕ) → n < 10 ^ 9 → is_whole (decimal n) ≡ true
+whole_pos : (n : ℕ) → n < 10 ^ 9 → is_whole_number (decimal n) ≡ true
 whole_pos n h = let l = no_longer (decimal n) in
     true_both (nat_le (length (digits_of (decimal n))) 9) (has_no_point (decimal n))
     (is_nine (length (digits_of (decimal n))) (omega (arith, l, nine_digits n h)))
     (no_point (decimal n) (spells_decimal n (omega arith)).0)
 
-whole_neg : (n : ℕ) → n < 10 ^ 9 → is_whole (45 ∷ decimal n) ≡ true
+whole_neg : (n : ℕ) → n < 10 ^ 9 → is_whole_number (45 ∷ decimal n) ≡ true
 whole_neg n h =
     true_both (nat_le (length (decimal n)) 9) (has_no_point (decimal n))
     (is_nine (length (decimal n)) (nine_digits n h)) (no_point (decimal n) (spells_decimal n (omega arith)).0)

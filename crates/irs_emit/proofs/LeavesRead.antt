@@ -1,6 +1,6 @@
 -- Each leaf reads back as its value.
 use Rattle.irs_audit.specs.FlowMeaning.{stated}
-use Rattle.irs_elements.specs.Dates.{day_at}
+use Rattle.irs_elements.specs.Dates.{leaf_date_at}
 use Rattle.irs_elements.specs.Fractions.{fraction_at}
 use Rattle.irs_elements.specs.Numbers.{amount_at, whole_at}
 use Rattle.irs_elements.specs.Words.{currency_at, is_currency}
@@ -31,7 +31,7 @@ said_text f s h = ap (option_and_then f) (visible_text s h)
 
 -- the leaf of a day reads back as the day
 pub day_reads : DayReadsBack
-day_reads d h = said_text day_at (day_text d) (day_visible d) ∙ day_back d h
+day_reads d h = said_text leaf_date_at (day_text d) (day_visible d) ∙ day_back d h
 
 number_reads : (z : ℤ) (p : ℕ) → p ≤ 12 → unsigned_abs z / 10 ^ p < 10 ^ 18
     → said amount_at (Some (string (dec_text z p))) ≡ Some (z *ℤ pos (10 ^ (12 - p)))

@@ -1,6 +1,6 @@
 -- The value of a schedule states its flows.
-use Rattle.irs_audit.specs.FlowFaults.{few, payments_in, periods_in, periods_of}
-use Rattle.irs_audit.specs.FlowMeaning.{exchange_in, flows_in, payment_in, period_in, stream_in, streams_in}
+use Rattle.irs_audit.specs.FlowFaults.{few, payments_in, periods_in, flow_periods_of}
+use Rattle.irs_audit.specs.FlowMeaning.{exchange_in, flows_in, payment_in, period_in, flow_part_in, flow_parts_in}
 use Rattle.irs_audit.specs.FlowParts.{FlowPart}
 use Rattle.irs_audit.specs.StatedFlows.{stated_exchange, stated_flows, stated_part, stated_payment, stated_period}
 use Rattle.irs_audit.specs.StatedFlows.{stated_periods_from}
@@ -20,7 +20,7 @@ use Rattle.irs_emit.specs.RowLaws.{IsExchangeShort, IsPaymentShort, IsPeriodShor
 use Rattle.irs_json.specs.Carrier.{present}
 use Rattle.irs_read.specs.Documents.{the_swap}
 use Rattle.irs_schedule.proofs.WalkLemmas.{covers_within}
-use Rattle.irs_schedule.specs.Parts.{Part, Covers, KeepsBounds}
+use Rattle.irs_schedule.specs.Parts.{Part, EntriesCover, KeepsBounds}
 use Rattle.irs_schedule.specs.PeriodViews.{dated_period, period_at}
 use Rattle.irs_schedule.specs.declared.entries.PaymentEntry.{PaymentEntry}
 use Rattle.irs_schedule.specs.declared.entries.PeriodEntry.{PeriodEntry}
@@ -92,8 +92,8 @@ periods_of_payment : (p : Part) (y : PaymentEntry)
 unfolding payment_value
 periods_of_payment p y = array_values (period_values p (y.first_period - 1) (y.last_period + 1 - y.first_period))
 
-covered : (p : Part) (a n : ℕ) (ys : List PaymentEntry) → 1 ≤ a → a ≤ n + 1 → Covers a ys n
-    → periods_of (map (payment_value p) ys) ≡ period_values p (a - 1) (n + 1 - a)
+covered : (p : Part) (a n : ℕ) (ys : List PaymentEntry) → 1 ≤ a → a ≤ n + 1 → EntriesCover a ys n
+    → flow_periods_of (map (payment_value p) ys) ≡ period_values p (a - 1) (n + 1 - a)
 covered p a n [] l k h = let none : n + 1 - a ≡ 0 = omega (arith, h) in ap (period_values p (a - 1)) (sym none)
 covered p a n (y ∷ ys) l k h =
     let first = h.0 in
@@ -165,13 +165,13 @@ part_of : (a : List FlowExchange) (b : List FlowPayment) (c : List FlowPeriod) (
 part_of a b c f e1 e2 e3 = rw (e1, e2, e3) refl
 
 -- the periods that the payments list are all of them
-pub periods_are : (p : Part) → KeepsBounds p → periods_of (payments_in (Some (cashflows_value p)))
+pub periods_are : (p : Part) → KeepsBounds p → flow_periods_of (payments_in (Some (cashflows_value p)))
     ≡ period_values p 0 (length p.periods)
 periods_are p h =
     let n = length p.periods in
     let some = h.some in
     let same : n + 1 - 1 ≡ n = omega arith in
-    ap periods_of (payments_of p h) ∙ covered p 1 n p.payments (omega arith) (omega arith) h.covers
+    ap flow_periods_of (payments_of p h) ∙ covered p 1 n p.payments (omega arith) (omega arith) h.covers
     ∙ ap (period_values p 0) same
 
 flows_read : (p : Part) → IsPartShort p → flows_in (Some (cashflows_value p)) ≡ stated_part p
@@ -201,7 +201,7 @@ its_swap s = refl
 
 -- the swap of the emitted value states the flows
 pub swap_reads : (s : List Part) → Every IsPartShort s
-    → stated_flows s ≡ streams_in (object_with (codes "swapStream") (array_of (map stream_value s)))
+    → stated_flows s ≡ flow_parts_in (object_with (codes "swapStream") (array_of (map stream_value s)))
 swap_reads s h =
-    sym (ap (map stream_in) (array_values (map stream_value s))
-    ∙ all_read stream_in stream_value stated_part IsPartShort s stream_reads h)
+    sym (ap (map flow_part_in) (array_values (map stream_value s))
+    ∙ all_read flow_part_in stream_value stated_part IsPartShort s stream_reads h)

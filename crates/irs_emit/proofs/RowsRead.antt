@@ -1,5 +1,5 @@
 -- Each row reads back as the flow that states it.
-use Rattle.irs_audit.specs.FlowMeaning.{payment_in, period_in, reset_in, stated}
+use Rattle.irs_audit.specs.FlowMeaning.{payment_in, period_in, flow_reset_in, stated}
 use Rattle.irs_audit.specs.StatedFlows.{stated_amount, stated_exchange, stated_number, stated_payment, stated_period}
 use Rattle.irs_audit.specs.StatedFlows.{stated_reset}
 use Rattle.irs_audit.specs.declared.flows.FlowExchange.{FlowExchange}
@@ -8,8 +8,8 @@ use Rattle.irs_audit.specs.declared.flows.FlowPeriod.{FlowPeriod}
 use Rattle.irs_audit.specs.declared.flows.FlowReset.{FlowReset}
 use Rattle.irs_audit.specs.declared.flows.StatedFraction.{StatedFraction}
 use Rattle.irs_base.specs.declared.line.Dec.{Dec}
-use Rattle.irs_elements.specs.Codes.{either}
-use Rattle.irs_elements.specs.Dates.{day_at}
+use Rattle.irs_elements.specs.Codes.{first_there}
+use Rattle.irs_elements.specs.Dates.{leaf_date_at}
 use Rattle.irs_elements.specs.Find.{once, values_of}
 use Rattle.irs_elements.specs.Fractions.{fraction_at}
 use Rattle.irs_elements.specs.Numbers.{amount_at, whole_at}
@@ -76,13 +76,13 @@ observed_at r None e = rw e refl
 observed_at r (Some z) e = rw e refl
 
 fixing_at : (r : Reset) (o : Option ℤ) → r.observed ≡ o
-    → said day_at (once (codes "adjustedFixingDate") (observation_value r)) ≡ said day_at (Some (day_leaf r.fixing))
+    → said leaf_date_at (once (codes "adjustedFixingDate") (observation_value r)) ≡ said leaf_date_at (Some (day_leaf r.fixing))
 unfolding observation_value
 fixing_at r None e = rw e refl
 fixing_at r (Some z) e = rw e refl
 
 reset_at_name : (r : Reset) (o : Option ℤ) → r.observed ≡ o
-    → said day_at (once (codes "resetDate") (observation_value r)) ≡ said day_at (Some (day_leaf r.reset))
+    → said leaf_date_at (once (codes "resetDate") (observation_value r)) ≡ said leaf_date_at (Some (day_leaf r.reset))
 unfolding observation_value
 reset_at_name r None e = rw e refl
 reset_at_name r (Some z) e = rw e refl
@@ -100,10 +100,10 @@ reset_reads r h =
 -- what is read of a period with this rate and this reset
 abbrev raw_period : CalculationPeriod → Option ℤ → Option FlowReset → FlowPeriod
 raw_period x rate reset = record {
-  start = said day_at (Some (day_leaf x.start));
-  «end» = said day_at (Some (day_leaf x.«end»));
-  adjusted_start = said day_at (Some (day_leaf x.adjusted_start));
-  adjusted_end = said day_at (Some (day_leaf x.adjusted_end));
+  start = said leaf_date_at (Some (day_leaf x.start));
+  «end» = said leaf_date_at (Some (day_leaf x.«end»));
+  adjusted_start = said leaf_date_at (Some (day_leaf x.adjusted_start));
+  adjusted_end = said leaf_date_at (Some (day_leaf x.adjusted_end));
   days = said whole_at (Some (count_leaf x.days));
   notional = said amount_at (Some (notional_leaf x.notional));
   rate = rate;
@@ -113,7 +113,7 @@ raw_period x rate reset = record {
 
 fixed_raw : (x : CalculationPeriod) (o : Option ℤ)
     → period_in (object (put_known (codes "fixedRate") (option_map rate_leaf o) (period_members x)))
-    ≡ raw_period x (either (said amount_at (option_map rate_leaf o)) None) None
+    ≡ raw_period x (first_there (said amount_at (option_map rate_leaf o)) None) None
 unfolding period_members
 fixed_raw x None = refl
 fixed_raw x (Some z) = refl
@@ -122,7 +122,7 @@ floating_raw : (x : CalculationPeriod) (r : Reset) (o : Option ℤ)
     → period_in (object (put (codes "floatingRateDefinition")
     (object (put_known (codes "calculatedRate") (option_map rate_leaf o)
     (put (codes "rateObservation") (observation_value r) no_members))) (period_members x)))
-    ≡ raw_period x (said amount_at (option_map rate_leaf o)) (Some (reset_in (observation_value r)))
+    ≡ raw_period x (said amount_at (option_map rate_leaf o)) (Some (flow_reset_in (observation_value r)))
 unfolding period_members observation_value
 floating_raw x r None = refl
 floating_raw x r (Some z) = refl
@@ -144,7 +144,7 @@ period_of : (a b c d : Option ℤ) (n : Option ℤ) (m t : Option ℤ) (f : Opti
     }) ≡ y
 period_of a b c d n m t f r y e1 e2 e3 e4 e5 e6 e7 e8 e9 = rw (e1, e2, e3, e4, e5, e6, e7, e8, e9) refl
 
-either_none : (o : Option ℤ) → either o None ≡ o
+either_none : (o : Option ℤ) → first_there o None ≡ o
 either_none None = refl
 either_none (Some z) = refl
 
@@ -160,11 +160,11 @@ raw_stated x rate seen reset h e g =
 pub period_reads : PeriodReadsBack
 unfolding fixed_value floating_value definition_value
 period_reads x None h k =
-    fixed_raw x x.rate ∙ raw_stated x (either (said amount_at (option_map rate_leaf x.rate)) None) None None h
+    fixed_raw x x.rate ∙ raw_stated x (first_there (said amount_at (option_map rate_leaf x.rate)) None) None None h
     (either_none (said amount_at (option_map rate_leaf x.rate)) ∙ known_rate x.rate h.rate) refl
 period_reads x (Some r) h k =
     floating_raw x r x.rate
-    ∙ raw_stated x (said amount_at (option_map rate_leaf x.rate)) (Some (reset_in (observation_value r))) (Some r) h
+    ∙ raw_stated x (said amount_at (option_map rate_leaf x.rate)) (Some (flow_reset_in (observation_value r))) (Some r) h
     (known_rate x.rate h.rate) (ap Some (reset_reads r k))
 
 -- ---- payments
@@ -216,8 +216,8 @@ forecast_with currency o =
 payment_raw : (u a : ℤ) (ds : List Data) (currency : Currency) (o : Option Dec)
     → payment_in (payment_with u a ds (forecast_with currency o))
     ≡ (record {
-      unadjusted = said day_at (Some (day_leaf u));
-      adjusted = said day_at (Some (day_leaf a));
+      unadjusted = said leaf_date_at (Some (day_leaf u));
+      adjusted = said leaf_date_at (Some (day_leaf a));
       periods =
           length (values_of (present (array_of ds)));
       currency =

@@ -29,10 +29,12 @@ use Rattle.irs_elements.specs.Words.{is_capital, is_currency}
 use Rattle.irs_audit.specs.StatedFlows.{stated_fraction}
 use Rattle.irs_emit.proofs.Bounds.{above_zero, few}
 use Rattle.irs_emit.specs.PartLaws.{IsPartShort}
-use Rattle.irs_emit.specs.RowLaws.{IsExchangeShort, IsPaymentShort, IsPeriodShort, IsResetShort, IsShort, IsShortAmount}
+use Rattle.irs_emit.specs.RowLaws.{IsExchangeShort, IsPaymentShort, IsPeriodShort, IsResetShort, IsShortNumber}
+use Rattle.irs_emit.specs.RowLaws.{IsShortAmount}
 use Rattle.irs_emit.specs.RowLaws.{IsShortRate}
 use Rattle.irs_schedule.proofs.WalkLemmas.{covers_within}
-use Rattle.irs_schedule.specs.Parts.{Covers, HasAmount, HasDays, IsAmount, IsCode, IsDatedExchange, IsDatedPayment}
+use Rattle.irs_schedule.specs.Parts.{EntriesCover, HasAmount, HasDays, IsAmount, IsCode, IsDatedExchange}
+use Rattle.irs_schedule.specs.Parts.{IsDatedPayment}
 use Rattle.irs_schedule.specs.Parts.{IsDatedReset, IsEntry, KeepsBounds, Part, most_entry_rate}
 use Rattle.irs_schedule.specs.StreamResets.{HasObserved, most_observed_rate}
 use Rattle.irs_schedule.specs.PeriodViews.{dated_period, period_at}
@@ -64,7 +66,7 @@ amount_short currency v h =
     let quotient : unsigned_abs v.units / 10 ^ v.places ≤ 10 ^ 14 = div-le_of_le-mul (10 ^ v.places) size in
     (few currency v h, omega (arith, quotient))
 
-notional_short : (n : ℤ) → IsNotional n → IsShort n 4
+notional_short : (n : ℤ) → IsNotional n → IsShortNumber n 4
 notional_short (pos n) h = omega (arith, signed_arith, h)
 notional_short (negsuc n) h = absurd (omega (arith, signed_arith, h))
 
@@ -84,7 +86,7 @@ days_short (negsuc n) h = absurd (omega (arith, signed_arith, h))
 abbrev IsFew : ℤ → Type 0
 IsFew m = (pos 0 ≤ℤ m) × (m ≤ℤ pos (10 ^ 18))
 
-few_short : (m : ℤ) → IsFew m → IsShort m 10
+few_short : (m : ℤ) → IsFew m → IsShortNumber m 10
 few_short (pos n) h = omega (arith, signed_arith, h)
 few_short (negsuc n) h = absurd (omega (arith, signed_arith, h))
 
@@ -146,7 +148,7 @@ exchanges_short p h =
 abbrev IsSpan : ℕ → PaymentEntry → Type 0
 IsSpan n y = (1 ≤ y.first_period) × (y.first_period ≤ y.last_period) × (y.last_period ≤ n)
 
-spans : (a n : ℕ) (ys : List PaymentEntry) → 1 ≤ a → Covers a ys n → Every (IsSpan n) ys
+spans : (a n : ℕ) (ys : List PaymentEntry) → 1 ≤ a → EntriesCover a ys n → Every (IsSpan n) ys
 spans a n [] l h = tt
 spans a n (y ∷ ys) l h =
     let within = covers_within (y.last_period + 1) n ys h.2 in

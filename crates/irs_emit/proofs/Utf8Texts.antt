@@ -5,7 +5,7 @@ use Rattle.irs_base.specs.Texts.{day_text, dec_text}
 use Rattle.irs_base.specs.declared.line.Dec.{Dec}
 use Rattle.irs_elements.specs.Words.{is_currency}
 use Rattle.irs_emit.proofs.LeavesRead.{currency_ascii}
-use Rattle.irs_emit.specs.Private.Texts.{ArePlain}
+use Rattle.irs_emit.specs.Private.Texts.{AreLeafChars}
 use Rattle.irs_emit.proofs.PlainTexts.{day_plain, plain_ascii, short_plain, text_kept, whole_plain}
 use Rattle.irs_emit.specs.Emitted.{array_of, cashflows_value, definition_value, emit_value, exchange_value, fixed_value}
 use Rattle.irs_emit.specs.Emitted.{floating_value, forecast_value, known_exchanges, listed_period}
@@ -13,7 +13,8 @@ use Rattle.irs_emit.specs.Emitted.{observation_value, one_period, payment_value,
 use Rattle.irs_emit.specs.Emitted.{period_values, put_known, stream_value}
 use Rattle.irs_emit.specs.Leaves.{amount_leaf, count_leaf, currency_leaf, day_leaf, rate_leaf}
 use Rattle.irs_emit.specs.PartLaws.{IsPartShort}
-use Rattle.irs_emit.specs.RowLaws.{IsExchangeShort, IsPaymentShort, IsPeriodShort, IsResetShort, IsShort, IsShortAmount}
+use Rattle.irs_emit.specs.RowLaws.{IsExchangeShort, IsPaymentShort, IsPeriodShort, IsResetShort, IsShortNumber}
+use Rattle.irs_emit.specs.RowLaws.{IsShortAmount}
 use Rattle.irs_emit.specs.RowLaws.{IsShortRate}
 use Rattle.irs_schedule.specs.Parts.{Part}
 use Rattle.irs_schedule.specs.PeriodViews.{period_at}
@@ -93,13 +94,13 @@ name k h = IsUtf8-are_ascii k h
 
 -- ---- leaves
 
-plain_clear : (s : List ℕ) → ArePlain s → IsUtf8 s
+plain_clear : (s : List ℕ) → AreLeafChars s → IsUtf8 s
 plain_clear s h = IsUtf8-from_ascii s (plain_ascii s h)
 
 day_clear : (d : ℤ) → IsDay d → Clear (day_leaf d)
 day_clear d h = plain_clear (day_text d) (day_plain d h)
 
-number_clear : (z : ℤ) (p : ℕ) → IsShort z p → IsUtf8 (dec_text z p)
+number_clear : (z : ℤ) (p : ℕ) → IsShortNumber z p → IsUtf8 (dec_text z p)
 number_clear z p h = plain_clear (dec_text z p) (short_plain z p h)
 
 count_clear : (n : ℤ) → unsigned_abs n < 10 ^ 9 → Clear (count_leaf n)

@@ -3,7 +3,7 @@ use Rattle.irs_audit.specs.FlowMeaning.{stated}
 use Rattle.irs_audit.specs.StatedFlows.{stated_amount, stated_fraction, stated_number}
 use Rattle.irs_base.specs.Days.{IsDay}
 use Rattle.irs_base.specs.declared.line.Dec.{Dec}
-use Rattle.irs_elements.specs.Dates.{day_at}
+use Rattle.irs_elements.specs.Dates.{leaf_date_at}
 use Rattle.irs_elements.specs.Fractions.{fraction_at}
 use Rattle.irs_elements.specs.Numbers.{amount_at, whole_at}
 use Rattle.irs_elements.specs.Words.{currency_at, is_currency}
@@ -16,7 +16,7 @@ use Rattle.std.specs.Prelude.{◌≡◌, ◌/◌, ◌^◌, ◌<◌, ◌≤◌, �
 
 -- a date reads back as its day number
 abbrev pub DayReadsBack : Type 0
-DayReadsBack = (d : ℤ) → IsDay d → said day_at (Some (day_leaf d)) ≡ Some d
+DayReadsBack = (d : ℤ) → IsDay d → said leaf_date_at (Some (day_leaf d)) ≡ Some d
 
 -- an amount with at most 18 digits before the point reads back
 abbrev pub AmountReadsBack : Type 0

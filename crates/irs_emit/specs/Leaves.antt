@@ -39,9 +39,9 @@ abbrev pub count_leaf : ℤ → Data
 count_leaf n = string (signed_decimal n)
 
 -- bytes as a text; bytes that aren't UTF-8 give the empty text, which no lawful currency has
-abbrev pub text_of : List ℕ → List ℕ
-text_of bytes = if is_utf8 bytes then bytes else []
+abbrev pub utf8_or_empty : List ℕ → List ℕ
+utf8_or_empty bytes = if is_utf8 bytes then bytes else []
 
 -- a currency: its letters
 abbrev pub currency_leaf : Currency → Data
-currency_leaf c = string (text_of c.letters)
+currency_leaf c = string (utf8_or_empty c.letters)

@@ -1,5 +1,5 @@
 -- The value of a stream, and that of a schedule, states the flows of the schedule.
-use Rattle.irs_audit.specs.FlowMeaning.{stream_in}
+use Rattle.irs_audit.specs.FlowMeaning.{flow_part_in}
 use Rattle.irs_audit.specs.FlowReading.{FlowsOf}
 use Rattle.irs_audit.specs.StatedFlows.{stated_flows, stated_part}
 use Rattle.irs_audit.specs.Verdicts.{IsVerdict, row_count, unfixed_count}
@@ -23,7 +23,7 @@ pub record IsPartShort (p : Part) : Type 0 where
 
 -- the object of a stream states the flows of its part
 abbrev pub StreamReadsBack : Type 0
-StreamReadsBack = (p : Part) → IsPartShort p → stream_in (stream_value p) ≡ stated_part p
+StreamReadsBack = (p : Part) → IsPartShort p → flow_part_in (stream_value p) ≡ stated_part p
 
 -- The bytes read as a value that has no fault of the tables of cash flows. It states exactly the flows that
 -- state the schedule, and the audit of these flows is yes.

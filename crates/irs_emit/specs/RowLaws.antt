@@ -1,5 +1,5 @@
 -- Each row reads back as the flow that states it.
-use Rattle.irs_audit.specs.FlowMeaning.{exchange_in, payment_in, period_in, reset_in}
+use Rattle.irs_audit.specs.FlowMeaning.{exchange_in, payment_in, period_in, flow_reset_in}
 use Rattle.irs_audit.specs.StatedFlows.{stated_exchange, stated_fraction, stated_payment, stated_period, stated_reset}
 use Rattle.irs_base.specs.Days.{IsDay}
 use Rattle.irs_base.specs.declared.line.Dec.{Dec}
@@ -13,16 +13,16 @@ use Rattle.irs_terms.specs.declared.results.Reset.{Reset}
 use Rattle.std.specs.Prelude.{◌≡◌, ℕ, ◌/◌, ◌^◌, ◌<◌, ◌≤◌, length, ℤ, pos, ◌≤ℤ◌, unsigned_abs, Option, IfSome, true}
 
 -- a number has at most 18 digits before its point
-abbrev pub IsShort : ℤ → ℕ → Type 0
-IsShort units places = unsigned_abs units / 10 ^ places < 10 ^ 18
+abbrev pub IsShortNumber : ℤ → ℕ → Type 0
+IsShortNumber units places = unsigned_abs units / 10 ^ places < 10 ^ 18
 
 -- an amount of at most 12 decimals and few digits
 abbrev pub IsShortAmount : Dec → Type 0
-IsShortAmount v = (v.places ≤ 12) × IsShort v.units v.places
+IsShortAmount v = (v.places ≤ 12) × IsShortNumber v.units v.places
 
 -- a rate of few digits
 abbrev pub IsShortRate : ℤ → Type 0
-IsShortRate units = IsShort units 9
+IsShortRate units = IsShortNumber units 9
 
 -- an exchange with days of the range and a short amount
 pub record IsExchangeShort (x : Exchange) : Type 0 where
@@ -43,10 +43,10 @@ pub record IsPeriodShort (x : CalculationPeriod) : Type 0 where
   pub adjusted_start : IsDay x.adjusted_start
   pub adjusted_end : IsDay x.adjusted_end
   pub days : unsigned_abs x.days < 10 ^ 9
-  pub notional : IsShort x.notional 4
+  pub notional : IsShortNumber x.notional 4
   pub rate : IfSome x.rate IsShortRate
   pub fraction : pos 0 ≤ℤ (stated_fraction x.frac).units
-  pub short : IsShort (stated_fraction x.frac).units 10
+  pub short : IsShortNumber (stated_fraction x.frac).units 10
 
 -- a payment of a part: its periods are among those of the part
 pub record IsPaymentShort (p : Part) (y : PaymentEntry) : Type 0 where
@@ -64,7 +64,7 @@ ExchangeReadsBack = (x : Exchange) → IsExchangeShort x → exchange_in (exchan
 
 -- the object of an observation states the reset
 abbrev pub ResetReadsBack : Type 0
-ResetReadsBack = (r : Reset) → IsResetShort r → reset_in (observation_value r) ≡ stated_reset r
+ResetReadsBack = (r : Reset) → IsResetShort r → flow_reset_in (observation_value r) ≡ stated_reset r
 
 -- the object of a calculation period states the period, with its reset
 abbrev pub PeriodReadsBack : Type 0

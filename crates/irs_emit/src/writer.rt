@@ -2,7 +2,7 @@
 ghost use Rattle.std.specs.Prelude.{◌≡◌, ◌++◌, OnOk};
 ghost use Rattle.serde_json.specs.Data.{string};
 ghost use Rattle.serde_json.specs.Written.{comma_if, compact_text};
-ghost use Rattle.irs_emit.specs.Private.Texts.{ArePlain};
+ghost use Rattle.irs_emit.specs.Private.Texts.{AreLeafChars};
 
 use irs_base::Memory;
 
@@ -18,7 +18,7 @@ pub(crate) fn comma(out: &mut Vec<u8>, later: bool) -> Result<(), Memory>
 
 /// Appends a string whose characters need no escape.
 pub(crate) fn plain(out: &mut Vec<u8>, text: &[u8]) -> Result<(), Memory>
-    requires { ArePlain text.now }
+    requires { AreLeafChars text.now }
     ensures { OnOk result (out.new.items ≡ out.old.items ++ compact_text (string text.now)) }
 {
     out.push(b'"')?;

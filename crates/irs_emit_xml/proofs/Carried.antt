@@ -19,12 +19,12 @@ use Rattle.irs_emit.specs.Emitted.{payment_value, period_members, period_value, 
 use Rattle.irs_emit.specs.Leaves.{amount_leaf, currency_leaf, day_leaf, rate_leaf}
 use Rattle.serde_json.specs.Data.{Data, string, object, no_members, put}
 use Rattle.serde_json.specs.View.{items_of}
-use Rattle.irs_emit_xml.specs.Ones.{alone, ones}
+use Rattle.irs_emit_xml.specs.Ones.{value_alone, ones}
 use Rattle.irs_emit_xml.proofs.Joining.{ones_listed}
 
 -- an array as XML carries it
-pub ones_array : (ds : List Data) → ones (array_of ds) ≡ alone (items_of (map ones ds))
-ones_array ds = ap alone (ones_listed ds)
+pub ones_array : (ds : List Data) → ones (array_of ds) ≡ value_alone (items_of (map ones ds))
+ones_array ds = ap value_alone (ones_listed ds)
 
 -- rows as XML carries them
 rows_carried : {X : Type 0} (v w : X → Data) (xs : List X) → ((x : X) → ones (v x) ≡ w x)
@@ -126,13 +126,13 @@ paid unadjusted adjusted periods forecast = object (
 
 -- a payment as XML carries it
 abbrev pub carried_payment : Part → PaymentEntry → Data
-carried_payment p y = paid y.unadjusted y.adjusted (alone (items_of (periods_paid p y))) (forecast_value p.currency y)
+carried_payment p y = paid y.unadjusted y.adjusted (value_alone (items_of (periods_paid p y))) (forecast_value p.currency y)
 
 payment_carried : (p : Part) (y : PaymentEntry) → ones (payment_value p y) ≡ carried_payment p y
 unfolding payment_value
 payment_carried p y =
     ap₂ (paid y.unadjusted y.adjusted) (ones_array (periods_paid p y)
-    ∙ ap (λ ds. alone (items_of ds)) (periods_same p (y.first_period - 1) (y.last_period + 1 - y.first_period)))
+    ∙ ap (λ ds. value_alone (items_of ds)) (periods_same p (y.first_period - 1) (y.last_period + 1 - y.first_period)))
     (forecast_same p.currency y)
 
 -- ---- streams
@@ -148,24 +148,24 @@ cash exchanges payments = object (
 -- rows as XML carries them, where there are any
 abbrev pub known_alone : List Data → Option Data
 known_alone [] = None
-known_alone (d ∷ ds) = Some (alone (items_of (d ∷ ds)))
+known_alone (d ∷ ds) = Some (value_alone (items_of (d ∷ ds)))
 
 -- the cash flows of a stream as XML carries them
 abbrev pub carried_cash : Part → Data
 carried_cash p = cash (known_alone (map exchange_value p.exchanges))
-    (alone (items_of (map (carried_payment p) p.payments)))
+    (value_alone (items_of (map (carried_payment p) p.payments)))
 
 cash_by : (p : Part) (xs : List Exchange) (ys : List PaymentEntry)
     → ones (cash (known_exchanges xs) (array_of (map (payment_value p) ys)))
-    ≡ cash (known_alone (map exchange_value xs)) (alone (items_of (map (carried_payment p) ys)))
+    ≡ cash (known_alone (map exchange_value xs)) (value_alone (items_of (map (carried_payment p) ys)))
 cash_by p [] ys =
     ap (cash None) (ones_array (map (payment_value p) ys)
-    ∙ ap (λ ds. alone (items_of ds)) (rows_carried (payment_value p) (carried_payment p) ys (payment_carried p)))
+    ∙ ap (λ ds. value_alone (items_of ds)) (rows_carried (payment_value p) (carried_payment p) ys (payment_carried p)))
 cash_by p (x ∷ xs) ys =
     ap₂ (λ e d. cash (Some e) d) (ones_array (map exchange_value (x ∷ xs))
-    ∙ ap (λ ds. alone (items_of ds)) (rows_carried exchange_value exchange_value (x ∷ xs) exchange_same))
+    ∙ ap (λ ds. value_alone (items_of ds)) (rows_carried exchange_value exchange_value (x ∷ xs) exchange_same))
     (ones_array (map (payment_value p) ys)
-    ∙ ap (λ ds. alone (items_of ds)) (rows_carried (payment_value p) (carried_payment p) ys (payment_carried p)))
+    ∙ ap (λ ds. value_alone (items_of ds)) (rows_carried (payment_value p) (carried_payment p) ys (payment_carried p)))
 
 -- a stream as XML carries it
 abbrev pub carried_stream : Part → Data
@@ -177,11 +177,11 @@ stream_carried p = ap (object_with (codes "cashflows")) (cash_by p p.exchanges p
 
 -- the swap as XML carries it
 abbrev pub carried_swap : List Part → Data
-carried_swap s = object_with (codes "swapStream") (alone (items_of (map carried_stream s)))
+carried_swap s = object_with (codes "swapStream") (value_alone (items_of (map carried_stream s)))
 
 -- the whole value as XML carries it
 pub emitted_carried : (s : List Part) → ones (emit_value s) ≡ object_with (codes "swap") (carried_swap s)
 unfolding emit_value
 emitted_carried s =
     ap (λ d. object_with (codes "swap") (object_with (codes "swapStream") d)) (ones_array (map stream_value s)
-    ∙ ap (λ ds. alone (items_of ds)) (rows_carried stream_value carried_stream s stream_carried))
+    ∙ ap (λ ds. value_alone (items_of ds)) (rows_carried stream_value carried_stream s stream_carried))

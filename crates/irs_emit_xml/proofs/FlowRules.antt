@@ -16,12 +16,14 @@ use Rattle.irs_schedule.specs.declared.entries.PaymentEntry.{PaymentEntry}
 use Rattle.irs_schedule.specs.declared.views.CalculationPeriod.{CalculationPeriod}
 use Rattle.irs_emit.proofs.Short.{parts_short}
 use Rattle.irs_emit.specs.PartLaws.{IsPartShort}
-use Rattle.irs_emit.specs.RowLaws.{IsExchangeShort, IsPaymentShort, IsPeriodShort, IsResetShort, IsShort, IsShortAmount}
+use Rattle.irs_emit.specs.RowLaws.{IsExchangeShort, IsPaymentShort, IsPeriodShort, IsResetShort, IsShortNumber}
+use Rattle.irs_emit.specs.RowLaws.{IsShortAmount}
 use Rattle.irs_emit.specs.RowLaws.{IsShortRate}
-use Rattle.irs_emit_xml.specs.Trees.{Node, is_letter, is_name, is_plain, IsFilled, IsNode, IsNodes, IsRoot}
-use Rattle.irs_emit_xml.specs.Flows.{listed, known, amount_node, rate_node, exchange_node, forecast_node}
-use Rattle.irs_emit_xml.specs.Flows.{observation_node, definition_node, fraction_node, rate_of, period_node}
-use Rattle.irs_emit_xml.specs.Flows.{listed_period, one_period, period_nodes, payment_node, cashflows_node, stream_node}
+use Rattle.irs_emit_xml.specs.Trees.{Node, is_letter, is_tag_name, is_unescaped, IsFilled, IsNode, IsNodes, IsRoot}
+use Rattle.irs_emit_xml.specs.Flows.{listed_nodes, known, amount_node, rate_node, exchange_node, forecast_node}
+use Rattle.irs_emit_xml.specs.Flows.{observation_node, definition_node, fraction_node, rate_content, period_node}
+use Rattle.irs_emit_xml.specs.Flows.{listed_period_nodes, one_period_nodes, period_nodes, payment_node, cashflows_node}
+use Rattle.irs_emit_xml.specs.Flows.{stream_node}
 use Rattle.irs_emit_xml.specs.Flows.{stream_nodes}
 use Rattle.irs_emit_xml.proofs.Currencies.{letters_plain}
 use Rattle.irs_emit_xml.proofs.PlainTexts.{day_plain, dec_plain, whole_plain}
@@ -38,7 +40,7 @@ every_map : {X Y : Type 0} (P : X → Type 0) (Q : Y → Type 0) (f : X → Y) (
 every_map P Q f [] law h = tt
 every_map P Q f (x ∷ xs) law h = (law x h.0, every_map P Q f xs law h.1)
 
-are_listed : (levels : ℕ) (ns : List Node) → Every (IsNode levels) ns → IsNodes levels (listed ns)
+are_listed : (levels : ℕ) (ns : List Node) → Every (IsNode levels) ns → IsNodes levels (listed_nodes ns)
 are_listed levels [] h = tt
 are_listed levels (n ∷ ns) h = (h.0, are_listed levels ns h.1)
 
@@ -51,7 +53,7 @@ known_are levels P f (Some x) law h = (law x h, tt)
 -- ---- numbers
 
 -- a number of few digits before the point isn't large
-short_small : (units : ℤ) (places : ℕ) → places ≤ 12 → IsShort units places → unsigned_abs units < 2 ^ 128
+short_small : (units : ℤ) (places : ℕ) → places ≤ 12 → IsShortNumber units places → unsigned_abs units < 2 ^ 128
 short_small units places l h =
     let above : 0 < 10 ^ places = let one = one-le-pow places 10 (omega arith) in omega (arith, one) in
     let below : unsigned_abs units < 10 ^ 18 * 10 ^ places =
@@ -99,18 +101,18 @@ forecast_is l currency y c h = (
   ),
 )
 
-rate_is : (l : ℕ) (name : List ℕ) → is_name name ≡ true → (r : ℤ) → IsShortRate r → IsNode (suc l) (rate_node name r)
+rate_is : (l : ℕ) (name : List ℕ) → is_tag_name name ≡ true → (r : ℤ) → IsShortRate r → IsNode (suc l) (rate_node name r)
 rate_is l name e r h = (e, dec_plain r 9 (short_small r 9 (omega arith) h))
 
-observed_named : is_name (codes "observedRate") ≡ true
+observed_named : is_tag_name (codes "observedRate") ≡ true
 unfolding is_letter
 observed_named = refl
 
-calculated_named : is_name (codes "calculatedRate") ≡ true
+calculated_named : is_tag_name (codes "calculatedRate") ≡ true
 unfolding is_letter
 calculated_named = refl
 
-fixed_named : is_name (codes "fixedRate") ≡ true
+fixed_named : is_tag_name (codes "fixedRate") ≡ true
 unfolding is_letter
 fixed_named = refl
 
@@ -131,7 +133,7 @@ observation_is l r h = (
 )
 
 -- one or more elements are more than none
-filled_end : (ns : List Node) (n : Node) → IsFilled (listed (ns ++ n ∷ []))
+filled_end : (ns : List Node) (n : Node) → IsFilled (listed_nodes (ns ++ n ∷ []))
 filled_end [] n = tt
 filled_end (m ∷ ns) n = tt
 
@@ -151,7 +153,7 @@ definition_is l x r h k =
 
 rate_of_is : (l : ℕ) (x : CalculationPeriod) (reset : Option Reset) → IfSome x.rate IsShortRate
     → IfSome reset IsResetShort
-    → Every (IsNode (suc (suc (suc l)))) (rate_of x reset)
+    → Every (IsNode (suc (suc (suc l)))) (rate_content x reset)
 rate_of_is l x None h k =
     known_are (suc (suc (suc l))) IsShortRate (rate_node (codes "fixedRate")) x.rate
     (rate_is (suc (suc l)) (codes "fixedRate") fixed_named) h
@@ -180,8 +182,8 @@ period_is l x reset h k =
                 (refl, whole_plain x.days (count_small x.days h.days)),
                 (
                   (refl, dec_plain x.notional 4 (short_small x.notional 4 (omega arith) h.notional)),
-                  are_listed (suc (suc (suc l))) (rate_of x reset ++ fraction ∷ [])
-                      (every_append (IsNode (suc (suc (suc l)))) (rate_of x reset) (fraction ∷ [])
+                  are_listed (suc (suc (suc l))) (rate_content x reset ++ fraction ∷ [])
+                      (every_append (IsNode (suc (suc (suc l)))) (rate_content x reset) (fraction ∷ [])
                       (rate_of_is l x reset h.rate k) (
                         (
                           refl,
@@ -200,7 +202,7 @@ period_is l x reset h k =
 
 listed_is : (l : ℕ) (reset : Option Reset) (o : Option CalculationPeriod) → IfSome reset IsResetShort
     → IfSome o IsPeriodShort
-    → Every (IsNode (suc (suc (suc (suc l))))) (listed_period reset o)
+    → Every (IsNode (suc (suc (suc (suc l))))) (listed_period_nodes reset o)
 listed_is l reset None k h = tt
 listed_is l reset (Some x) k h = (period_is l x reset h k, tt)
 
@@ -208,7 +210,7 @@ periods_are : (l : ℕ) (p : Part) (j n : ℕ) → IsPartShort p
     → Every (IsNode (suc (suc (suc (suc l))))) (period_nodes p j n)
 periods_are l p j zero h = tt
 periods_are l p j (suc n) h =
-    every_append (IsNode (suc (suc (suc (suc l))))) (period_nodes p j n) (one_period p (j + n)) (periods_are l p j n h)
+    every_append (IsNode (suc (suc (suc (suc l))))) (period_nodes p j n) (one_period_nodes p (j + n)) (periods_are l p j n h)
     (listed_is l (slice_get p.resets (j + n)) (period_at p (j + n)) (h.resets (j + n)) (h.periods (j + n)))
 
 -- ---- streams
@@ -234,8 +236,8 @@ payment_is l p h y k =
       ),
     )
 
-true_plain : list_all is_plain (codes "true") ≡ true
-unfolding is_plain
+true_plain : list_all is_unescaped (codes "true") ≡ true
+unfolding is_unescaped
 true_plain = refl
 
 cashflows_is : (l : ℕ) (p : Part) → IsPartShort p → IsNode (suc (suc (suc (suc (suc (suc l)))))) (cashflows_node p)
@@ -259,7 +261,7 @@ stream_is : (l : ℕ) (p : Part) → IsPartShort p → IsNode (suc (suc (suc (su
 unfolding stream_node is_letter
 stream_is l p h = (refl, tt, (cashflows_is l p h, tt))
 
-swap_named : is_name (codes "swap") ≡ true
+swap_named : is_tag_name (codes "swap") ≡ true
 unfolding is_letter
 swap_named = refl
 

@@ -10,7 +10,7 @@ use Rattle.irs_base.specs.declared.line.Dec.{Dec}
 use Rattle.irs_terms.specs.declared.currency.Currency.{Currency}
 use Rattle.irs_terms.specs.declared.results.Exchange.{Exchange}
 use Rattle.irs_terms.specs.declared.results.Reset.{Reset}
-use Rattle.irs_schedule.specs.Parts.{Part, Covers, IsWithin}
+use Rattle.irs_schedule.specs.Parts.{Part, EntriesCover, IsWithin}
 use Rattle.irs_schedule.specs.PeriodViews.{period_at, dated_period}
 use Rattle.irs_schedule.specs.declared.entries.PaymentEntry.{PaymentEntry}
 use Rattle.irs_schedule.specs.declared.views.CalculationPeriod.{CalculationPeriod}
@@ -22,15 +22,16 @@ use Rattle.irs_emit.specs.Emitted.{payment_value, period_members, period_value, 
 use Rattle.irs_emit.specs.PartLaws.{IsPartShort}
 use Rattle.irs_emit.specs.RowLaws.{IsPaymentShort}
 use Rattle.irs_emit.proofs.Short.{parts_short}
-use Rattle.irs_emit.specs.Leaves.{amount_leaf, rate_leaf, text_of}
+use Rattle.irs_emit.specs.Leaves.{amount_leaf, rate_leaf, utf8_or_empty}
 use Rattle.irs_xml.specs.Values.{Child, with_children}
 use Rattle.serde_json.specs.Data.{Data, string, object, Members, no_members, member, put}
 use Rattle.serde_json.specs.View.{items_of}
 use Rattle.irs_emit_xml.specs.Trees.{Node, leaf, node_name, node_value, children_of, written_value}
-use Rattle.irs_emit_xml.specs.Ones.{alone, ones}
-use Rattle.irs_emit_xml.specs.Flows.{element, listed, known, amount_node, rate_node, currency_node, exchange_node}
-use Rattle.irs_emit_xml.specs.Flows.{forecast_node, observation_node, definition_node, rate_of, period_front}
-use Rattle.irs_emit_xml.specs.Flows.{period_node, listed_period, one_period, period_nodes, payment_node, cashflows_node}
+use Rattle.irs_emit_xml.specs.Ones.{value_alone, ones}
+use Rattle.irs_emit_xml.specs.Flows.{element, listed_nodes, known, amount_node, rate_node, currency_node, exchange_node}
+use Rattle.irs_emit_xml.specs.Flows.{forecast_node, observation_node, definition_node, rate_content, front_content}
+use Rattle.irs_emit_xml.specs.Flows.{period_node, listed_period_nodes, one_period_nodes, period_nodes, payment_node}
+use Rattle.irs_emit_xml.specs.Flows.{cashflows_node}
 use Rattle.irs_emit_xml.specs.Flows.{stream_node, stream_nodes, day_node, fraction_node}
 use Rattle.irs_emit.proofs.PlainTexts.{code_kept}
 use Rattle.irs_emit_xml.proofs.Joining.{all_named, all_children, children_append, Begins, begins_append, ones_listed}
@@ -41,7 +42,7 @@ use Rattle.irs_emit_xml.proofs.Joining.{all_named, all_children, children_append
 abbrev child_of : Node → Child
 child_of n = (node_name n, node_value n)
 
-children_listed : (ns : List Node) → children_of (listed ns) ≡ map child_of ns
+children_listed : (ns : List Node) → children_of (listed_nodes ns) ≡ map child_of ns
 children_listed [] = refl
 children_listed (n ∷ ns) = ap (λ cs. child_of n ∷ cs) (children_listed ns)
 
@@ -57,8 +58,8 @@ child_is : (n : Node) (name : List ℕ) (d : Data) → node_name n ≡ name → 
 child_is n name d e f = ap (λ k. (k, node_value n)) e ∙ ap (λ v. (name, v)) f
 
 -- an array as XML carries it
-ones_array : (ds : List Data) → ones (array_of ds) ≡ alone (items_of (map ones ds))
-ones_array ds = ap alone (ones_listed ds)
+ones_array : (ds : List Data) → ones (array_of ds) ≡ value_alone (items_of (map ones ds))
+ones_array ds = ap value_alone (ones_listed ds)
 
 -- rows that each have an element
 children_map : {X : Type 0} (P : X → Type 0) (f : X → Node) (v : X → Data) (name : List ℕ) (xs : List X)
@@ -85,7 +86,7 @@ forecast_by : (currency : Currency) (o : Option Dec)
 forecast_by currency None = refl
 forecast_by currency (Some v) = refl
 
-forecast_ones : (currency : Currency) (y : PaymentEntry) → text_of currency.letters ≡ currency.letters
+forecast_ones : (currency : Currency) (y : PaymentEntry) → utf8_or_empty currency.letters ≡ currency.letters
     → child_of (forecast_node currency y) ≡ (codes "forecastPaymentAmount", ones (forecast_value currency y))
 unfolding forecast_node forecast_value
 forecast_ones currency y h =
@@ -140,7 +141,7 @@ abbrev period_end : CalculationPeriod → Node
 period_end x = fraction_node (codes "dayCountYearFraction") x.frac
 
 fixed_by : (x : CalculationPeriod) (o : Option ℤ)
-    → members_by (map child_of (period_front x)
+    → members_by (map child_of (front_content x)
     ++ (map child_of (known (rate_node (codes "fixedRate")) o) ++ child_of (period_end x) ∷ []))
     ≡ ones (object (put_known (codes "fixedRate") (option_map rate_leaf o) (period_members x)))
 unfolding period_members
@@ -148,21 +149,21 @@ fixed_by x None = refl
 fixed_by x (Some r) = refl
 
 floating_by : (x : CalculationPeriod) (v : Data)
-    → members_by (map child_of (period_front x)
+    → members_by (map child_of (front_content x)
     ++ ((codes "floatingRateDefinition", ones v) ∷ child_of (period_end x) ∷ []))
     ≡ ones (object (put (codes "floatingRateDefinition") v (period_members x)))
 unfolding period_members
 floating_by x v = refl
 
 rate_children : (x : CalculationPeriod) (reset : Option Reset)
-    → members_by (map child_of (period_front x ++ (rate_of x reset ++ period_end x ∷ []))) ≡ ones (period_value x reset)
+    → members_by (map child_of (front_content x ++ (rate_content x reset ++ period_end x ∷ []))) ≡ ones (period_value x reset)
 unfolding fixed_value floating_value
 rate_children x None =
-    ap (λ cs. members_by (map child_of (period_front x) ++ cs))
+    ap (λ cs. members_by (map child_of (front_content x) ++ cs))
     (map-append child_of (known (rate_node (codes "fixedRate")) x.rate) (period_end x ∷ []))
     ∙ fixed_by x x.rate
 rate_children x (Some r) =
-    ap (λ c. members_by (map child_of (period_front x) ++ (c ∷ child_of (period_end x) ∷ []))) (definition_ones x r)
+    ap (λ c. members_by (map child_of (front_content x) ++ (c ∷ child_of (period_end x) ∷ []))) (definition_ones x r)
     ∙ floating_by x (definition_value x r)
 
 period_ones : (x : CalculationPeriod) (reset : Option Reset)
@@ -170,11 +171,11 @@ period_ones : (x : CalculationPeriod) (reset : Option Reset)
 unfolding period_node
 period_ones x reset =
     ap (λ d. (codes "calculationPeriod", d)) (
-    element_value (codes "calculationPeriod") (period_front x ++ (rate_of x reset ++ period_end x ∷ []))
+    element_value (codes "calculationPeriod") (front_content x ++ (rate_content x reset ++ period_end x ∷ []))
     ∙ rate_children x reset)
 
 listed_ones : (reset : Option Reset) (o : Option CalculationPeriod)
-    → map child_of (listed_period reset o) ≡ all_named (codes "calculationPeriod") (map ones (listed_value reset o))
+    → map child_of (listed_period_nodes reset o) ≡ all_named (codes "calculationPeriod") (map ones (listed_value reset o))
 listed_ones reset None = refl
 listed_ones reset (Some x) = ap (λ c. c ∷ []) (period_ones x reset)
 
@@ -187,8 +188,8 @@ periods_ones : (p : Part) (j n : ℕ)
 periods_ones p j zero = refl
 periods_ones p j (suc n) =
     let name : List ℕ = codes "calculationPeriod" in
-    map-append child_of (period_nodes p j n) (one_period p (j + n))
-    ∙ ap (λ cs. cs ++ map child_of (one_period p (j + n))) (periods_ones p j n)
+    map-append child_of (period_nodes p j n) (one_period_nodes p (j + n))
+    ∙ ap (λ cs. cs ++ map child_of (one_period_nodes p (j + n))) (periods_ones p j n)
     ∙ ap (λ cs. all_named name (periods_ones_of p j n) ++ cs)
     (listed_ones (slice_get p.resets (j + n)) (period_at p (j + n)))
     ∙ sym (map-append (λ (d : Data). (name, d)) (periods_ones_of p j n) (map ones (one_value p (j + n))))
@@ -233,7 +234,7 @@ paid_begin p y h =
 payment_by : (u a : List ℕ) (ds : List Data) (f : Data) → Begins ds
     → members_by ((codes "unadjustedPaymentDate", string u) ∷ (codes "adjustedPaymentDate", string a)
     ∷ (all_named (codes "calculationPeriod") ds ++ (codes "forecastPaymentAmount", f) ∷ []))
-    ≡ object (member (codes "adjustedPaymentDate") (string a) (member (codes "calculationPeriod") (alone (items_of ds))
+    ≡ object (member (codes "adjustedPaymentDate") (string a) (member (codes "calculationPeriod") (value_alone (items_of ds))
     (member (codes "forecastPaymentAmount") f (member (codes "unadjustedPaymentDate") (string u) no_members))))
 payment_by u a ds f b =
     let ms : Members = member (codes "adjustedPaymentDate") (string a)
@@ -242,7 +243,7 @@ payment_by u a ds f b =
     ap object (children_append (all_named (codes "calculationPeriod") ds) last ms
     ∙ ap (with_children last) (all_children (codes "calculationPeriod") ds ms b refl))
 
-payment_ones : (p : Part) → text_of p.currency.letters ≡ p.currency.letters → (y : PaymentEntry) → IsPaymentShort p y
+payment_ones : (p : Part) → utf8_or_empty p.currency.letters ≡ p.currency.letters → (y : PaymentEntry) → IsPaymentShort p y
     → child_of (payment_node p y) ≡ (codes "paymentCalculationPeriod", ones (payment_value p y))
 unfolding payment_node payment_value
 payment_ones p h y short =
@@ -274,7 +275,7 @@ matches = (codes "cashflowsMatchParameters", string (codes "true"))
 cash_alone : (ps : List Data) → Begins ps
     → members_by (matches ∷ all_named (codes "paymentCalculationPeriod") ps)
     ≡ object (member (codes "cashflowsMatchParameters") (string (codes "true"))
-    (member (codes "paymentCalculationPeriod") (alone (items_of ps)) no_members))
+    (member (codes "paymentCalculationPeriod") (value_alone (items_of ps)) no_members))
 cash_alone ps b =
     let ms : Members = member (codes "cashflowsMatchParameters") (string (codes "true")) no_members in
     ap object (all_children (codes "paymentCalculationPeriod") ps ms b refl)
@@ -283,13 +284,13 @@ cash_exchanged : (es ps : List Data) → Begins es → Begins ps
     → members_by (matches ∷ (all_named (codes "principalExchange") es
     ++ all_named (codes "paymentCalculationPeriod") ps))
     ≡ object (member (codes "cashflowsMatchParameters") (string (codes "true"))
-    (member (codes "paymentCalculationPeriod") (alone (items_of ps))
-    (member (codes "principalExchange") (alone (items_of es)) no_members)))
+    (member (codes "paymentCalculationPeriod") (value_alone (items_of ps))
+    (member (codes "principalExchange") (value_alone (items_of es)) no_members)))
 cash_exchanged es ps a b =
     let ms : Members = member (codes "cashflowsMatchParameters") (string (codes "true")) no_members in
     let with_exchanges : Members =
     member (codes "cashflowsMatchParameters") (string (codes "true"))
-    (member (codes "principalExchange") (alone (items_of es)) no_members) in
+    (member (codes "principalExchange") (value_alone (items_of es)) no_members) in
     ap object (children_append (all_named (codes "principalExchange") es)
     (all_named (codes "paymentCalculationPeriod") ps) ms
     ∙ ap (with_children (all_named (codes "paymentCalculationPeriod") ps))
@@ -323,12 +324,12 @@ cash_ones (x ∷ xs) pv b =
     ∙ cash_exchanged (map ones ev) (map ones pv) (exchanges_begin x xs) b
     ∙ ap (λ d. object (member (codes "cashflowsMatchParameters") (string (codes "true"))
     (member (codes "paymentCalculationPeriod") d
-    (member (codes "principalExchange") (alone (items_of (map ones ev))) no_members)))) (sym (ones_array pv))
+    (member (codes "principalExchange") (value_alone (items_of (map ones ev))) no_members)))) (sym (ones_array pv))
     ∙ ap (λ d. object (member (codes "cashflowsMatchParameters") (string (codes "true"))
     (member (codes "paymentCalculationPeriod") (ones (array_of pv))
     (member (codes "principalExchange") d no_members)))) (sym (ones_array ev))
 
-payments_begin_by : (p : Part) (ys : List PaymentEntry) (n : ℕ) → Covers 1 ys n → 0 < n
+payments_begin_by : (p : Part) (ys : List PaymentEntry) (n : ℕ) → EntriesCover 1 ys n → 0 < n
     → Begins (map ones (map (payment_value p) ys))
 unfolding payment_value
 payments_begin_by p [] n c l = absurd (omega (arith, c, l))

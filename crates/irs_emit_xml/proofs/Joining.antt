@@ -11,8 +11,8 @@ use Rattle.serde_json.specs.Data.{Data, null, boolean, number, string, array, ob
 use Rattle.serde_json.specs.Data.{put}
 use Rattle.serde_json.specs.Find.{get_member}
 use Rattle.serde_json.specs.View.{items_of}
-use Rattle.irs_xml.specs.Values.{Child, item_last, joined, without, with_child, with_children}
-use Rattle.irs_emit_xml.specs.Ones.{alone, ones, ones_items}
+use Rattle.irs_xml.specs.Values.{Child, item_last, joined_values, without, with_child, with_children}
+use Rattle.irs_emit_xml.specs.Ones.{value_alone, ones, ones_items}
 
 -- ---- a member that isn't there yet
 
@@ -68,19 +68,19 @@ without_put k d (member l e ms) h =
 
 -- the first child of a name
 first_child : (k : List ℕ) (d : Data) (ms : Members) → get_member k ms ≡ None → with_child (k, d) ms ≡ put k d ms
-first_child k d ms h = ap (λ o. put k (joined o d) (without k ms)) h ∙ ap (put k d) (without_absent k ms h)
+first_child k d ms h = ap (λ o. put k (joined_values o d) (without k ms)) h ∙ ap (put k d) (without_absent k ms h)
 
 -- one more child of the name
 next_child : (k : List ℕ) (d e : Data) (ms : Members) → get_member k ms ≡ None
-    → with_child (k, e) (put k d ms) ≡ put k (joined (Some d) e) ms
+    → with_child (k, e) (put k d ms) ≡ put k (joined_values (Some d) e) ms
 next_child k d e ms h =
-    ap (λ o. put k (joined o e) (without k (put k d ms))) (get_member-put k d ms)
-    ∙ ap (put k (joined (Some d) e)) (without_put k d ms h)
+    ap (λ o. put k (joined_values o e) (without k (put k d ms))) (get_member-put k d ms)
+    ∙ ap (put k (joined_values (Some d) e)) (without_put k d ms h)
 
 -- the values of children of one name, after the first
 abbrev joins : Data → List Data → Data
 joins d [] = d
-joins d (e ∷ es) = joins (joined (Some d) e) es
+joins d (e ∷ es) = joins (joined_values (Some d) e) es
 
 -- children that all have this name
 abbrev pub all_named : List ℕ → List Data → List Child
@@ -90,7 +90,7 @@ next_children : (k : List ℕ) (d : Data) (es : List Data) (ms : Members) → ge
     → with_children (all_named k es) (put k d ms) ≡ put k (joins d es) ms
 next_children k d [] ms h = refl
 next_children k d (e ∷ es) ms h =
-    ap (with_children (all_named k es)) (next_child k d e ms h) ∙ next_children k (joined (Some d) e) es ms h
+    ap (with_children (all_named k es)) (next_child k d e ms h) ∙ next_children k (joined_values (Some d) e) es ms h
 
 last_of : (ds : List Data) (e : Data) → item_last (items_of ds) e ≡ items_of (ds ++ e ∷ [])
 last_of [] e = refl
@@ -102,7 +102,7 @@ joins_array ds (e ∷ es) =
     ap (λ is. joins (array is) es) (last_of ds e) ∙ joins_array (ds ++ e ∷ []) es
     ∙ ap (λ l. array (items_of l)) (append_assoc ds (e ∷ []) es)
 
-joins_object : (m : Members) (es : List Data) → joins (object m) es ≡ alone (items_of (object m ∷ es))
+joins_object : (m : Members) (es : List Data) → joins (object m) es ≡ value_alone (items_of (object m ∷ es))
 joins_object m [] = refl
 joins_object m (e ∷ es) = joins_array (object m ∷ e ∷ []) es
 
@@ -127,7 +127,7 @@ begins_append (d ∷ ds) es h = h
 
 -- children of one name are one member
 pub all_children : (k : List ℕ) (ds : List Data) (ms : Members) → Begins ds → get_member k ms ≡ None
-    → with_children (all_named k ds) ms ≡ put k (alone (items_of ds)) ms
+    → with_children (all_named k ds) ms ≡ put k (value_alone (items_of ds)) ms
 all_children k [] ms b h = absurd b
 all_children k (null ∷ ds) ms b h = absurd b
 all_children k (boolean x ∷ ds) ms b h = absurd b

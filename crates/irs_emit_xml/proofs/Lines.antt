@@ -3,9 +3,9 @@ use Rattle.std.proofs.Common.{◌≡◌, ℕ, zero, suc, ◌+◌, List, [], ◌�
 use Rattle.std.proofs.lemmas.List.{append-nil}
 use Rattle.std.proofs.lemmas.List.Concat.{flat_map-append}
 use Rattle.irs_emit.proofs.Pieces.{same_piece, twice}
-use Rattle.irs_emit_xml.specs.Flows.{element, listed}
+use Rattle.irs_emit_xml.specs.Flows.{element, listed_nodes}
 use Rattle.irs_emit_xml.specs.Private.Flows.{lines}
-use Rattle.irs_emit_xml.specs.Trees.{Node, close_text, declared_text, end_text, indent, leaf_text, namespace_text}
+use Rattle.irs_emit_xml.specs.Trees.{Node, close_text, declared_text, end_tag_text, indent, leaf_text, namespace_text}
 use Rattle.irs_emit_xml.specs.Trees.{node_text, nodes_text, open_text, root_open_text}
 
 spaces_last : (k : ℕ) → indent k ++ (32 ∷ 32 ∷ []) ≡ 32 ∷ 32 ∷ indent k
@@ -22,7 +22,7 @@ indent_more k old now next e f =
 -- an end tag in its pieces
 pub end_pieces : (name word a b c d : List ℕ) → b ≡ a ++ (60 ∷ 47 ∷ []) → c ≡ b ++ word → word ≡ name
     → d ≡ c ++ (62 ∷ 10 ∷ [])
-    → d ≡ a ++ end_text name
+    → d ≡ a ++ end_tag_text name
 end_pieces name word a b c d e f w g =
     twice a b d (60 ∷ 47 ∷ []) (name ++ 62 ∷ 10 ∷ []) e
     (twice b c d name (62 ∷ 10 ∷ []) (same_piece b c word name w f) g)
@@ -37,19 +37,19 @@ open_pieces k name word a b c d e p q r w s =
     (twice c d e name (62 ∷ 10 ∷ []) (same_piece c d word name w r) s))
 
 -- the line of an end tag in its pieces
-pub close_pieces : (k : ℕ) (name a b c : List ℕ) → b ≡ a ++ indent k → c ≡ b ++ end_text name
+pub close_pieces : (k : ℕ) (name a b c : List ℕ) → b ≡ a ++ indent k → c ≡ b ++ end_tag_text name
     → c ≡ a ++ close_text k name
-close_pieces k name a b c p q = twice a b c (indent k) (end_text name) p q
+close_pieces k name a b c p q = twice a b c (indent k) (end_tag_text name) p q
 
 -- the line of an element with a text, in its pieces
 pub leaf_pieces : (k : ℕ) (name word text a b c d e f g : List ℕ) → b ≡ a ++ indent k → c ≡ b ++ (60 ∷ [])
     → d ≡ c ++ word → word ≡ name
-    → e ≡ d ++ (62 ∷ []) → f ≡ e ++ text → g ≡ f ++ end_text name → g ≡ a ++ leaf_text k name text
+    → e ≡ d ++ (62 ∷ []) → f ≡ e ++ text → g ≡ f ++ end_tag_text name → g ≡ a ++ leaf_text k name text
 leaf_pieces k name word text a b c d e f g p q r w s t u =
-    twice a b g (indent k) (60 ∷ (name ++ (62 ∷ (text ++ end_text name)))) p
-    (twice b c g (60 ∷ []) (name ++ (62 ∷ (text ++ end_text name))) q
-    (twice c d g name (62 ∷ (text ++ end_text name)) (same_piece c d word name w r)
-    (twice d e g (62 ∷ []) (text ++ end_text name) s (twice e f g text (end_text name) t u))))
+    twice a b g (indent k) (60 ∷ (name ++ (62 ∷ (text ++ end_tag_text name)))) p
+    (twice b c g (60 ∷ []) (name ++ (62 ∷ (text ++ end_tag_text name))) q
+    (twice c d g name (62 ∷ (text ++ end_tag_text name)) (same_piece c d word name w r)
+    (twice d e g (62 ∷ []) (text ++ end_tag_text name) s (twice e f g text (end_tag_text name) t u))))
 
 -- the XML declaration and the root's start tag, in their pieces
 pub begin_pieces : (name word a b c d : List ℕ) → b ≡ a ++ (declared_text ++ 60 ∷ []) → c ≡ b ++ word → word ≡ name
@@ -71,7 +71,7 @@ pub then_lines : (k : ℕ) (n : Node) (ns : List Node) (a b c : List ℕ) → b 
 then_lines k n ns a b c e f = twice a b c (node_text k n) (lines k ns) e f
 
 -- elements of a list are their lines
-pub lines_listed : (k : ℕ) (ns : List Node) → nodes_text k (listed ns) ≡ lines k ns
+pub lines_listed : (k : ℕ) (ns : List Node) → nodes_text k (listed_nodes ns) ≡ lines k ns
 lines_listed k [] = refl
 lines_listed k (n ∷ ns) = ap (λ t. node_text k n ++ t) (lines_listed k ns)
 

@@ -8,16 +8,18 @@ use Rattle.std.proofs.lemmas.Str.{encode_ascii}
 use Rattle.std.specs.Char.{encode_utf8}
 use Rattle.std.specs.List.{list_all}
 use Rattle.std.specs.Str.{bytes_eq, encode_utf8_all}
-use Rattle.irs_xml.specs.Characters.{is_space, is_white}
+use Rattle.irs_xml.specs.Characters.{is_white_space, is_white}
 use Rattle.irs_xml.specs.Content.{Element, Content, nothing, character, child}
 use Rattle.irs_xml.specs.Document.{document_value, root_key, root_namespace, rooted, root_value}
-use Rattle.irs_xml.specs.Namespaces.{Scope, Setting, first_scope, opening_of, is_declaration, declared_prefix, is_same}
+use Rattle.irs_xml.specs.Namespaces.{Scope, Setting, first_scope, opening_of, is_declaration, declared_prefix}
+use Rattle.irs_xml.specs.Namespaces.{is_same_namespace}
 use Rattle.irs_xml.specs.Namespaces.{settings_of}
-use Rattle.irs_xml.specs.Values.{Child, is_ours, key_of, named, both, element_data, value_from, with_settings}
-use Rattle.irs_xml.specs.Values.{with_children, element_child, children_in, text_in}
+use Rattle.irs_xml.specs.Values.{Child, is_ours, key_of, named_child, both, element_data, value_from, with_settings}
+use Rattle.irs_xml.specs.Values.{with_children, element_child, children_in, text_inside}
 use Rattle.serde_json.specs.Data.{Data, string, object, no_members, member}
 use Rattle.irs_emit_xml.specs.Trees.{Node, leaf, branch, Nodes, no_nodes, node, indent, fpml_namespace, is_letter}
-use Rattle.irs_emit_xml.specs.Trees.{is_name, is_plain, IsFilled, IsNode, IsNodes, IsRoot, node_name, node_value}
+use Rattle.irs_emit_xml.specs.Trees.{is_tag_name, is_unescaped, IsFilled, IsNode, IsNodes, IsRoot, node_name}
+use Rattle.irs_emit_xml.specs.Trees.{node_value}
 use Rattle.irs_emit_xml.specs.Trees.{children_of, written_value}
 use Rattle.irs_emit_xml.proofs.Rules.{IsHome, home, at_home, home_stays, root_at, both_true}
 use Rattle.irs_emit_xml.proofs.Spelling.{plain_tag, characters, element_of, content_of, namespace_attribute, root_tag}
@@ -29,8 +31,8 @@ letter_low : (c : ℕ) → is_letter c ≡ true → c < 128
 unfolding is_letter
 letter_low c h = grind (arith, nat_tests)
 
-plain_low : (c : ℕ) → is_plain c ≡ true → c < 128
-unfolding is_plain
+plain_low : (c : ℕ) → is_unescaped c ≡ true → c < 128
+unfolding is_unescaped
 plain_low c h = grind (arith, nat_tests)
 
 -- characters of a kind that is ASCII are their own UTF-8
@@ -41,13 +43,13 @@ encodes_low test (c ∷ cs) law h =
     let b = both_true (test c) (list_all test cs) h in
     ap (λ t. t ++ encode_utf8_all cs) (encode_ascii c (law c b.0)) ∙ ap (λ t. c ∷ t) (encodes_low test cs law b.1)
 
-name_kept : (name : List ℕ) → is_name name ≡ true → encode_utf8_all name ≡ name
+name_kept : (name : List ℕ) → is_tag_name name ≡ true → encode_utf8_all name ≡ name
 name_kept [] h = refl
 name_kept (c ∷ cs) h = encodes_low is_letter (c ∷ cs) letter_low h
 
 -- ---- the text in content, and its elements
 
-text_alone : (cs : List ℕ) → text_in (characters cs nothing) ≡ encode_utf8_all cs
+text_alone : (cs : List ℕ) → text_inside (characters cs nothing) ≡ encode_utf8_all cs
 text_alone [] = refl
 text_alone (c ∷ cs) = ap (λ t. encode_utf8 c ++ t) (text_alone cs)
 
@@ -57,16 +59,16 @@ none_alone root scope [] c = refl
 none_alone root scope (x ∷ cs) c = none_alone root scope cs c
 
 -- white space before content doesn't change whether its text is white
-indent_white : (k : ℕ) (c : Content) → is_white (text_in (characters (indent k) c)) ≡ is_white (text_in c)
-unfolding encode_utf8 is_space
+indent_white : (k : ℕ) (c : Content) → is_white (text_inside (characters (indent k) c)) ≡ is_white (text_inside c)
+unfolding encode_utf8 is_white_space
 indent_white zero c = refl
 indent_white (suc k) c = indent_white k c
 
-feed_white : (c : Content) → is_white (text_in (character 10 c)) ≡ is_white (text_in c)
-unfolding encode_utf8 is_space
+feed_white : (c : Content) → is_white (text_inside (character 10 c)) ≡ is_white (text_inside c)
+unfolding encode_utf8 is_white_space
 feed_white c = refl
 
-nodes_white : (k : ℕ) (ns : Nodes) (c : Content) → is_white (text_in (content_of k ns c)) ≡ is_white (text_in c)
+nodes_white : (k : ℕ) (ns : Nodes) (c : Content) → is_white (text_inside (content_of k ns c)) ≡ is_white (text_inside c)
 nodes_white k no_nodes c = refl
 nodes_white k (node n ns) c =
     indent_white k (child (element_of k n) (character 10 (content_of k ns c)))
@@ -81,22 +83,22 @@ same_bytes a = (bytes_eq-Decides a a).1 refl
 ours_is : (root : List ℕ) (scope : Scope) (name : List ℕ) → IsHome root scope
     → is_ours root (scope ++ []) (opening_of (plain_tag name)) ≡ true
 ours_is root scope name inner =
-    ap (λ o. is_same o (Some root)) (home_stays root scope inner) ∙ same_bytes root
+    ap (λ o. is_same_namespace o (Some root)) (home_stays root scope inner) ∙ same_bytes root
 
 -- what an element of the root's namespace makes
 ours_child : (ours : Bool) (root local text : List ℕ) (scope : Scope) (c : Content) → ours ≡ true
-    → named (key_of ours local) (element_data (true && ours) [] text (children_in root (true && ours) scope c))
-    ≡ named local (element_data true [] text (children_in root true scope c))
+    → named_child (key_of ours local) (element_data (true && ours) [] text (children_in root (true && ours) scope c))
+    ≡ named_child local (element_data true [] text (children_in root true scope c))
 ours_child true root local text scope c e = refl
 ours_child false root local text scope c e = absurd (cc e)
 
 -- what an element with a text, and no elements, is
 leaf_data : (name local text is : List ℕ) (children : Option (List Child)) → local ≡ name → text ≡ is
     → children ≡ Some []
-    → named local (element_data true [] text children) ≡ Some (name, string is)
+    → named_child local (element_data true [] text children) ≡ Some (name, string is)
 leaf_data name local text is children e f g =
-    ap (λ l. named l (element_data true [] text children)) e ∙ ap (λ t. named name (element_data true [] t children)) f
-    ∙ ap (λ cs. named name (element_data true [] is cs)) g
+    ap (λ l. named_child l (element_data true [] text children)) e ∙ ap (λ t. named_child name (element_data true [] t children)) f
+    ∙ ap (λ cs. named_child name (element_data true [] is cs)) g
 
 -- the value of elements with white space round them
 filled_value : (settings : List Setting) (text : List ℕ) (ns : Nodes) → IsFilled ns → is_white text ≡ true
@@ -109,10 +111,10 @@ filled_value settings text (node n ns) filled w = rw w refl
 branch_data : (name local text : List ℕ) (ns : Nodes) (children : Option (List Child)) → local ≡ name → IsFilled ns
     → is_white text ≡ true
     → children ≡ Some (children_of ns)
-    → named local (element_data true [] text children) ≡ Some (name, object (with_children (children_of ns) no_members))
+    → named_child local (element_data true [] text children) ≡ Some (name, object (with_children (children_of ns) no_members))
 branch_data name local text ns children e filled w g =
-    ap (λ l. named l (element_data true [] text children)) e ∙ ap (λ cs. named name (element_data true [] text cs)) g
-    ∙ ap (named name) (filled_value [] text ns filled w)
+    ap (λ l. named_child l (element_data true [] text children)) e ∙ ap (λ cs. named_child name (element_data true [] text cs)) g
+    ∙ ap (named_child name) (filled_value [] text ns filled w)
 
 mutual
   node_child : (root : List ℕ) (scope : Scope) (levels k : ℕ) (n : Node) → IsHome root scope → IsNode levels n
@@ -121,15 +123,15 @@ mutual
   node_child root scope zero k (branch name ns) inner h = absurd h
   node_child root scope (suc levels) k (leaf name text) inner h =
       ours_child (is_ours root (scope ++ []) (opening_of (plain_tag name))) root (encode_utf8_all name)
-      (text_in (characters text nothing)) (scope ++ []) (characters text nothing) (ours_is root scope name inner)
-      ∙ leaf_data name (encode_utf8_all name) (text_in (characters text nothing)) text
+      (text_inside (characters text nothing)) (scope ++ []) (characters text nothing) (ours_is root scope name inner)
+      ∙ leaf_data name (encode_utf8_all name) (text_inside (characters text nothing)) text
       (children_in root true (scope ++ []) (characters text nothing)) (name_kept name h.0)
-      (text_alone text ∙ encodes_low is_plain text plain_low h.1) (none_alone root (scope ++ []) text nothing)
+      (text_alone text ∙ encodes_low is_unescaped text plain_low h.1) (none_alone root (scope ++ []) text nothing)
   node_child root scope (suc levels) k (branch name ns) inner h =
       let c = character 10 (content_of (suc k) ns (characters (indent k) nothing)) in
       ours_child (is_ours root (scope ++ []) (opening_of (plain_tag name))) root (encode_utf8_all name)
-      (text_in c) (scope ++ []) c (ours_is root scope name inner)
-      ∙ branch_data name (encode_utf8_all name) (text_in c) ns (children_in root true (scope ++ []) c)
+      (text_inside c) (scope ++ []) c (ours_is root scope name inner)
+      ∙ branch_data name (encode_utf8_all name) (text_inside c) ns (children_in root true (scope ++ []) c)
       (name_kept name h.0) h.1
       (feed_white (content_of (suc k) ns (characters (indent k) nothing))
       ∙ nodes_white (suc k) ns (characters (indent k) nothing) ∙ indent_white k nothing)
@@ -151,31 +153,31 @@ mutual
 
 -- the root's only attribute is a declaration, and no member
 no_setting : with_settings (settings_of (namespace_attribute ∷ [])) no_members ≡ no_members
-unfolding is_declaration encode_utf8 is_space
+unfolding is_declaration encode_utf8 is_white_space
 no_setting = refl
 
 -- what the root makes
 root_data : (name local text : List ℕ) (ns : Nodes) (children : Option (List Child)) → local ≡ name → IsFilled ns
     → is_white text ≡ true
     → children ≡ Some (children_of ns)
-    → named local (element_data true (settings_of (namespace_attribute ∷ [])) text children)
+    → named_child local (element_data true (settings_of (namespace_attribute ∷ [])) text children)
     ≡ Some (name, object (with_children (children_of ns) no_members))
 root_data name local text ns children e filled w g =
     let settings = settings_of (namespace_attribute ∷ []) in
-    ap (λ l. named l (element_data true settings text children)) e
-    ∙ ap (λ cs. named name (element_data true settings text cs)) g
-    ∙ ap (named name) (filled_value settings text ns filled w)
+    ap (λ l. named_child l (element_data true settings text children)) e
+    ∙ ap (λ cs. named_child name (element_data true settings text cs)) g
+    ∙ ap (named_child name) (filled_value settings text ns filled w)
     ∙ ap (λ ms. Some (name, object (with_children (children_of ns) ms))) no_setting
 
 root_ours : (name : List ℕ) → is_ours fpml_namespace home (opening_of (root_tag name)) ≡ true
-unfolding home first_scope is_declaration declared_prefix encode_utf8 is_space
+unfolding home first_scope is_declaration declared_prefix encode_utf8 is_white_space
 root_ours name = refl
 
 -- what the root makes, as one of its own namespace
 root_child_by : (ours : Bool) (local text : List ℕ) (c : Content) → ours ≡ true
-    → named (key_of ours local) (element_data (true && ours) (settings_of (namespace_attribute ∷ [])) text
+    → named_child (key_of ours local) (element_data (true && ours) (settings_of (namespace_attribute ∷ [])) text
     (children_in fpml_namespace (true && ours) home c))
-    ≡ named local (element_data true (settings_of (namespace_attribute ∷ [])) text
+    ≡ named_child local (element_data true (settings_of (namespace_attribute ∷ [])) text
     (children_in fpml_namespace true home c))
 root_child_by true local text c e = refl
 root_child_by false local text c e = absurd (cc e)
@@ -186,9 +188,9 @@ root_child : (name : List ℕ) (ns : Nodes) → IsRoot name ns
 unfolding home
 root_child name ns h =
     let c = character 10 (content_of 1 ns nothing) in
-    root_child_by (is_ours fpml_namespace home (opening_of (root_tag name))) (encode_utf8_all name) (text_in c) c
+    root_child_by (is_ours fpml_namespace home (opening_of (root_tag name))) (encode_utf8_all name) (text_inside c) c
     (root_ours name)
-    ∙ root_data name (encode_utf8_all name) (text_in c) ns (children_in fpml_namespace true home c)
+    ∙ root_data name (encode_utf8_all name) (text_inside c) ns (children_in fpml_namespace true home c)
     (name_kept name h.named) h.filled
     (feed_white (content_of 1 ns nothing) ∙ nodes_white 1 ns nothing)
     (nodes_children fpml_namespace home 62 1 ns nothing at_home h.nested refl)

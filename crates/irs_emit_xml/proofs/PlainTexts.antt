@@ -6,20 +6,20 @@ use Rattle.std.specs.List.{All, list_all}
 use Rattle.irs_base.specs.Days.{IsDay}
 use Rattle.irs_base.specs.Texts.{day_text, dec_text}
 use Rattle.irs_emit.proofs.PlainTexts as plain
-use Rattle.irs_emit.specs.Private.Texts.{is_plain as is_leaf_char}
-use Rattle.irs_emit_xml.specs.Trees.{is_plain}
+use Rattle.irs_emit.specs.Private.Texts.{is_leaf_char}
+use Rattle.irs_emit_xml.specs.Trees.{is_unescaped}
 use Rattle.irs_emit_xml.proofs.Rules.{all_then}
 
 -- all characters are plain
 abbrev pub ArePlain : List ℕ → Type 0
-ArePlain cs = list_all is_plain cs ≡ true
+ArePlain cs = list_all is_unescaped cs ≡ true
 
-plain_char : (c : ℕ) → is_leaf_char c ≡ true → is_plain c ≡ true
-unfolding is_leaf_char is_plain
+plain_char : (c : ℕ) → is_leaf_char c ≡ true → is_unescaped c ≡ true
+unfolding is_leaf_char is_unescaped
 plain_char c h = grind (arith, nat_tests)
 
 in_xml : (cs : List ℕ) → list_all is_leaf_char cs ≡ true → ArePlain cs
-in_xml cs h = all_then is_leaf_char is_plain cs plain_char h
+in_xml cs h = all_then is_leaf_char is_unescaped cs plain_char h
 
 -- the text of a day is plain
 pub day_plain : (d : ℤ) → IsDay d → ArePlain (day_text d)

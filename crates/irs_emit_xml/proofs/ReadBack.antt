@@ -7,8 +7,10 @@ use Rattle.std.specs.Int.{is_in_range}
 use Rattle.std.specs.List.{list_all}
 use Rattle.irs_xml.specs.Characters.{is_char, ends_after, line_ends, without_mark}
 use Rattle.irs_xml.specs.Document.{XmlReads}
-use Rattle.irs_emit_xml.specs.Trees.{Node, leaf, branch, Nodes, no_nodes, node, indent, end_text, node_text, nodes_text}
-use Rattle.irs_emit_xml.specs.Trees.{declared_text, namespace_text, written_text, is_letter, is_name, is_plain, IsNode}
+use Rattle.irs_emit_xml.specs.Trees.{Node, leaf, branch, Nodes, no_nodes, node, indent, end_tag_text, node_text}
+use Rattle.irs_emit_xml.specs.Trees.{nodes_text}
+use Rattle.irs_emit_xml.specs.Trees.{declared_text, namespace_text, written_text, is_letter, is_tag_name, is_unescaped}
+use Rattle.irs_emit_xml.specs.Trees.{IsNode}
 use Rattle.irs_emit_xml.specs.Trees.{IsNodes, IsRoot, written_value}
 use Rattle.irs_emit_xml.proofs.Means.{encodes_low, document_means}
 use Rattle.irs_emit_xml.proofs.Rules.{all_then, both_true, true_both, document_is}
@@ -32,8 +34,8 @@ letter_clean : (c : ℕ) → is_letter c ≡ true → is_clean c ≡ true
 unfolding is_letter
 letter_clean c h = grind (arith, nat_tests)
 
-plain_clean : (c : ℕ) → is_plain c ≡ true → is_clean c ≡ true
-unfolding is_plain
+plain_clean : (c : ℕ) → is_unescaped c ≡ true → is_clean c ≡ true
+unfolding is_unescaped
 plain_clean c h = grind (arith, nat_tests)
 
 -- ---- all characters are clean
@@ -48,20 +50,20 @@ indent_clean : (k : ℕ) → Clean (indent k)
 indent_clean zero = refl
 indent_clean (suc k) = indent_clean k
 
-name_clean : (name : List ℕ) → is_name name ≡ true → Clean name
+name_clean : (name : List ℕ) → is_tag_name name ≡ true → Clean name
 name_clean [] h = refl
 name_clean (c ∷ cs) h = all_then is_letter is_clean (c ∷ cs) letter_clean h
 
-end_clean : (name : List ℕ) → Clean name → Clean (end_text name)
+end_clean : (name : List ℕ) → Clean name → Clean (end_tag_text name)
 end_clean name h = clean_both name (62 ∷ 10 ∷ []) h refl
 
-close_clean : (k : ℕ) (name : List ℕ) → Clean name → Clean (indent k ++ end_text name)
-close_clean k name h = clean_both (indent k) (end_text name) (indent_clean k) (end_clean name h)
+close_clean : (k : ℕ) (name : List ℕ) → Clean name → Clean (indent k ++ end_tag_text name)
+close_clean k name h = clean_both (indent k) (end_tag_text name) (indent_clean k) (end_clean name h)
 
 leaf_clean : (k : ℕ) (name text : List ℕ) → Clean name → Clean text → Clean (node_text k (leaf name text))
 leaf_clean k name text h t =
-    clean_both (indent k) (60 ∷ (name ++ (62 ∷ (text ++ end_text name)))) (indent_clean k)
-    (clean_both name (62 ∷ (text ++ end_text name)) h (clean_both text (end_text name) t (end_clean name h)))
+    clean_both (indent k) (60 ∷ (name ++ (62 ∷ (text ++ end_tag_text name)))) (indent_clean k)
+    (clean_both name (62 ∷ (text ++ end_tag_text name)) h (clean_both text (end_tag_text name) t (end_clean name h)))
 
 open_clean : (k : ℕ) (name : List ℕ) → Clean name → Clean (indent k ++ (60 ∷ (name ++ 62 ∷ 10 ∷ [])))
 open_clean k name h =
@@ -72,12 +74,12 @@ mutual
   node_clean zero k (leaf name text) h = absurd h
   node_clean zero k (branch name ns) h = absurd h
   node_clean (suc levels) k (leaf name text) h =
-      leaf_clean k name text (name_clean name h.0) (all_then is_plain is_clean text plain_clean h.1)
+      leaf_clean k name text (name_clean name h.0) (all_then is_unescaped is_clean text plain_clean h.1)
   node_clean (suc levels) k (branch name ns) h =
       let n = name_clean name h.0 in
-      clean_both (indent k ++ (60 ∷ (name ++ 62 ∷ 10 ∷ []))) (nodes_text (suc k) ns ++ (indent k ++ end_text name))
+      clean_both (indent k ++ (60 ∷ (name ++ 62 ∷ 10 ∷ []))) (nodes_text (suc k) ns ++ (indent k ++ end_tag_text name))
       (open_clean k name n)
-      (clean_both (nodes_text (suc k) ns) (indent k ++ end_text name) (nodes_clean levels (suc k) ns h.2)
+      (clean_both (nodes_text (suc k) ns) (indent k ++ end_tag_text name) (nodes_clean levels (suc k) ns h.2)
       (close_clean k name n))
 
   nodes_clean : (levels k : ℕ) (ns : Nodes) → IsNodes levels ns → Clean (nodes_text k ns)
@@ -97,11 +99,11 @@ written_clean : (name : List ℕ) (ns : Nodes) → IsRoot name ns → Clean (wri
 unfolding written_text
 written_clean name ns h =
     let n = name_clean name h.named in
-    clean_both declared_text (60 ∷ (name ++ (namespace_text ++ 62 ∷ 10 ∷ [])) ++ (nodes_text 1 ns ++ end_text name))
+    clean_both declared_text (60 ∷ (name ++ (namespace_text ++ 62 ∷ 10 ∷ [])) ++ (nodes_text 1 ns ++ end_tag_text name))
     declared_clean
-    (clean_both (60 ∷ (name ++ (namespace_text ++ 62 ∷ 10 ∷ []))) (nodes_text 1 ns ++ end_text name)
+    (clean_both (60 ∷ (name ++ (namespace_text ++ 62 ∷ 10 ∷ []))) (nodes_text 1 ns ++ end_tag_text name)
     (clean_both name (namespace_text ++ 62 ∷ 10 ∷ []) n namespace_clean)
-    (clean_both (nodes_text 1 ns) (end_text name) (nodes_clean 62 1 ns h.nested) (end_clean name n)))
+    (clean_both (nodes_text 1 ns) (end_tag_text name) (nodes_clean 62 1 ns h.nested) (end_clean name n)))
 
 -- ---- clean characters are as XML counts them
 

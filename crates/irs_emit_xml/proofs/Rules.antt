@@ -5,8 +5,8 @@ use Rattle.std.proofs.lemmas.Bool.Decides.{nat_tests}
 use Rattle.std.proofs.lemmas.List.{append-nil}
 use Rattle.std.specs.Prelude.{codes}
 use Rattle.std.specs.List.{list_all}
-use Rattle.irs_xml.specs.Characters.{is_space}
-use Rattle.irs_xml.specs.Comments.{after}
+use Rattle.irs_xml.specs.Characters.{is_white_space}
+use Rattle.irs_xml.specs.Comments.{rest_after}
 use Rattle.irs_xml.specs.Content.{Content, nothing, character, content_text, is_char_data, IsTagIn, IsElement}
 use Rattle.irs_xml.specs.Content.{IsContent}
 use Rattle.irs_xml.specs.Document.{IsDocument, root_namespace, is_fpml}
@@ -15,7 +15,7 @@ use Rattle.irs_xml.specs.Namespaces.{Scope, first_scope, opening_of, is_opened, 
 use Rattle.irs_xml.specs.Namespaces.{may_declare, is_lawful, namespace_of, scope_in, settings_of}
 use Rattle.std.specs.Char.{encode_utf8}
 use Rattle.irs_emit_xml.specs.Trees.{Node, leaf, branch, Nodes, no_nodes, node, indent, fpml_namespace, is_letter}
-use Rattle.irs_emit_xml.specs.Trees.{is_name, is_plain, IsNode, IsNodes, IsRoot}
+use Rattle.irs_emit_xml.specs.Trees.{is_tag_name, is_unescaped, IsNode, IsNodes, IsRoot}
 use Rattle.irs_emit_xml.proofs.Spelling.{plain_tag, characters, element_of, content_of, namespace_attribute, root_tag}
 use Rattle.irs_emit_xml.proofs.Spelling.{root_of, document_of}
 
@@ -45,7 +45,7 @@ start_char : (c : ℕ) → is_name_start c ≡ true → is_name_char c ≡ true
 unfolding is_name_char
 start_char c h = rw h refl
 
-name_is : (name : List ℕ) → is_name name ≡ true → is_nc_name name ≡ true
+name_is : (name : List ℕ) → is_tag_name name ≡ true → is_nc_name name ≡ true
 name_is [] h = h
 name_is (c ∷ cs) h =
     let b = both_true (is_letter c) (list_all is_letter cs) h in
@@ -58,15 +58,15 @@ name_is (c ∷ cs) h =
 abbrev is_bare : ℕ → Bool
 is_bare x = is_char_data x && not (x == 93)
 
-plain_bare : (x : ℕ) → is_plain x ≡ true → is_bare x ≡ true
-unfolding is_plain
+plain_bare : (x : ℕ) → is_unescaped x ≡ true → is_bare x ≡ true
+unfolding is_unescaped
 plain_bare x h = grind (arith, nat_tests)
 
 not_true : (b : Bool) → not b ≡ true → b ≡ false
 not_true true e = absurd (cc e)
 not_true false e = refl
 
-no_bracket : (x : ℕ) (cs : List ℕ) → nat_eq x 93 ≡ false → after (codes "]]>") (x ∷ cs) ≡ None
+no_bracket : (x : ℕ) (cs : List ℕ) → nat_eq x 93 ≡ false → rest_after (codes "]]>") (x ∷ cs) ≡ None
 no_bracket x cs e = rw e refl
 
 characters_are : (levels : ℕ) (scope : Scope) (cs : List ℕ) (c : Content) → list_all is_bare cs ≡ true
@@ -99,7 +99,7 @@ tag_opened : (root : List ℕ) (scope : Scope) (name : List ℕ) → IsHome root
     → is_opened scope (opening_of (plain_tag name)) ≡ true
 tag_opened root scope name inner = let e = home_stays root scope inner in rw e refl
 
-tag_is : (root : List ℕ) (scope : Scope) (name : List ℕ) → IsHome root scope → is_name name ≡ true
+tag_is : (root : List ℕ) (scope : Scope) (name : List ℕ) → IsHome root scope → is_tag_name name ≡ true
     → IsTagIn scope (plain_tag name)
 tag_is root scope name inner h = record {
   spelt = true_both (is_nc_name name) true (name_is name h) refl;
@@ -114,7 +114,7 @@ mutual
   node_is root scope zero k (branch name ns) inner h = absurd h
   node_is root scope (suc levels) k (leaf name text) inner h = (
     tag_is root scope name inner h.0,
-    characters_are levels (scope ++ []) text nothing (all_then is_plain is_bare text plain_bare h.1) tt,
+    characters_are levels (scope ++ []) text nothing (all_then is_unescaped is_bare text plain_bare h.1) tt,
     refl,
   )
   node_is root scope (suc levels) k (branch name ns) inner h = (
@@ -145,15 +145,15 @@ home = scope_in first_scope (settings_of (namespace_attribute ∷ []))
 
 -- elements without a prefix are in the namespace of FpML
 pub at_home : IsHome fpml_namespace home
-unfolding home first_scope is_declaration declared_prefix encode_utf8 is_space
+unfolding home first_scope is_declaration declared_prefix encode_utf8 is_white_space
 at_home = record { found = refl }
 
 root_opened : (name : List ℕ) → is_opened first_scope (opening_of (root_tag name)) ≡ true
-unfolding first_scope is_declaration declared_prefix may_declare is_lawful encode_utf8 is_space
+unfolding first_scope is_declaration declared_prefix may_declare is_lawful encode_utf8 is_white_space
 root_opened name = refl
 
-root_tag_is : (name : List ℕ) → is_name name ≡ true → IsTagIn first_scope (root_tag name)
-unfolding is_space is_name_start is_name_char
+root_tag_is : (name : List ℕ) → is_tag_name name ≡ true → IsTagIn first_scope (root_tag name)
+unfolding is_white_space is_name_start is_name_char
 root_tag_is name h = record {
   spelt = true_both (is_nc_name name) true (name_is name h) refl;
   few = omega arith;
@@ -170,12 +170,12 @@ root_is name ns h = (
 
 -- the root is in the namespace of FpML
 pub root_at : (name : List ℕ) → root_namespace (opening_of (root_tag name)) ≡ Some fpml_namespace
-unfolding first_scope is_declaration declared_prefix encode_utf8 is_space
+unfolding first_scope is_declaration declared_prefix encode_utf8 is_white_space
 root_at name = refl
 
 -- the document follows the rules
 pub document_is : (name : List ℕ) (ns : Nodes) → IsRoot name ns → IsDocument (document_of name ns)
-unfolding is_space
+unfolding is_white_space
 document_is name ns h = record {
   declared = refl;
   before = refl;

@@ -20,20 +20,21 @@ use Rattle.irs_elements.specs.declared.table.Kind.TheVariants.{Object}
 use Rattle.irs_elements.specs.declared.table.Leaf.TheVariants.{Amount, CurrencyName, Date}
 use Rattle.irs_elements.specs.declared.table.Row.{Row}
 use Rattle.irs_json.specs.Carrier.{present}
-use Rattle.irs_json.specs.Names.{names_of}
+use Rattle.irs_json.specs.Names.{element_names}
 use Rattle.irs_json.specs.Values.{items_of as held}
 use Rattle.irs_read.proofs.TableLaws.{by_tables}
 use Rattle.irs_read.specs.Documents.{the_swap}
-use Rattle.irs_schedule.specs.Parts.{Covers, IsWithin, Part}
+use Rattle.irs_schedule.specs.Parts.{EntriesCover, IsWithin, Part}
 use Rattle.irs_schedule.specs.declared.entries.PaymentEntry.{PaymentEntry}
 use Rattle.irs_audit.proofs.BoundLemmas.{payments_few}
 use Rattle.irs_audit.proofs.FlowLaws.{flow_code_names, flow_names_are, flow_rows_are}
 use Rattle.irs_audit.proofs.StatedLemmas.{flows_agree}
-use Rattle.irs_audit.specs.FlowFaults.{CashflowsFault, FlowFault, OnceFault, PeriodsFault, StreamFault, StreamsFault}
-use Rattle.irs_audit.specs.FlowFaults.{SwapFault, below, ended, few, in_stream}
-use Rattle.irs_audit.specs.FlowFaults.{is_sound, many_streams, no_stream, payments_in, periods_in, periods_of}
+use Rattle.irs_audit.specs.FlowFaults.{CashflowsFault, FlowFault, OnceFault, PeriodsFault, FlowStreamFault}
+use Rattle.irs_audit.specs.FlowFaults.{FlowStreamsFault}
+use Rattle.irs_audit.specs.FlowFaults.{FlowSwapFault, below, ended, few, in_stream}
+use Rattle.irs_audit.specs.FlowFaults.{is_sound, many_streams, no_stream, payments_in, periods_in, flow_periods_of}
 use Rattle.irs_audit.specs.FlowLines.{flow_names, flow_rows}
-use Rattle.irs_audit.specs.FlowMeaning.{exchange_in, flows_in, payment_in, period_in, stream_in, streams_in}
+use Rattle.irs_audit.specs.FlowMeaning.{exchange_in, flows_in, payment_in, period_in, flow_part_in, flow_parts_in}
 use Rattle.irs_audit.specs.FlowParts.{FlowPart}
 use Rattle.irs_audit.specs.declared.flow_table.TheConstants.{FLOW_ROWS}
 use Rattle.irs_audit.specs.declared.flows.FlowExchange.{FlowExchange}
@@ -47,14 +48,14 @@ use Rattle.irs_emit.proofs.RowsRead.{array_values, from_items}
 use Rattle.irs_emit.proofs.Short.{parts_short}
 use Rattle.irs_emit.specs.Emitted.{array_of, cashflows_value, emit_value, exchange_value, forecast_value}
 use Rattle.irs_emit.specs.Emitted.{known_exchanges, object_with, payment_value, put_known, stream_value}
-use Rattle.irs_emit.specs.Leaves.{amount_leaf, currency_leaf, text_of}
+use Rattle.irs_emit.specs.Leaves.{amount_leaf, currency_leaf, utf8_or_empty}
 use Rattle.irs_emit.specs.PartLaws.{IsPartShort}
 use Rattle.irs_emit.specs.RowLaws.{IsExchangeShort, IsPaymentShort, IsShortAmount}
 use Rattle.irs_xml.specs.Document.{XmlReads}
 use Rattle.serde_json.specs.Data.{Data, null, boolean, number, string, array, object, item, no_items, Members}
 use Rattle.serde_json.specs.Data.{no_members, member, put}
 use Rattle.serde_json.specs.View.{items_of}
-use Rattle.irs_emit_xml.specs.Ones.{alone, ones}
+use Rattle.irs_emit_xml.specs.Ones.{value_alone, ones}
 use Rattle.irs_emit_xml.specs.StatedInXml.{StatesInXml}
 use Rattle.irs_emit_xml.proofs.Carried.{carried_cash, carried_payment, carried_stream, carried_swap, cash}
 use Rattle.irs_emit_xml.proofs.Carried.{emitted_carried, known_alone, paid, periods_paid, periods_same}
@@ -64,7 +65,7 @@ use Rattle.irs_emit_xml.proofs.Joining.{Begins}
 -- ---- values that stand alone are read as a list of one
 
 -- the values of a list, whether it is an array or not
-alone_held : (ds : List Data) → Begins ds → held (alone (items_of ds)) ≡ ds
+alone_held : (ds : List Data) → Begins ds → held (value_alone (items_of ds)) ≡ ds
 alone_held [] b = absurd b
 alone_held (null ∷ ds) b = absurd b
 alone_held (boolean x ∷ ds) b = absurd b
@@ -84,7 +85,7 @@ IsHeld (array no_items) = ⊥
 IsHeld (array (item d ds)) = Unit {0}
 IsHeld (object ms) = Unit {0}
 
-alone_is : (ds : List Data) → Begins ds → IsHeld (alone (items_of ds))
+alone_is : (ds : List Data) → Begins ds → IsHeld (value_alone (items_of ds))
 alone_is [] b = absurd b
 alone_is (null ∷ ds) b = absurd b
 alone_is (boolean x ∷ ds) b = absurd b
@@ -103,8 +104,8 @@ held_present (array no_items) h = absurd h
 held_present (array (item d ds)) h = refl
 held_present (object ms) h = refl
 
-alone_values : (ds : List Data) → Begins ds → values_of (present (alone (items_of ds))) ≡ ds
-alone_values ds b = ap values_of (held_present (alone (items_of ds)) (alone_is ds b)) ∙ alone_held ds b
+alone_values : (ds : List Data) → Begins ds → values_of (present (value_alone (items_of ds))) ≡ ds
+alone_values ds b = ap values_of (held_present (value_alone (items_of ds)) (alone_is ds b)) ∙ alone_held ds b
 
 -- ---- payments
 
@@ -113,7 +114,7 @@ paid_begins : (p : Part) (y : PaymentEntry) → IsPaymentShort p y → Begins (p
 paid_begins p y h =
     subst Begins (periods_same p (y.first_period - 1) (y.last_period + 1 - y.first_period)) (paid_begin p y h)
 
-some_paid : (p : Part) (ys : List PaymentEntry) (n : ℕ) → Covers 1 ys n → 0 < n → Begins (map (carried_payment p) ys)
+some_paid : (p : Part) (ys : List PaymentEntry) (n : ℕ) → EntriesCover 1 ys n → 0 < n → Begins (map (carried_payment p) ys)
 some_paid p [] n c l = absurd (omega (arith, c, l))
 some_paid p (y ∷ ys) n c l = tt
 
@@ -135,7 +136,7 @@ payment_read : (p : Part) (y : PaymentEntry) → IsPaymentShort p y
     → payment_in (carried_payment p y) ≡ payment_in (payment_value p y)
 unfolding payment_value
 payment_read p y h =
-    paid_in y.unadjusted y.adjusted (alone (items_of (periods_paid p y))) (array_of (periods_paid p y))
+    paid_in y.unadjusted y.adjusted (value_alone (items_of (periods_paid p y))) (array_of (periods_paid p y))
     (forecast_value p.currency y)
     (alone_values (periods_paid p y) (paid_begins p y h) ∙ sym (array_values (periods_paid p y)))
 
@@ -194,7 +195,7 @@ carried_payments : (p : Part) → IsPartShort p
     → payments_in (Some (carried_cash p)) ≡ few (map (carried_payment p) p.payments)
 carried_payments p h =
     let ds = map (carried_payment p) p.payments in
-    ap few (payment_member (known_alone (map exchange_value p.exchanges)) (alone (items_of ds))
+    ap few (payment_member (known_alone (map exchange_value p.exchanges)) (value_alone (items_of ds))
     ∙ alone_values ds (payments_begin p h))
 
 emitted_payments : (p : Part) → payments_in (Some (cashflows_value p)) ≡ few (map (payment_value p) p.payments)
@@ -204,14 +205,14 @@ emitted_payments p =
     ap few (payment_member (known_exchanges p.exchanges) (array_of ds) ∙ array_values ds)
 
 -- the same periods are read of a stream
-same_periods : (p : Part) → IsPartShort p → periods_of (payments_in (Some (carried_cash p)))
-    ≡ periods_of (payments_in (Some (cashflows_value p)))
+same_periods : (p : Part) → IsPartShort p → flow_periods_of (payments_in (Some (carried_cash p)))
+    ≡ flow_periods_of (payments_in (Some (cashflows_value p)))
 same_periods p h =
-    ap periods_of (carried_payments p h)
-    ∙ few_read (IsPaymentShort p) (carried_payment p) (payment_value p) periods_of p.payments
+    ap flow_periods_of (carried_payments p h)
+    ∙ few_read (IsPaymentShort p) (carried_payment p) (payment_value p) flow_periods_of p.payments
     (rows_joined (IsPaymentShort p) (carried_payment p) (payment_value p) periods_in p.payments (periods_read p)
     h.payments)
-    ∙ sym (ap periods_of (emitted_payments p))
+    ∙ sym (ap flow_periods_of (emitted_payments p))
 
 part_of : (a : List FlowExchange) (b : List FlowPayment) (c : List FlowPeriod) (f : FlowPart) → a ≡ f.exchanges
     → b ≡ f.payments → c ≡ f.periods → (record { exchanges = a; payments = b; periods = c }) ≡ f
@@ -227,7 +228,7 @@ flows_same : (p : Part) → IsPartShort p → flows_in (Some (carried_cash p)) �
 flows_same p h =
     part_of _ _ _ (flows_in (Some (cashflows_value p)))
     (ap (map exchange_in) (exchange_member (known_alone (map exchange_value p.exchanges))
-    (alone (items_of (map (carried_payment p) p.payments)))
+    (value_alone (items_of (map (carried_payment p) p.payments)))
     ∙ exchanges_listed p.exchanges ∙ sym (emitted_exchanges p)))
     (ap (map payment_in) (carried_payments p h)
     ∙ few_read (IsPaymentShort p) (carried_payment p) (payment_value p) (map payment_in) p.payments
@@ -243,7 +244,7 @@ emitted_flows : (p : Part) → once (codes "cashflows") (stream_value p) ≡ Som
 unfolding cashflows_value
 emitted_flows p = refl
 
-stream_same : (p : Part) → IsPartShort p → stream_in (carried_stream p) ≡ stream_in (stream_value p)
+stream_same : (p : Part) → IsPartShort p → flow_part_in (carried_stream p) ≡ flow_part_in (stream_value p)
 stream_same p h = ap flows_in (its_flows p) ∙ flows_same p h ∙ sym (ap flows_in (emitted_flows p))
 
 -- ---- the swap
@@ -258,11 +259,11 @@ streams_found : (s : List Part) → 0 < length s
 streams_found s l = alone_values (map carried_stream s) (streams_begin s l)
 
 swap_same : (s : List Part) → 0 < length s → Every IsPartShort s
-    → streams_in (carried_swap s) ≡ streams_in (object_with (codes "swapStream") (array_of (map stream_value s)))
+    → flow_parts_in (carried_swap s) ≡ flow_parts_in (object_with (codes "swapStream") (array_of (map stream_value s)))
 swap_same s l h =
-    ap (map stream_in) (streams_found s l)
-    ∙ rows_read IsPartShort carried_stream stream_value stream_in s stream_same h
-    ∙ sym (ap (map stream_in) (array_values (map stream_value s)))
+    ap (map flow_part_in) (streams_found s l)
+    ∙ rows_read IsPartShort carried_stream stream_value flow_part_in s stream_same h
+    ∙ sym (ap (map flow_part_in) (array_values (map stream_value s)))
 
 its_carried_swap : (s : List Part) → the_swap (object_with (codes "swap") (carried_swap s)) ≡ Ok (carried_swap s)
 its_carried_swap s = refl
@@ -292,13 +293,13 @@ forecast_free : (stream i : ℕ) (c : Currency) (o : Option Dec) → is_currency
 forecast_free stream i c None e h =
     let d = forecast_with c None in
     object_free F M stream 8 i d _ refl refl refl (
-      leaf_member F M stream 9 i _ d CurrencyName (text_of c.letters) refl refl (omega arith) (currency_kept c e),
+      leaf_member F M stream 9 i _ d CurrencyName (utf8_or_empty c.letters) refl refl (omega arith) (currency_kept c e),
       (absent_free F M stream 10 i _ d refl refl, tt),
     )
 forecast_free stream i c (Some v) e h =
     let d = forecast_with c (Some v) in
     object_free F M stream 8 i d _ refl refl refl (
-      leaf_member F M stream 9 i _ d CurrencyName (text_of c.letters) refl refl (omega arith) (currency_kept c e),
+      leaf_member F M stream 9 i _ d CurrencyName (utf8_or_empty c.letters) refl refl (omega arith) (currency_kept c e),
       (
         leaf_member F M stream 10 i _ d Amount (dec_text v.units v.places) refl refl (omega arith)
             (number_kept v.units v.places h.0 h.1),
@@ -307,7 +308,7 @@ forecast_free stream i c (Some v) e h =
     )
 
 paid_names : (u a : ℤ) (m : Data) (c : Currency) (o : Option Dec) → IsHeld m
-    → names_of (paid u a m (forecast_with c o))
+    → element_names (paid u a m (forecast_with c o))
     ≡ Some (codes "adjustedPaymentDate" ∷ codes "calculationPeriod" ∷ codes "forecastPaymentAmount"
     ∷ codes "unadjustedPaymentDate" ∷ [])
 paid_names u a null c o h = absurd h
@@ -349,24 +350,24 @@ payment_free : (stream i : ℕ) (p : Part) (y : PaymentEntry) → IsPaymentShort
     → NoFault F M stream 5 (Object Free) i (carried_payment p y)
 unfolding forecast_value
 payment_free stream i p y h =
-    paid_free stream i y.unadjusted y.adjusted (alone (items_of (periods_paid p y))) p.currency y.amount
+    paid_free stream i y.unadjusted y.adjusted (value_alone (items_of (periods_paid p y))) p.currency y.amount
     (alone_is (periods_paid p y) (paid_begins p y h)) h.unadjusted h.adjusted h.currency h.amount
 
 -- rows that stand alone or in an array have no fault where none of them has one
 module _ {X : Type 0} (stream c : ℕ) (f : X → Data) (Q : X → Type 0) where
   alone_free : (i : ℕ) (xs : List X) → Begins (map f xs)
       → ((k : ℕ) (x : X) → Q x → NoFault F M stream c (flow_at c).kind k (f x)) → Every Q xs
-      → ValuesFree F M stream c (flow_at c) i (held (alone (items_of (map f xs))))
+      → ValuesFree F M stream c (flow_at c) i (held (value_alone (items_of (map f xs))))
   alone_free i xs b law h =
       subst (ValuesFree F M stream c (flow_at c) i) (from_items (map f xs) ∙ sym (alone_held (map f xs) b))
       (array_free F M stream c f Q i (flow_at c) xs law h)
 
   alone_few : (xs : List X) (n : ℕ) → Begins (map f xs) → length xs ≤ n
-      → length (held (alone (items_of (map f xs)))) ≤ n
+      → length (held (value_alone (items_of (map f xs)))) ≤ n
   alone_few xs n b l = let e = ap length (alone_held (map f xs) b) in let k =
       mapped_length f xs in omega (arith, e, k, l)
 
-cash_names : (m : Data) → IsHeld m → names_of (cash None m)
+cash_names : (m : Data) → IsHeld m → element_names (cash None m)
     ≡ Some (codes "cashflowsMatchParameters" ∷ codes "paymentCalculationPeriod" ∷ [])
 cash_names null h = absurd h
 cash_names (boolean b) h = absurd h
@@ -377,8 +378,8 @@ cash_names (array (item d ds)) h = refl
 cash_names (object ms) h = refl
 
 exchanged_by : (e : Data) (ms : Members) → IsHeld e
-    → names_of (object (member (codes "principalExchange") e ms))
-    ≡ option_map (λ ns. codes "principalExchange" ∷ ns) (names_of (object ms))
+    → element_names (object (member (codes "principalExchange") e ms))
+    ≡ option_map (λ ns. codes "principalExchange" ∷ ns) (element_names (object ms))
 exchanged_by null ms h = absurd h
 exchanged_by (boolean b) ms h = absurd h
 exchanged_by (number n) ms h = absurd h
@@ -388,7 +389,7 @@ exchanged_by (array (item d ds)) ms h = refl
 exchanged_by (object os) ms h = refl
 
 exchanged_names : (e m : Data) → IsHeld e → IsHeld m
-    → names_of (cash (Some e) m) ≡ Some (codes "cashflowsMatchParameters" ∷ codes "paymentCalculationPeriod"
+    → element_names (cash (Some e) m) ≡ Some (codes "cashflowsMatchParameters" ∷ codes "paymentCalculationPeriod"
     ∷ codes "principalExchange" ∷ [])
 exchanged_names e null h k = absurd k
 exchanged_names e (boolean b) h k = absurd k
@@ -405,9 +406,9 @@ exchanged_names e (object ms) h k =
 cash_free : (stream i : ℕ) (p : Part) (xs : List Exchange) (ys : List PaymentEntry) → Every IsExchangeShort xs
     → Every (IsPaymentShort p) ys → length xs ≤ most_rows → length ys ≤ most_rows → Begins (map (carried_payment p) ys)
     → NoFault F M stream 0 (Object Free) i (cash (known_alone (map exchange_value xs))
-    (alone (items_of (map (carried_payment p) ys))))
+    (value_alone (items_of (map (carried_payment p) ys))))
 cash_free stream i p [] ys hx hy lx ly b =
-    let payments = alone (items_of (map (carried_payment p) ys)) in
+    let payments = value_alone (items_of (map (carried_payment p) ys)) in
     let is = alone_is (map (carried_payment p) ys) b in
     let d = cash None payments in
     object_free F M stream 0 i d _ (cash_names payments is) refl refl (
@@ -421,8 +422,8 @@ cash_free stream i p [] ys hx hy lx ly b =
       ),
     )
 cash_free stream i p (x ∷ xs) ys hx hy lx ly b =
-    let exchanges = alone (items_of (map exchange_value (x ∷ xs))) in
-    let payments = alone (items_of (map (carried_payment p) ys)) in
+    let exchanges = value_alone (items_of (map exchange_value (x ∷ xs))) in
+    let payments = value_alone (items_of (map (carried_payment p) ys)) in
     let front = exchanges_begin x xs in
     let es = alone_is (map exchange_value (x ∷ xs)) front in
     let is = alone_is (map (carried_payment p) ys) b in
@@ -475,8 +476,8 @@ carried_its_cash p = refl
 sound_stream : (p : Part) → is_sound (carried_stream p) ≡ true
 sound_stream p = refl
 
-stream_fault : (p : Part) → IsPartShort p → (nth : ℕ) (f : Broken) → StreamFault nth (carried_stream p) f
-    → StreamFault nth (stream_value p) f
+stream_fault : (p : Part) → IsPartShort p → (nth : ℕ) (f : Broken) → FlowStreamFault nth (carried_stream p) f
+    → FlowStreamFault nth (stream_value p) f
 unfolding cashflows_value
 stream_fault p h nth f (inl own) = absurd (not_sound (is_sound (carried_stream p)) (sound_stream p) own.0)
 stream_fault p h nth f (inr inside) =
@@ -493,8 +494,8 @@ stream_at [] j x h e = absurd (cc e)
 stream_at (p ∷ s) zero x h e = (p, h.0, sym (ap (λ o. unwrap_or o x) e), refl)
 stream_at (p ∷ s) (suc j) x h e = stream_at s j x h.1 e
 
-streams_fault : (s : List Part) → Every IsPartShort s → (f : Broken) → StreamsFault (map carried_stream s) f
-    → StreamsFault (map stream_value s) f
+streams_fault : (s : List Part) → Every IsPartShort s → (f : Broken) → FlowStreamsFault (map carried_stream s) f
+    → FlowStreamsFault (map stream_value s) f
 streams_fault s h f (no_stream none) =
     no_stream (mapped_length stream_value s ∙ sym (mapped_length carried_stream s) ∙ none)
 streams_fault s h f (many_streams lt) =
@@ -508,7 +509,7 @@ streams_fault s h f (in_stream g some few among) =
       among.0,
       (
         stream_value at.0,
-        (at.3, stream_fault at.0 at.1 (among.0 + 1) g (subst (λ d. StreamFault (among.0 + 1) d g) at.2 among.1.1.1)),
+        (at.3, stream_fault at.0 at.1 (among.0 + 1) g (subst (λ d. FlowStreamFault (among.0 + 1) d g) at.2 among.1.1.1)),
       ),
     )
 
@@ -521,17 +522,17 @@ sound_swap_by (array no_items) h = absurd h
 sound_swap_by (array (item d ds)) h = refl
 sound_swap_by (object ms) h = refl
 
-swap_fault : (s : List Part) → 0 < length s → Every IsPartShort s → (f : Broken) → SwapFault (carried_swap s) f
-    → SwapFault (object_with (codes "swapStream") (array_of (map stream_value s))) f
+swap_fault : (s : List Part) → 0 < length s → Every IsPartShort s → (f : Broken) → FlowSwapFault (carried_swap s) f
+    → FlowSwapFault (object_with (codes "swapStream") (array_of (map stream_value s))) f
 swap_fault s l h f (inl own) =
     absurd (not_sound (is_sound (carried_swap s))
-    (sound_swap_by (alone (items_of (map carried_stream s))) (alone_is (map carried_stream s) (streams_begin s l)))
+    (sound_swap_by (value_alone (items_of (map carried_stream s))) (alone_is (map carried_stream s) (streams_begin s l)))
     own.0)
 swap_fault s l h f (inr inside) =
     inr (
       refl,
-      subst (λ ds. StreamsFault ds f) (sym (array_values (map stream_value s)))
-          (streams_fault s h f (subst (λ ds. StreamsFault ds f) (streams_found s l) inside.1)),
+      subst (λ ds. FlowStreamsFault ds f) (sym (array_values (map stream_value s)))
+          (streams_fault s h f (subst (λ ds. FlowStreamsFault ds f) (streams_found s l) inside.1)),
     )
 
 the_same : (a b : Data) (w : Result Data Broken) → w ≡ Ok a → w ≡ Ok b → a ≡ b
@@ -547,7 +548,7 @@ carried_free s w f (ended _ e) =
     no_end (carried_swap s) f (the_swap (object_with (codes "swap") (carried_swap s))) (its_carried_swap s) e
 carried_free s w f (below t _ e fault) =
     let short = parts_short s w.each in
-    let here = subst (λ d. SwapFault d f) (the_same t (carried_swap s)
+    let here = subst (λ d. FlowSwapFault d f) (the_same t (carried_swap s)
     (the_swap (object_with (codes "swap") (carried_swap s))) e (its_carried_swap s)) fault in
     emitted_free s w.some w.few short f
     (below (object_with (codes "swapStream") (array_of (map stream_value s))) f (its_swap s)

@@ -6,7 +6,7 @@ use Rattle.irs_emit.specs.Private.Paid.{IsPaid}
 use Rattle.irs_schedule.specs.Parts.{Part}
 use Rattle.irs_schedule.specs.declared.entries.PaymentEntry.{PaymentEntry}
 use Rattle.irs_terms.specs.declared.currency.Currency.{Currency}
-use Rattle.irs_emit_xml.specs.Flows.{forecast_node, one_period, period_nodes}
+use Rattle.irs_emit_xml.specs.Flows.{forecast_node, one_period_nodes, period_nodes}
 use Rattle.irs_emit_xml.specs.Private.Flows.{lines}
 use Rattle.irs_emit_xml.specs.Trees.{Node, node_text}
 use Rattle.irs_emit.proofs.Pieces.{nothing_more}
@@ -35,14 +35,14 @@ no_periods p first old =
 
 -- one more period
 pub next_period : (p : Part) (first place : ℕ) (old now next : List ℕ) → first ≤ place
-    → now ≡ old ++ lines 4 (period_nodes p first (place - first)) → next ≡ now ++ lines 4 (one_period p place)
+    → now ≡ old ++ lines 4 (period_nodes p first (place - first)) → next ≡ now ++ lines 4 (one_period_nodes p place)
     → next ≡ old ++ lines 4 (period_nodes p first (place + 1 - first))
 next_period p first place old now next l e g =
     let n = place - first in
     let up : place + 1 - first ≡ suc n = omega (arith, l) in
     let at : place ≡ first + n = omega (arith, l) in
-    let more = lines_append 4 (period_nodes p first n) (one_period p (first + n)) old now next e
-    (subst (λ j. next ≡ now ++ lines 4 (one_period p j)) at g) in
+    let more = lines_append 4 (period_nodes p first n) (one_period_nodes p (first + n)) old now next e
+    (subst (λ j. next ≡ now ++ lines 4 (one_period_nodes p j)) at g) in
     subst (λ m. next ≡ old ++ lines 4 (period_nodes p first m)) (sym up) more
 
 -- all periods up to a place

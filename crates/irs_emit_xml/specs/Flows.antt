@@ -19,13 +19,13 @@ use Rattle.irs_schedule.specs.declared.views.CalculationPeriod.{CalculationPerio
 use Rattle.irs_emit_xml.specs.Trees.{Node, leaf, branch, Nodes, no_nodes, node, written_text}
 
 -- elements in this order
-abbrev pub listed : List Node → Nodes
-listed [] = no_nodes
-listed (n ∷ ns) = node n (listed ns)
+abbrev pub listed_nodes : List Node → Nodes
+listed_nodes [] = no_nodes
+listed_nodes (n ∷ ns) = node n (listed_nodes ns)
 
 -- an element with elements
 abbrev pub element : List ℕ → List Node → Node
-element name ns = branch name (listed ns)
+element name ns = branch name (listed_nodes ns)
 
 -- ---- leaves
 
@@ -69,8 +69,8 @@ known f (Some x) = f x ∷ []
 -- ---- rows, each by its fields in order
 
 -- the fields of a principal exchange
-abbrev pub exchange_fields : Exchange → List Node
-exchange_fields x =
+abbrev pub exchange_content : Exchange → List Node
+exchange_content x =
     day_node (codes "unadjustedPrincipalExchangeDate") x.unadjusted
     ∷ day_node (codes "adjustedPrincipalExchangeDate") x.adjusted
     ∷ amount_node (codes "principalExchangeAmount") x.amount
@@ -78,7 +78,7 @@ exchange_fields x =
 
 -- FpML's PrincipalExchange
 unfoldable pub exchange_node : Exchange → Node
-exchange_node x = element (codes "principalExchange") (exchange_fields x)
+exchange_node x = element (codes "principalExchange") (exchange_content x)
 
 -- the fields of the amount of a payment; the currency is there also where the amount isn't known
 abbrev pub forecast_fields : Currency → PaymentEntry → List Node
@@ -108,13 +108,13 @@ unfoldable pub definition_node : CalculationPeriod → Reset → Node
 definition_node x r = element (codes "floatingRateDefinition") (definition_fields x r)
 
 -- the rate of a period: its `fixedRate`, or on a floating stream its `floatingRateDefinition`
-abbrev pub rate_of : CalculationPeriod → Option Reset → List Node
-rate_of x None = known (rate_node (codes "fixedRate")) x.rate
-rate_of x (Some r) = definition_node x r ∷ []
+abbrev pub rate_content : CalculationPeriod → Option Reset → List Node
+rate_content x None = known (rate_node (codes "fixedRate")) x.rate
+rate_content x (Some r) = definition_node x r ∷ []
 
 -- what comes before the rate of a period
-abbrev pub period_front : CalculationPeriod → List Node
-period_front x =
+abbrev pub front_content : CalculationPeriod → List Node
+front_content x =
     day_node (codes "unadjustedStartDate") x.start
     ∷ day_node (codes "unadjustedEndDate") x.«end»
     ∷ day_node (codes "adjustedStartDate") x.adjusted_start
@@ -124,37 +124,37 @@ period_front x =
     ∷ []
 
 -- the fields of a calculation period, with its reset if it has one
-abbrev pub period_fields : CalculationPeriod → Option Reset → List Node
-period_fields x reset = period_front x ++ (rate_of x reset ++ fraction_node (codes "dayCountYearFraction") x.frac ∷ [])
+abbrev pub period_content : CalculationPeriod → Option Reset → List Node
+period_content x reset = front_content x ++ (rate_content x reset ++ fraction_node (codes "dayCountYearFraction") x.frac ∷ [])
 
 -- FpML's CalculationPeriod
 unfoldable pub period_node : CalculationPeriod → Option Reset → Node
-period_node x reset = element (codes "calculationPeriod") (period_fields x reset)
+period_node x reset = element (codes "calculationPeriod") (period_content x reset)
 
 -- a period as a list: empty where there is no such period
-abbrev pub listed_period : Option Reset → Option CalculationPeriod → List Node
-listed_period reset None = []
-listed_period reset (Some x) = period_node x reset ∷ []
+abbrev pub listed_period_nodes : Option Reset → Option CalculationPeriod → List Node
+listed_period_nodes reset None = []
+listed_period_nodes reset (Some x) = period_node x reset ∷ []
 
 -- the period at a place, counted from 0, if there is one
-abbrev pub one_period : Part → ℕ → List Node
-one_period p j = listed_period (slice_get p.resets j) (period_at p j)
+abbrev pub one_period_nodes : Part → ℕ → List Node
+one_period_nodes p j = listed_period_nodes (slice_get p.resets j) (period_at p j)
 
 -- n periods of a part from a place on
 abbrev pub period_nodes : Part → ℕ → ℕ → List Node
 period_nodes p j zero = []
-period_nodes p j (suc n) = period_nodes p j n ++ one_period p (j + n)
+period_nodes p j (suc n) = period_nodes p j n ++ one_period_nodes p (j + n)
 
 -- the fields of a payment, with the calculation periods that it pays
-abbrev pub payment_fields : Part → PaymentEntry → List Node
-payment_fields p y =
+abbrev pub payment_content : Part → PaymentEntry → List Node
+payment_content p y =
     day_node (codes "unadjustedPaymentDate") y.unadjusted
     ∷ day_node (codes "adjustedPaymentDate") y.adjusted
     ∷ (period_nodes p (y.first_period - 1) (y.last_period + 1 - y.first_period) ++ forecast_node p.currency y ∷ [])
 
 -- FpML's PaymentCalculationPeriod
 unfoldable pub payment_node : Part → PaymentEntry → Node
-payment_node p y = element (codes "paymentCalculationPeriod") (payment_fields p y)
+payment_node p y = element (codes "paymentCalculationPeriod") (payment_content p y)
 
 -- that cash flows match the parameters of their stream, the principal exchanges, and the payments
 abbrev pub cashflows_fields : Part → List Node
@@ -172,7 +172,7 @@ stream_node p = element (codes "swapStream") (cashflows_node p ∷ [])
 
 -- the streams of a schedule, in order
 abbrev pub stream_nodes : List Part → Nodes
-stream_nodes s = listed (map stream_node s)
+stream_nodes s = listed_nodes (map stream_node s)
 
 -- the document of a schedule: `swap` with its streams
 unfoldable pub flows_text : List Part → List ℕ

@@ -4,10 +4,10 @@ use Rattle.serde_json.specs.Data.{Data, null, boolean, number, string, array, ob
 use Rattle.serde_json.specs.Data.{no_members, member}
 
 -- an array of one value is that value
-abbrev pub alone : Items → Data
-alone no_items = array no_items
-alone (item d no_items) = d
-alone (item d (item e ds)) = array (item d (item e ds))
+abbrev pub value_alone : Items → Data
+value_alone no_items = array no_items
+value_alone (item d no_items) = d
+value_alone (item d (item e ds)) = array (item d (item e ds))
 
 -- a value with each array of one value replaced by that value, at every depth
 abbrev mutual
@@ -17,7 +17,7 @@ abbrev mutual
   ones (boolean b) = boolean b
   ones (number n) = number n
   ones (string s) = string s
-  ones (array ds) = alone (ones_items ds)
+  ones (array ds) = value_alone (ones_items ds)
   ones (object ms) = object (ones_members ms)
 
   -- the items of an array

@@ -26,12 +26,12 @@ indent zero = []
 indent (suc k) = 32 ∷ 32 ∷ indent k
 
 -- an end tag, and the end of its line
-abbrev pub end_text : List ℕ → List ℕ
-end_text name = codes "</" ++ (name ++ 62 ∷ 10 ∷ [])
+abbrev pub end_tag_text : List ℕ → List ℕ
+end_tag_text name = codes "</" ++ (name ++ 62 ∷ 10 ∷ [])
 
 -- the line of an element that has a text
 abbrev pub leaf_text : ℕ → List ℕ → List ℕ → List ℕ
-leaf_text k name text = indent k ++ (60 ∷ (name ++ (62 ∷ (text ++ end_text name))))
+leaf_text k name text = indent k ++ (60 ∷ (name ++ (62 ∷ (text ++ end_tag_text name))))
 
 -- the line of a start tag
 abbrev pub open_text : ℕ → List ℕ → List ℕ
@@ -39,7 +39,7 @@ open_text k name = indent k ++ (60 ∷ (name ++ 62 ∷ 10 ∷ []))
 
 -- the line of an end tag
 abbrev pub close_text : ℕ → List ℕ → List ℕ
-close_text k name = indent k ++ end_text name
+close_text k name = indent k ++ end_tag_text name
 
 -- an element with this many levels round it, and elements one after another. Tags round elements are lines of their own
 abbrev mutual
@@ -85,14 +85,14 @@ unfoldable pub is_letter : ℕ → Bool
 is_letter c = is_in_range 65 90 c || is_in_range 97 122 c
 
 -- a name of letters
-abbrev pub is_name : List ℕ → Bool
-is_name [] = false
-is_name (c ∷ cs) = is_letter c && list_all is_letter cs
+abbrev pub is_tag_name : List ℕ → Bool
+is_tag_name [] = false
+is_tag_name (c ∷ cs) = is_letter c && list_all is_letter cs
 
 -- an ASCII character that can be written as itself: from the space to `~`, but not `&`, `<`, or `]`, which might begin
 -- `]]>`
-unfoldable pub is_plain : ℕ → Bool
-is_plain c = is_in_range 32 126 c && (not (c == 38) && (not (c == 60) && not (c == 93)))
+unfoldable pub is_unescaped : ℕ → Bool
+is_unescaped c = is_in_range 32 126 c && (not (c == 38) && (not (c == 60) && not (c == 93)))
 
 -- there is an element
 abbrev pub IsFilled : Nodes → Type 0
@@ -105,8 +105,8 @@ abbrev mutual
   pub IsNode : ℕ → Node → Type 0
   IsNode zero (leaf name text) = ⊥
   IsNode zero (branch name ns) = ⊥
-  IsNode (suc levels) (leaf name text) = (is_name name ≡ true) × (list_all is_plain text ≡ true)
-  IsNode (suc levels) (branch name ns) = (is_name name ≡ true) × IsFilled ns × IsNodes levels ns
+  IsNode (suc levels) (leaf name text) = (is_tag_name name ≡ true) × (list_all is_unescaped text ≡ true)
+  IsNode (suc levels) (branch name ns) = (is_tag_name name ≡ true) × IsFilled ns × IsNodes levels ns
 
   -- each is one of these
   pub IsNodes : ℕ → Nodes → Type 0
@@ -115,7 +115,7 @@ abbrev mutual
 
 -- a root with elements, which nest at most 62 levels in it
 pub record IsRoot (name : List ℕ) (ns : Nodes) : Type 0 where
-  pub named : is_name name ≡ true
+  pub named : is_tag_name name ≡ true
   pub filled : IsFilled ns
   pub nested : IsNodes 62 ns
 

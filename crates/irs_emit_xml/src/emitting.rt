@@ -2,7 +2,7 @@
 ghost use Rattle.std.specs.Prelude.{◌≡◌, ◌++◌, ◌-◌, ◌≤◌, IfOk, OnOk, map};
 ghost use Rattle.irs_emit.specs.Emitted.{emit_value};
 ghost use Rattle.irs_emit.specs.Private.Paid.{IsPaid};
-ghost use Rattle.irs_emit_xml.specs.Flows.{cashflows_node, exchange_node, flows_text, one_period, payment_node};
+ghost use Rattle.irs_emit_xml.specs.Flows.{cashflows_node, exchange_node, flows_text, one_period_nodes, payment_node};
 ghost use Rattle.irs_emit_xml.specs.Private.Flows.{lines};
 ghost use Rattle.irs_emit_xml.specs.Flows.{period_nodes, stream_node};
 ghost use Rattle.irs_emit_xml.specs.Ones.{ones};
@@ -43,7 +43,7 @@ fn exchanges(out: &mut Vec<u8>, part: &StreamPart) -> Result<(), Memory>
 // The calculation period at a place, counted from 0, if there is one.
 #[tactic(auto, using(irs_emit::proofs::Bounds::period_above))]
 fn one_period(out: &mut Vec<u8>, part: &StreamPart, place: usize) -> Result<(), Memory>
-    ensures { OnOk result (out.new.items ≡ out.old.items ++ lines 4 (one_period part.now place)) }
+    ensures { OnOk result (out.new.items ≡ out.old.items ++ lines 4 (one_period_nodes part.now place)) }
 {
     match part.period(place) {
         None => Ok(()),

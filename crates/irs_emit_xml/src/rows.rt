@@ -4,7 +4,7 @@ ghost use Rattle.std.specs.Prelude.{◌≡◌, ◌++◌, ◌≤◌, ◌<ℤ◌, 
 ghost use Rattle.irs_base.specs.Texts.{most_places};
 ghost use Rattle.irs_emit_xml.specs.Flows.{definition_node, exchange_node, forecast_node, observation_node};
 ghost use Rattle.irs_emit_xml.specs.Private.Flows.{lines};
-ghost use Rattle.irs_emit_xml.specs.Flows.{period_front, period_node, rate_of};
+ghost use Rattle.irs_emit_xml.specs.Flows.{front_content, period_node, rate_content};
 ghost use Rattle.irs_emit_xml.specs.Trees.{node_text};
 ghost use Rattle.irs_schedule.specs.RowTexts.{IsFew};
 
@@ -84,7 +84,7 @@ fn definition(out: &mut Vec<u8>, x: &CalculationPeriod, r: &Reset) -> Result<(),
 // The rate of a period, with its reset on a floating stream.
 fn rate(out: &mut Vec<u8>, x: &CalculationPeriod, reset: Option<&Reset>) -> Result<(), Memory>
     ensures { OnOk result (out.new.items ≡ out.old.items
-        ++ lines 5 (rate_of x.now (option_map (λ r. r.now) reset.entry))) }
+        ++ lines 5 (rate_content x.now (option_map (λ r. r.now) reset.entry))) }
 {
     match reset {
         Some(r) => {
@@ -97,7 +97,7 @@ fn rate(out: &mut Vec<u8>, x: &CalculationPeriod, reset: Option<&Reset>) -> Resu
 
 // What comes before the rate of a period: its dates, days and notional.
 fn front(out: &mut Vec<u8>, x: &CalculationPeriod) -> Result<(), Memory>
-    ensures { OnOk result (out.new.items ≡ out.old.items ++ lines 5 (period_front x.now)) }
+    ensures { OnOk result (out.new.items ≡ out.old.items ++ lines 5 (front_content x.now)) }
 {
     let fields = PERIOD + 1;
     day(out, fields, "unadjustedStartDate", x.start)?;

@@ -1,7 +1,7 @@
 //! Elements as XML, appended to bytes. A tag round elements is a line of its own, and so is an element
 //! with a text. A level is the number of elements round a line.
 ghost use Rattle.std.specs.Prelude.{◌≡◌, ◌++◌, OnOk};
-ghost use Rattle.irs_emit_xml.specs.Trees.{close_text, declared_text, end_text, indent, leaf_text, open_text};
+ghost use Rattle.irs_emit_xml.specs.Trees.{close_text, declared_text, end_tag_text, indent, leaf_text, open_text};
 ghost use Rattle.irs_emit_xml.specs.Trees.{root_open_text};
 
 use irs_base::Memory;
@@ -18,7 +18,7 @@ fn indent(out: &mut Vec<u8>, level: u8) -> Result<(), Memory>
 
 // An end tag and the end of its line.
 fn end_tag(out: &mut Vec<u8>, name: &str) -> Result<(), Memory>
-    ensures { OnOk result (out.new.items ≡ out.old.items ++ end_text name.now) }
+    ensures { OnOk result (out.new.items ≡ out.old.items ++ end_tag_text name.now) }
 {
     out.extend_from_slice(b"</")?;
     out.extend_from_slice(name.as_bytes())?;

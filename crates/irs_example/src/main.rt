@@ -3,7 +3,7 @@
 //! page docs/LIBRARY.md goes through it step by step.
 #![tactic(auto)]
 
-ghost use Rattle.irs_schedule.specs.RowTexts.{HasPlaces};
+ghost use Rattle.irs_schedule.specs.RowTexts.{RowHasPlaces};
 
 use anyhow::{Context, Result, bail};
 use irs_audit::{Verdict, audit, read_flows};
@@ -35,7 +35,7 @@ fn schedule_of(alloc: Global, document: &[u8]) -> Result<Schedule> {
 
 // A row of the schedule, as its text has it; the line is used again for each row.
 fn print_row(rt: &HostRuntime, row: &Row, line: &mut Line) -> Result<()>
-    requires { HasPlaces row.now }
+    requires { RowHasPlaces row.now }
 {
     row_text(row, line);
     print!(rt; "{}", str::from_utf8(line.bytes())?)?;

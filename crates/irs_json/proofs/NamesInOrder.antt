@@ -14,13 +14,13 @@ use Rattle.serde_json.specs.Find.{get_member}
 use Rattle.serde_json.specs.View.{view, members_view}
 use Rattle.serde_json.proofs.Views.{Entry, member_here, member_later}
 use Rattle.irs_json.specs.Carrier.{present}
-use Rattle.irs_json.specs.Names.{names_in}
+use Rattle.irs_json.specs.Names.{member_names}
 
 -- a first member counts as absent and has no name there, or it is present and has the first name
 abbrev Stands : List ℕ → Data → Members → Type 0
 Stands k d ms =
-    ((present d ≡ None) × (names_in (member k d ms) ≡ names_in ms))
-    ⊎ (IsSome (present d) × (names_in (member k d ms) ≡ k ∷ names_in ms))
+    ((present d ≡ None) × (member_names (member k d ms) ≡ member_names ms))
+    ⊎ (IsSome (present d) × (member_names (member k d ms) ≡ k ∷ member_names ms))
 
 stands : (k : List ℕ) (d : Data) (ms : Members) → Stands k d ms
 stands k null ms = inl (refl, refl)
@@ -37,20 +37,20 @@ stands k (object ns) ms = inr (search rules, refl)
 abbrev Above : List ℕ → List (List ℕ) → Type 0
 Above k names = AllByRecursion (λ n. slice_cmp nat_cmp k n ≡ Less) names
 
-above_one : (k l : List ℕ) (d : Data) (ms : Members) → slice_cmp nat_cmp k l ≡ Less → Above k (names_in ms)
-    → Above k (names_in (member l d ms))
+above_one : (k l : List ℕ) (d : Data) (ms : Members) → slice_cmp nat_cmp k l ≡ Less → Above k (member_names ms)
+    → Above k (member_names (member l d ms))
 above_one k l d ms less above =
     elim (stands l d ms) [ inl w ↦ subst (Above k) (sym w.1) above | inr w ↦ subst (Above k) (sym w.1) (less, above) ]
 
 above_all : (first : Entry) (es : List Entry) → AllByRecursion (λ y. string_cmp first.0 y ≡ Less) (keys_of es)
-    → Above (string_bytes first.0) (names_in (members_view es))
+    → Above (string_bytes first.0) (member_names (members_view es))
 above_all first [] h = tt
 above_all first (e ∷ es) h =
     above_one (string_bytes first.0) (string_bytes e.0) (view e.1) (members_view es) h.0 (above_all first es h.1)
 
-sorted_one : (k : List ℕ) (d : Data) (ms : Members) → Above k (names_in ms)
-    → IsStrictlySortedBy (slice_cmp nat_cmp) (names_in ms)
-    → IsStrictlySortedBy (slice_cmp nat_cmp) (names_in (member k d ms))
+sorted_one : (k : List ℕ) (d : Data) (ms : Members) → Above k (member_names ms)
+    → IsStrictlySortedBy (slice_cmp nat_cmp) (member_names ms)
+    → IsStrictlySortedBy (slice_cmp nat_cmp) (member_names (member k d ms))
 unfolding IsStrictlySortedBy
 sorted_one k d ms above rising =
     elim (stands k d ms) [
@@ -61,7 +61,7 @@ sorted_one k d ms above rising =
 
 -- the names of an object's members rise where its keys do
 pub names_rise : (es : List Entry) → IsStrictlySortedBy string_cmp (keys_of es)
-    → IsStrictlySortedBy (slice_cmp nat_cmp) (names_in (members_view es))
+    → IsStrictlySortedBy (slice_cmp nat_cmp) (member_names (members_view es))
 unfolding IsStrictlySortedBy
 names_rise [] h = tt
 names_rise (e ∷ es) h =
@@ -97,7 +97,7 @@ not_above k (n ∷ ns) above (suc i) lt e = not_above k ns above.1 i (omega arit
 
 -- the names of the members that count as present
 abbrev Names : List Entry → List (List ℕ)
-Names es = names_in (members_view es)
+Names es = member_names (members_view es)
 
 apart : (e : Entry) (es : List Entry) (name : List ℕ) → Above (string_bytes e.0) (Names es) → Contains (Names es) name
     → name ≡ string_bytes e.0 → ⊥
@@ -179,5 +179,5 @@ found_is_named (e ∷ es) name found =
 
 -- a name is among the names of the members exactly where the object has a value of that name that counts as present
 pub names_are_found : (es : List Entry) → IsStrictlySortedBy string_cmp (keys_of es) → (name : List ℕ)
-    → Contains (names_in (members_view es)) name ↔ IsSome (option_and_then present (get_member name (members_view es)))
+    → Contains (member_names (members_view es)) name ↔ IsSome (option_and_then present (get_member name (members_view es)))
 names_are_found es h name = (named_is_found es h name, found_is_named es name)

@@ -4,21 +4,21 @@ use Rattle.serde_json.specs.Data.{no_members, member}
 use Rattle.std.specs.Prelude.{ℕ, List, [], ◌∷◌, Option, Some, None}
 
 -- the names of the members that don't count as absent, in their order in the object
-abbrev pub names_in : Members → List (List ℕ)
-names_in no_members = []
-names_in (member k null ms) = names_in ms
-names_in (member k (array no_items) ms) = names_in ms
-names_in (member k (array (item d ds)) ms) = k ∷ names_in ms
-names_in (member k (boolean b) ms) = k ∷ names_in ms
-names_in (member k (number n) ms) = k ∷ names_in ms
-names_in (member k (string s) ms) = k ∷ names_in ms
-names_in (member k (object ds) ms) = k ∷ names_in ms
+abbrev pub member_names : Members → List (List ℕ)
+member_names no_members = []
+member_names (member k null ms) = member_names ms
+member_names (member k (array no_items) ms) = member_names ms
+member_names (member k (array (item d ds)) ms) = k ∷ member_names ms
+member_names (member k (boolean b) ms) = k ∷ member_names ms
+member_names (member k (number n) ms) = k ∷ member_names ms
+member_names (member k (string s) ms) = k ∷ member_names ms
+member_names (member k (object ds) ms) = k ∷ member_names ms
 
 -- the names of an object's elements; no other value has elements
-abbrev pub names_of : Data → Option (List (List ℕ))
-names_of null = None
-names_of (boolean b) = None
-names_of (number n) = None
-names_of (string s) = None
-names_of (array ds) = None
-names_of (object ms) = Some (names_in ms)
+abbrev pub element_names : Data → Option (List (List ℕ))
+element_names null = None
+element_names (boolean b) = None
+element_names (number n) = None
+element_names (string s) = None
+element_names (array ds) = None
+element_names (object ms) = Some (member_names ms)

@@ -1,6 +1,6 @@
 //! The names of the elements that an object holds.
 ghost use Rattle.irs_json.specs.Carrier.{child_of};
-ghost use Rattle.irs_json.specs.Names.{names_in, names_of};
+ghost use Rattle.irs_json.specs.Names.{member_names, element_names};
 ghost use Rattle.serde_json.specs.View.{members_view, view};
 ghost use Rattle.std.specs.Cmp.Lexicographic.{slice_cmp};
 ghost use Rattle.std.specs.Iterator.{YieldsFirstRef, item_count};
@@ -23,7 +23,7 @@ pub struct MemberIter<'a> {
 impl<'a> Model for MemberIter<'a> {
     ghost Value = { List (List ℕ) };
 
-    ghost view = { λ s. names_in (members_view s.left) };
+    ghost view = { λ s. member_names (members_view s.left) };
 }
 
 impl<'a> Iterator for MemberIter<'a> {
@@ -46,7 +46,7 @@ impl<'a> Iterator for MemberIter<'a> {
 /// The names that `child` finds in `v`, each once, in the order of their bytes. `None` exactly
 /// where `v` is no object.
 pub fn members<'a>(v: &'a Value) -> Option<MemberIter<'a>>
-    ensures names { result ≡ names_of (view v.now) }
+    ensures names { result ≡ element_names (view v.now) }
     ensures rising { IfSome result (λ names. IsStrictlySortedBy (slice_cmp nat_cmp) names) }
     ensures found { IfSome result (λ names. (name : List ℕ)
         → (Contains names name ↔ IsSome (child_of name (view v.now)))) }

@@ -1,13 +1,13 @@
 //! Text without the white space at its ends: space, tab, LF and CR, and no other byte.
 ghost use Rattle.std.specs.Prelude.{◌≡◌, ◌++◌, ◌∷◌, [], ℕ, true, MatchOption, option_map};
-ghost use Rattle.irs_json.specs.Trim.{is_space};
+ghost use Rattle.irs_json.specs.Trim.{is_white_space};
 ghost use Rattle.irs_json.specs.Private.Trim.{NoSpaceFirst, NoSpaceLast, is_past_space as is_past_space_of};
 ghost use Rattle.irs_json.specs.Trim.{trim_front, trim_back, trim as trim_of};
 
 // The text after a first byte of white space.
 fn after_space(text: &str) -> Option<&str>
     ensures { MatchOption result (NoSpaceFirst text.now) (λ rest. (x : ℕ)
-        × ((text.now ≡ x ∷ rest.now) × (is_space x ≡ true))) }
+        × ((text.now ≡ x ∷ rest.now) × (is_white_space x ≡ true))) }
 {
     if let Some(rest) = text.strip_prefix(' ') {
         return Some(rest);
@@ -27,7 +27,7 @@ fn after_space(text: &str) -> Option<&str>
 // The text before a last byte of white space.
 fn before_space(text: &str) -> Option<&str>
     ensures { MatchOption result (NoSpaceLast text.now) (λ rest. (x : ℕ)
-        × ((text.now ≡ rest.now ++ x ∷ []) × (is_space x ≡ true))) }
+        × ((text.now ≡ rest.now ++ x ∷ []) × (is_white_space x ≡ true))) }
 {
     if let Some(rest) = text.strip_suffix(' ') {
         return Some(rest);

@@ -6,7 +6,7 @@ use Rattle.std.proofs.lemmas.Bool.Decides.{nat_tests}
 use Rattle.std.proofs.lemmas.Option.{same_Some}
 use Rattle.irs_base.proofs.Orders.{both_true}
 use Rattle.irs_base.specs.Elements.{swap}
-use Rattle.irs_base.specs.PathList.{paths, printed}
+use Rattle.irs_base.specs.PathList.{paths, printed_paths}
 use Rattle.irs_elements.specs.Elements.{is_element}
 use Rattle.irs_elements.specs.declared.table.Row.{Row}
 use Rattle.irs_locate.specs.Members.{IsRowOf, Known, is_row_of, table_of}
@@ -19,11 +19,11 @@ rises p (row ∷ rows) = if is_element row.kind then nat_lt p row.place && rises
 
 -- they do in both tables
 streams_rise : rises 0 stream_rows ≡ true
-unfolding stream_rows stream_table printed paths
+unfolding stream_rows stream_table printed_paths paths
 streams_rise = refl
 
 swaps_rise : rises 0 swap_rows ≡ true
-unfolding swap_rows swap_table printed paths
+unfolding swap_rows swap_table printed_paths paths
 swaps_rise = refl
 
 -- the place of the first row, if it is that of an element

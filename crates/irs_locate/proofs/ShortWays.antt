@@ -9,12 +9,12 @@ use Rattle.std.proofs.lemmas.List.{length-append, length-map}
 use Rattle.std.proofs.lemmas.Option.{same_Some}
 use Rattle.std.proofs.lemmas.Str.{IsUtf8-from_ascii}
 use Rattle.irs_base.proofs.Orders.{both_true}
-use Rattle.irs_base.specs.Elements.{document, name_in, swap, swap_stream}
-use Rattle.irs_base.specs.PathList.{paths, printed}
+use Rattle.irs_base.specs.Elements.{document, name_or_empty, swap, swap_stream}
+use Rattle.irs_base.specs.PathList.{paths, printed_paths}
 use Rattle.irs_base.specs.Paths.{path_of}
 use Rattle.irs_base.specs.declared.places.Place.{Place}
 use Rattle.irs_locate.specs.Members.{root_in}
-use Rattle.irs_locate.specs.Ways.{Step, below_swap, names_in, once, step_below, stream_step, to_swap, way}
+use Rattle.irs_locate.specs.Ways.{WayStep, below_swap, names_on_way, once, step_below, stream_step, to_swap, way}
 use Rattle.irs_read.specs.Documents.{has}
 use Rattle.serde_json.specs.Data.{Data}
 
@@ -26,50 +26,50 @@ is_plain name = list_all (λ c. nat_lt c 128) name
 
 -- whether a path has few names, and plain ones
 abbrev is_lawful : List ℕ → Bool
-is_lawful p = nat_le (length (names_in p)) 11 && list_all is_plain (names_in p)
+is_lawful p = nat_le (length (names_on_way p)) 11 && list_all is_plain (names_on_way p)
 
 -- so has each path of the table
-all_lawful : list_all is_lawful printed ≡ true
-unfolding printed paths
+all_lawful : list_all is_lawful printed_paths ≡ true
+unfolding printed_paths paths
 all_lawful = refl
 
 -- and what is found in it
 lawful_in : (ps : List (List ℕ)) (i : ℕ) (o : Option (List ℕ)) → list_all is_lawful ps ≡ true → slice_get ps i ≡ o
-    → is_lawful (name_in o) ≡ true
-lawful_in [] i o h e = subst (λ (z : Option (List ℕ)). is_lawful (name_in z) ≡ true) e refl
+    → is_lawful (name_or_empty o) ≡ true
+lawful_in [] i o h e = subst (λ (z : Option (List ℕ)). is_lawful (name_or_empty z) ≡ true) e refl
 lawful_in (q ∷ qs) zero o h e =
-    subst (λ (z : Option (List ℕ)). is_lawful (name_in z) ≡ true) e
+    subst (λ (z : Option (List ℕ)). is_lawful (name_or_empty z) ≡ true) e
     (both_true (is_lawful q) (list_all is_lawful qs) h).0
 lawful_in (q ∷ qs) (suc i) o h e = lawful_in qs i o (both_true (is_lawful q) (list_all is_lawful qs) h).1 e
 
 -- the path of an element has few names, and plain ones
 lawful : (elem : ℕ) → is_lawful (path_of elem) ≡ true
 unfolding path_of
-lawful elem = lawful_in printed elem (slice_get printed elem) all_lawful refl
+lawful elem = lawful_in printed_paths elem (slice_get printed_paths elem) all_lawful refl
 
 -- the path of an element has few names
-few_names : (elem : ℕ) → length (names_in (path_of elem)) ≤ 11
+few_names : (elem : ℕ) → length (names_on_way (path_of elem)) ≤ 11
 few_names elem =
-    let few = (both_true (nat_le (length (names_in (path_of elem))) 11)
-    (list_all is_plain (names_in (path_of elem))) (lawful elem)).0 in
+    let few = (both_true (nat_le (length (names_on_way (path_of elem))) 11)
+    (list_all is_plain (names_on_way (path_of elem))) (lawful elem)).0 in
     grind (arith, nat_tests, few)
 
 -- and plain ones
-plain_names : (elem : ℕ) → list_all is_plain (names_in (path_of elem)) ≡ true
+plain_names : (elem : ℕ) → list_all is_plain (names_on_way (path_of elem)) ≡ true
 plain_names elem =
-    (both_true (nat_le (length (names_in (path_of elem))) 11)
-    (list_all is_plain (names_in (path_of elem))) (lawful elem)).1
+    (both_true (nat_le (length (names_on_way (path_of elem))) 11)
+    (list_all is_plain (names_on_way (path_of elem))) (lawful elem)).1
 
 -- ---- few steps
 
 few_below : (place : Place) (is_swap is_stream : Bool)
     → length (if is_swap then [] else (if is_stream then stream_step place.stream ∷ [] else stream_step place.stream
-    ∷ map (step_below place.index) (names_in (path_of place.elem)))) ≤ 12
+    ∷ map (step_below place.index) (names_on_way (path_of place.elem)))) ≤ 12
 few_below place true is_stream = omega arith
 few_below place false true = omega arith
 few_below place false false =
     let few = few_names place.elem in
-    let same = length-map (names_in (path_of place.elem)) (step_below place.index) in
+    let same = length-map (names_on_way (path_of place.elem)) (step_below place.index) in
     omega (arith, few, same)
 
 -- the way from the swap down
@@ -106,14 +106,14 @@ few_steps root place = few_by root place (place.elem == document)
 -- ---- the names of steps
 
 -- whether the name of a step is plain
-abbrev is_plain_step : Step → Bool
+abbrev is_plain_step : WayStep → Bool
 is_plain_step s = is_plain s.name
 
 and_true : (a b : Bool) → a ≡ true → b ≡ true → (a && b) ≡ true
 and_true true b h k = k
 and_true false b h k = absurd cc
 
-plain_both : (xs ys : List Step) → list_all is_plain_step xs ≡ true → list_all is_plain_step ys ≡ true
+plain_both : (xs ys : List WayStep) → list_all is_plain_step xs ≡ true → list_all is_plain_step ys ≡ true
     → list_all is_plain_step (xs ++ ys) ≡ true
 plain_both [] ys h k = k
 plain_both (x ∷ xs) ys h k =
@@ -129,10 +129,10 @@ plain_steps index (n ∷ ns) h =
 
 plain_below : (place : Place) (is_swap is_stream : Bool)
     → list_all is_plain_step (if is_swap then [] else (if is_stream then stream_step place.stream ∷ [] else
-    stream_step place.stream ∷ map (step_below place.index) (names_in (path_of place.elem)))) ≡ true
+    stream_step place.stream ∷ map (step_below place.index) (names_on_way (path_of place.elem)))) ≡ true
 plain_below place true is_stream = refl
 plain_below place false true = refl
-plain_below place false false = plain_steps place.index (names_in (path_of place.elem)) (plain_names place.elem)
+plain_below place false false = plain_steps place.index (names_on_way (path_of place.elem)) (plain_names place.elem)
 
 plain_from_swap : (place : Place) → list_all is_plain_step (below_swap place) ≡ true
 unfolding below_swap
@@ -159,11 +159,11 @@ plain_way : (root : List ℕ) (place : Place) → is_plain root ≡ true → lis
 unfolding way
 plain_way root place h = plain_by root place (place.elem == document) h
 
-plain_at : (xs : List Step) (k : ℕ) (s : Step) → list_all is_plain_step xs ≡ true → slice_get xs k ≡ Some s
+plain_at : (xs : List WayStep) (k : ℕ) (s : WayStep) → list_all is_plain_step xs ≡ true → slice_get xs k ≡ Some s
     → is_plain s.name ≡ true
 plain_at [] k s h e = absurd cc
 plain_at (x ∷ xs) zero s h e =
-    subst (λ (z : Step). is_plain z.name ≡ true) (same_Some x s e)
+    subst (λ (z : WayStep). is_plain z.name ≡ true) (same_Some x s e)
     (both_true (is_plain_step x) (list_all is_plain_step xs) h).0
 plain_at (x ∷ xs) (suc k) s h e =
     plain_at xs k s (both_true (is_plain_step x) (list_all is_plain_step xs) h).1 e
@@ -176,7 +176,7 @@ ascii (c ∷ cs) h zero =
 ascii (c ∷ cs) h (suc i) = ascii cs (both_true (nat_lt c 128) (is_plain cs) h).1 i
 
 -- the name of each step is a text, if the root's is plain
-text_at : (root : List ℕ) (place : Place) (k : ℕ) (s : Step) → is_plain root ≡ true
+text_at : (root : List ℕ) (place : Place) (k : ℕ) (s : WayStep) → is_plain root ≡ true
     → slice_get (way root place) k ≡ Some s → IsUtf8 s.name
 text_at root place k s h e =
     IsUtf8-from_ascii s.name (ascii s.name (plain_at (way root place) k s (plain_way root place h) e))
@@ -189,6 +189,6 @@ plain_root false true = refl
 plain_root false false = refl
 
 -- the same for the root of a document
-pub text_in : (d : Data) (place : Place) (k : ℕ) (s : Step) → slice_get (way (root_in d) place) k ≡ Some s
+pub text_in : (d : Data) (place : Place) (k : ℕ) (s : WayStep) → slice_get (way (root_in d) place) k ≡ Some s
     → IsUtf8 s.name
 text_in d place k s e = text_at (root_in d) place k s (plain_root (has (codes "swap") d) (has (codes "trade") d)) e

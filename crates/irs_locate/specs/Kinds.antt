@@ -20,7 +20,7 @@ leaf_in Passed = None
 leaf_in Refused = None
 
 -- the element has a row in its table, and that is of a leaf of this kind
-pub record IsKindOf (elem : ℕ) (kind : LeafKind) : Type 0 where
+pub record IsLeafKindOf (elem : ℕ) (kind : LeafKind) : Type 0 where
   pub number : ℕ
   pub row : Row
   pub at : slice_get (table_of elem).rows number ≡ Some row

@@ -1,7 +1,7 @@
 -- The line of an element in a text in XML, from 1.
 use Rattle.irs_base.specs.declared.places.Place.{Place}
 use Rattle.irs_locate.specs.Markup.{Mark, Piece, plain, passed, opening, empty, closing, piece_of}
-use Rattle.irs_locate.specs.Ways.{Step, way}
+use Rattle.irs_locate.specs.Ways.{WayStep, way}
 use Rattle.std.specs.Prelude.{◌≡◌, ℕ, ◌+◌, ◌-◌, ◌^◌, ◌<◌, ◌==◌, min, Bool, true, false, List, [], ◌∷◌, ◌++◌}
 use Rattle.std.specs.Prelude.{take, drop}
 use Rattle.std.specs.Prelude.{Option, Some, None, slice_get, if◌then◌else◌}
@@ -38,35 +38,35 @@ around [] = []
 around (names ∷ rest) = rest
 
 -- what is open after a piece
-abbrev pub after : Mark → Open → Open
-after plain lists = lists
-after passed lists = lists
-after (opening name) lists = [] ∷ with_child name lists
-after (empty name) lists = with_child name lists
-after closing lists = around lists
+abbrev pub open_after : Mark → Open → Open
+open_after plain lists = lists
+open_after passed lists = lists
+open_after (opening name) lists = [] ∷ with_child name lists
+open_after (empty name) lists = with_child name lists
+open_after closing lists = around lists
 
 -- after the first n bytes of the text, which are whole pieces, these elements are open
-pub data Within (text : List ℕ) : ℕ → Open → Type 0 where
+pub data IsOpenAfter (text : List ℕ) : ℕ → Open → Type 0 where
   -- at the front
-  front : Within text 0 ([] ∷ [])
+  front : IsOpenAfter text 0 ([] ∷ [])
   -- one piece further
-  further : (n : ℕ) (lists : Open) (p : Piece) → Within text n lists → piece_of (drop n text) ≡ Some p
-      → Within text (n + p.size) (after p.mark lists)
+  further : (n : ℕ) (lists : Open) (p : Piece) → IsOpenAfter text n lists → piece_of (drop n text) ≡ Some p
+      → IsOpenAfter text (n + p.size) (open_after p.mark lists)
 
 -- ---- the way to an element
 
 -- how many of the names are this one
-abbrev pub count_of : List ℕ → List (List ℕ) → ℕ
-count_of name [] = 0
-count_of name (n ∷ ns) = if bytes_eq n name then count_of name ns + 1 else count_of name ns
+abbrev pub times_in : List ℕ → List (List ℕ) → ℕ
+times_in name [] = 0
+times_in name (n ∷ ns) = if bytes_eq n name then times_in name ns + 1 else times_in name ns
 
 -- the last element of these names, with its number
-abbrev pub last_step : List (List ℕ) → List Step
+abbrev pub last_step : List (List ℕ) → List WayStep
 last_step [] = []
-last_step (name ∷ names) = record { name = name; number = count_of name names + 1 } ∷ []
+last_step (name ∷ names) = record { name = name; number = times_in name names + 1 } ∷ []
 
 -- the way from the root to the last element of the first list, which lies in the elements of the other lists
-abbrev pub way_to : Open → List Step
+abbrev pub way_to : Open → List WayStep
 way_to [] = []
 way_to (names ∷ around) = way_to around ++ last_step names
 
@@ -92,12 +92,12 @@ is_end (Some p) = is_closing p.mark
 
 -- an element with this tag has no element for the next step of the way in it. It ends at once. Or it ends where it
 -- holds elements of these names, and fewer than the step's number have its name. Or the text can't be read to its end
-pub data Lacks (text : List ℕ) (lists : Open) (next : Step) : Option Piece → Type 0 where
-  ended_at_once : (name : List ℕ) (size : ℕ) → Lacks text lists next (Some (record { mark = empty name; size = size }))
-  too_few : (tag : Option Piece) (n : ℕ) (names : List (List ℕ)) → Within text n (names ∷ lists)
-      → is_end (piece_of (drop n text)) ≡ true → count_of next.name names < next.number → Lacks text lists next tag
-  cut_off : (tag : Option Piece) (n : ℕ) (inner : Open) (names : List (List ℕ)) → Within text n (inner ++ names ∷ lists)
-      → piece_of (drop n text) ≡ None → Lacks text lists next tag
+pub data LacksElement (text : List ℕ) (lists : Open) (next : WayStep) : Option Piece → Type 0 where
+  ended_at_once : (name : List ℕ) (size : ℕ) → LacksElement text lists next (Some (record { mark = empty name; size = size }))
+  too_few : (tag : Option Piece) (n : ℕ) (names : List (List ℕ)) → IsOpenAfter text n (names ∷ lists)
+      → is_end (piece_of (drop n text)) ≡ true → times_in next.name names < next.number → LacksElement text lists next tag
+  cut_off : (tag : Option Piece) (n : ℕ) (inner : Open) (names : List (List ℕ)) → IsOpenAfter text n (inner ++ names ∷ lists)
+      → piece_of (drop n text) ≡ None → LacksElement text lists next tag
 
 -- an element of the text on the way to the place, the last one there is
 pub record IsLast (text : List ℕ) (place : Place) (at : ℕ) : Type 0 where
@@ -106,18 +106,18 @@ pub record IsLast (text : List ℕ) (place : Place) (at : ℕ) : Type 0 where
   pub name : List ℕ
   pub lists : Open
   -- its tag is there
-  pub within : Within text at lists
+  pub within : IsOpenAfter text at lists
   pub tag : IsTagOf name (piece_of (drop at text))
   -- the way to it is the first part of the way to the place
   pub count : ℕ
   pub leads : way_to (with_child name lists) ≡ take count (way root place)
   -- and the way ends there, or its next element isn't there
-  pub last : (next : Step) → slice_get (way root place) count ≡ Some next
-      → Lacks text (with_child name lists) next (piece_of (drop at text))
+  pub last : (next : WayStep) → slice_get (way root place) count ≡ Some next
+      → LacksElement text (with_child name lists) next (piece_of (drop at text))
 
 -- up to here the text has no element, and nothing more can be read
 abbrev pub HasNone : List ℕ → Type 0
-HasNone text = (n : ℕ) × (Within text n ([] ∷ []) × (is_end (piece_of (drop n text)) ≡ true))
+HasNone text = (n : ℕ) × (IsOpenAfter text n ([] ∷ []) × (is_end (piece_of (drop n text)) ≡ true))
 
 -- the line is that of the element at the place, or of the last one on the way that is there, and 1 without any
 pub data IsLineOf (text : List ℕ) (place : Place) : ℕ → Type 0 where

@@ -79,8 +79,8 @@ mark_of text n =
     (local_name (first_name (drop 1 text)))
 
 -- the tag of an element that a text begins with
-abbrev pub tag_of : List ℕ → Option Piece
-tag_of text = option_map (λ n. record { mark = mark_of text n; size = n + 1 }) (tag_end 0 (drop 1 text))
+abbrev pub tag_piece : List ℕ → Option Piece
+tag_piece text = option_map (λ n. record { mark = mark_of text n; size = n + 1 }) (tag_end 0 (drop 1 text))
 
 -- how many bytes a text has up to the end of the first `word` after its first k bytes
 abbrev pub past_all : ℕ → List ℕ → List ℕ → Option ℕ
@@ -93,7 +93,7 @@ markup_of text =
     (if starts_with nat_eq text (codes "<![CDATA[") then piece_by passed (past_all 9 (codes "]]>") text) else
     (if starts_with nat_eq text (codes "<?") then piece_by passed (past_all 2 (codes "?>") text) else
     (if starts_with nat_eq text (codes "<!") then piece_by passed (past_all 2 (codes ">") text) else
-    (if starts_with nat_eq text (codes "</") then piece_by closing (past_all 2 (codes ">") text) else tag_of text))))
+    (if starts_with nat_eq text (codes "</") then piece_by closing (past_all 2 (codes ">") text) else tag_piece text))))
 
 -- the piece that a text begins with; None where there is no text, or markup doesn't end
 unfoldable pub piece_of : List ℕ → Option Piece

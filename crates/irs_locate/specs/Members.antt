@@ -6,8 +6,8 @@ use Rattle.irs_base.specs.declared.places.Place.{Place}
 use Rattle.irs_elements.specs.Elements.{is_element, is_refused, is_unknown, name_at}
 use Rattle.irs_elements.specs.Find.{values_in}
 use Rattle.irs_elements.specs.declared.table.Row.{Row}
-use Rattle.irs_json.specs.Names.{names_of}
-use Rattle.irs_locate.specs.Ways.{Step, way}
+use Rattle.irs_json.specs.Names.{element_names}
+use Rattle.irs_locate.specs.Ways.{WayStep, way}
 use Rattle.irs_read.specs.Documents.{has}
 use Rattle.irs_read.specs.StreamLines.{stream_names, stream_rows, swap_names, swap_rows}
 use Rattle.serde_json.specs.Data.{Data}
@@ -26,9 +26,9 @@ root_in d =
 
 -- the value e lies in d at the end of these steps. Each leads to the value with its number among those of its name.
 -- These are the items of an array, or a single value
-pub data LiesAt : List Step → Data → Data → Type 0 where
+pub data LiesAt : List WayStep → Data → Data → Type 0 where
   here : (d : Data) → LiesAt [] d d
-  below : (step : Step) (steps : List Step) (d x e : Data)
+  below : (step : WayStep) (steps : List WayStep) (d x e : Data)
       → slice_get (values_in step.name (Some d)) (step.number - 1) ≡ Some x → LiesAt steps x e
       → LiesAt (step ∷ steps) d e
 
@@ -72,12 +72,12 @@ first_odd k t r names =
 -- ---- the member
 
 -- the member of that name breaks the rule in the object at the place
-pub record IsMember (d : Data) (broken : Broken) (name : List ℕ) : Type 0 where
+pub record IsBrokenMember (d : Data) (broken : Broken) (name : List ℕ) : Type 0 where
   -- the object at the place, and the names of its members
   pub object : Data
   pub names : List (List ℕ)
   pub lies : IsValueAt d broken.place object
-  pub members : names_of object ≡ Some names
+  pub members : element_names object ≡ Some names
   -- its row in the table, and the first name that breaks the rule
   pub row : ℕ
   pub is_row : IsRowOf (table_of broken.place.elem).rows broken.place.elem row
@@ -85,7 +85,7 @@ pub record IsMember (d : Data) (broken : Broken) (name : List ℕ) : Type 0 wher
 
 -- the name is that of the first member by which the document breaks K4 or K5 at the place
 abbrev pub IsMemberOf : Data → Broken → List ℕ → Type 0
-IsMemberOf d broken name = IsMember d broken name
+IsMemberOf d broken name = IsBrokenMember d broken name
 
 -- at most one name is that of the member
 abbrev pub HasOneMember : Data → Broken → Type 0

@@ -1,6 +1,6 @@
 -- The text of the leaf at a place.
 use Rattle.irs_base.specs.declared.places.Place.{Place}
-use Rattle.irs_elements.specs.Find.{text_in}
+use Rattle.irs_elements.specs.Find.{leaf_text_in}
 use Rattle.irs_locate.specs.Members.{IsValueAt}
 use Rattle.serde_json.specs.Data.{Data}
 use Rattle.std.specs.Prelude.{◌≡◌, ℕ, List, Some}
@@ -9,4 +9,4 @@ use Rattle.std.specs.Prelude.{◌≡◌, ℕ, List, Some}
 pub record IsTextOf (d : Data) (place : Place) (text : List ℕ) : Type 0 where
   pub leaf : Data
   pub lies : IsValueAt d place leaf
-  pub reads : text_in (Some leaf) ≡ Some text
+  pub reads : leaf_text_in (Some leaf) ≡ Some text

@@ -4,7 +4,7 @@ ghost use Rattle.irs_locate.specs.Markup.{is_quote as is_quote_of};
 ghost use Rattle.irs_locate.specs.Markup.{local_name as local_name_of, mark_of, markup_of, past as past_of};
 ghost use Rattle.irs_locate.specs.Markup.{past_all as past_all_of};
 ghost use Rattle.irs_locate.specs.Markup.{piece_by as piece_by_of, piece_of, quote_after as quote_after_of};
-ghost use Rattle.irs_locate.specs.Markup.{tag_end as tag_end_of, tag_of};
+ghost use Rattle.irs_locate.specs.Markup.{tag_end as tag_end_of, tag_piece};
 ghost use Rattle.irs_locate.specs.Private.Seen.{mark_seen, piece_seen};
 ghost use Rattle.std.specs.Prelude.{◌≡◌, ◌+◌, ◌<◌, ◌≤◌, IfSome, drop, length, option_map};
 ghost use Rattle.std.specs.Str.{bytes_eq};
@@ -155,7 +155,7 @@ fn tag_mark(text: &[u8], n: usize) -> Mark<'_>
 // The tag of an element that a text begins with, from its `<` on.
 fn tag(text: &[u8]) -> Option<Piece<'_>>
     requires { 0 < length text.now }
-    ensures is { option_map piece_seen result ≡ tag_of text.now }
+    ensures is { option_map piece_seen result ≡ tag_piece text.now }
     ensures some { IfSome result (λ p. 0 < p.size) }
     ensures within { IfSome result (λ p. p.size ≤ length text.now) }
 {

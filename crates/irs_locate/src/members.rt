@@ -3,7 +3,7 @@ ghost use Rattle.irs_base.specs.Rules.{rule_number};
 ghost use Rattle.irs_base.specs.declared.places.Broken.{Broken as BrokenRule};
 ghost use Rattle.irs_elements.specs.Elements.{is_element as is_element_of, is_known as is_known_in};
 ghost use Rattle.irs_elements.specs.Elements.{is_refused as is_refused_of};
-ghost use Rattle.irs_elements.specs.Elements.{is_unknown, name_at, texts};
+ghost use Rattle.irs_elements.specs.Elements.{is_unknown, name_at, referenced_texts};
 ghost use Rattle.irs_elements.specs.Find.{seen, values_in};
 ghost use Rattle.irs_locate.specs.Members.{HasOneMember, IsMemberOf, IsRowOf, IsValueAt, first_odd as first_odd_of};
 ghost use Rattle.irs_locate.specs.Members.{is_out as is_out_of, is_row_of as is_row_of_elem, root_in};
@@ -101,7 +101,7 @@ pub(crate) fn row_of(rows: &[Row], elem: Elem) -> Option<usize>
 
 // The name at row c, and the empty name past the table.
 fn name_of(names: &[&'static str], c: usize) -> &'static str
-    ensures { result.now ≡ name_at (texts names.now) c }
+    ensures { result.now ≡ name_at (referenced_texts names.now) c }
 {
     match names.get(c) {
         None => "",
@@ -111,14 +111,14 @@ fn name_of(names: &[&'static str], c: usize) -> &'static str
 
 // Whether the row at c is below the object at row r and has the name.
 fn is_named(table: Known, r: usize, c: usize, row: &Row, name: &str) -> bool
-    ensures { result ≡ (nat_lt r c && row.now.parent == r && bytes_eq (name_at (texts table.names.now) c) name.now) }
+    ensures { result ≡ (nat_lt r c && row.now.parent == r && bytes_eq (name_at (referenced_texts table.names.now) c) name.now) }
 {
     r < c && row.parent == r && name_of(table.names, c) == name
 }
 
 // Whether a row below the object at row r has the name.
 fn is_known(table: Known, r: usize, name: &str) -> bool
-    ensures { result ≡ is_known_in table.rows.now (texts table.names.now) r name.now }
+    ensures { result ≡ is_known_in table.rows.now (referenced_texts table.names.now) r name.now }
 {
     for c in 0..table.rows.len() {
         if is_named(table, r, c, &table.rows[c], name) {
@@ -132,7 +132,7 @@ fn is_known(table: Known, r: usize, name: &str) -> bool
 fn is_out_at(table: Known, r: usize, c: usize, row: &Row, name: &str) -> bool
     ensures { result
         ≡ (is_refused_of row.now.kind
-        && (row.now.parent == r && bytes_eq (name_at (texts table.names.now) c) name.now)) }
+        && (row.now.parent == r && bytes_eq (name_at (referenced_texts table.names.now) c) name.now)) }
 {
     is_refused(row.kind) && (row.parent == r && name_of(table.names, c) == name)
 }
@@ -153,7 +153,7 @@ fn is_out(table: Known, r: usize, name: &str) -> bool
 
 // The first name that is no attribute's and that the table doesn't know below the object at row r.
 fn first_unknown<'a>(table: Known, r: usize, mut listed: MemberIter<'a>) -> Option<&'a str>
-    ensures { option_map (λ n. n.now) result ≡ find (is_unknown table.rows.now (texts table.names.now) r) listed.entry }
+    ensures { option_map (λ n. n.now) result ≡ find (is_unknown table.rows.now (referenced_texts table.names.now) r) listed.entry }
 {
     listed.find(|name| !(is_attribute_name(name) || is_known(table, r, name)))
 }

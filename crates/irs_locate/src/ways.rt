@@ -1,6 +1,6 @@
 //! The way from the root of a document to the element at a place, a step for each element on it.
 ghost use Rattle.irs_locate.specs.Ways.{below_swap as below_swap_of, from_one as from_one_of};
-ghost use Rattle.irs_locate.specs.Ways.{is_repeated as is_repeated_of, first_in, names_in, once as once_of};
+ghost use Rattle.irs_locate.specs.Ways.{is_repeated as is_repeated_of, first_in, names_on_way, once as once_of};
 ghost use Rattle.irs_locate.specs.Ways.{step_below as step_below_of};
 ghost use Rattle.irs_locate.specs.Private.Ways.{IsRestOf};
 ghost use Rattle.irs_locate.specs.Ways.{stream_step as stream_step_of};
@@ -96,7 +96,7 @@ fn other_names(path: &[u8]) -> Option<&[u8]>
 
 // The name at position k in a path.
 fn name_at(path: &[u8], k: usize) -> Option<&[u8]>
-    ensures { option_map (λ n. n.now) result ≡ slice_get (names_in path.now) k }
+    ensures { option_map (λ n. n.now) result ≡ slice_get (names_on_way path.now) k }
 {
     let mut rest = path;
     let mut left = k;
@@ -114,7 +114,7 @@ fn name_at(path: &[u8], k: usize) -> Option<&[u8]>
 #[tactic(auto, using(crate::proofs::Searches::named))]
 fn below_stream<'a>(place: &Place, k: usize) -> Option<Step<'a>>
     ensures is { option_map step_seen result
-        ≡ slice_get (map (step_below_of place.now.index) (names_in (path_of place.now.elem))) k }
+        ≡ slice_get (map (step_below_of place.now.index) (names_on_way (path_of place.now.elem))) k }
     ensures some { IfSome result (λ s. 0 < s.number) }
 {
     match name_at(place.elem.path().as_bytes(), k) {

@@ -1,6 +1,6 @@
 -- Lines that are written one after the other.
 use Rattle.std.proofs.Common.{ℕ, List, ◌++◌, codes, map, Bor}
-use Rattle.irs_main.specs.Answering.{lines_of}
+use Rattle.irs_main.specs.Answering.{ended_lines}
 
 -- a text with its line feed
 abbrev pub line_in : Bor (List ℕ) → List ℕ
@@ -8,4 +8,4 @@ line_in p = p.now ++ codes "\n"
 
 -- texts with a line feed after each
 abbrev pub lines_in : List (Bor (List ℕ)) → List ℕ
-lines_in ps = lines_of (map (λ p. p.now) ps)
+lines_in ps = ended_lines (map (λ p. p.now) ps)

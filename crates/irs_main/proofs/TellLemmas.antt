@@ -7,8 +7,8 @@ use Rattle.irs_plain.proofs.PieceLemmas.{grew_nothing, through_all}
 use Rattle.irs_cli.proofs.PutLemmas.{Through, first_part, through_last, through_last_part, through_more, through_part}
 use Rattle.irs_cli.specs.Causes.{run_status}
 use Rattle.irs_cli.specs.declared.causes.RunCause.{RunCause}
-use Rattle.irs_main.specs.Answering.{Explained, explanation_of, lines_of, listing_of}
-use Rattle.irs_main.specs.Private.Answering.{IsPlain}
+use Rattle.irs_main.specs.Answering.{Explained, explanation_of, ended_lines, listing_of}
+use Rattle.irs_main.specs.Private.Answering.{SaysNoWord}
 
 -- where there is nothing to say, the explanation is empty
 pub unsaid : (commands words : List (List ℕ)) (c : RunCause) → is_silent c ≡ true → explanation_of commands words c ≡ []
@@ -25,7 +25,7 @@ nothing_said commands words c a faults silent =
     subst E (sym (unsaid commands words c silent)) (inl (grew_nothing a, refl))
 
 -- what is said of a failed write and of memory doesn't depend on the words, nor where nothing is said
-pub said_of_plain : (commands words others : List (List ℕ)) (c : RunCause) → IsPlain c
+pub said_of_plain : (commands words others : List (List ℕ)) (c : RunCause) → SaysNoWord c
     → explanation_of commands words c ≡ explanation_of commands others c
 unfolding explanation_of
 said_of_plain commands words others c (inl silent) =
@@ -46,10 +46,10 @@ pub said_of_same : (commands words others : List (List ℕ)) (c : RunCause) → 
 said_of_same commands words others c same = ap (λ (ws : List (List ℕ)). explanation_of commands ws c) same
 
 -- a list of lines for status 4 alone
-listing_at : (commands : List (List ℕ)) (n : ℕ) → n ≡ 4 → (if n == 4 then lines_of commands else []) ≡ lines_of commands
-listing_at commands n is = ap (λ (k : ℕ). if k == 4 then lines_of commands else []) is
+listing_at : (commands : List (List ℕ)) (n : ℕ) → n ≡ 4 → (if n == 4 then ended_lines commands else []) ≡ ended_lines commands
+listing_at commands n is = ap (λ (k : ℕ). if k == 4 then ended_lines commands else []) is
 
-no_listing_at : (commands : List (List ℕ)) (n : ℕ) → ¬ (n ≡ 4) → (if n == 4 then lines_of commands else []) ≡ []
+no_listing_at : (commands : List (List ℕ)) (n : ℕ) → ¬ (n ≡ 4) → (if n == 4 then ended_lines commands else []) ≡ []
 no_listing_at commands n other = grind arith
 
 module _ (commands words : List (List ℕ)) (c : RunCause) where
@@ -94,7 +94,7 @@ module _ (commands words : List (List ℕ)) (c : RunCause) where
 
     -- the listed commands weren't written whole
     pub listing_failed : (a b d e : Option (List ℕ)) → Grew a b sentence → Grew b d (codes "\n") → run_status c ≡ 4
-        → GrewByFront d e (lines_of commands) → GrewByFront a e text
+        → GrewByFront d e (ended_lines commands) → GrewByFront a e text
     listing_failed a b d e h k bad m =
         let G : List ℕ → Type 0 = λ t. GrewByFront d e t in
         through_last_part a d e listing text (end_put a b d h k)
@@ -102,7 +102,7 @@ module _ (commands words : List (List ℕ)) (c : RunCause) where
 
     -- the listed commands were written
     pub listing_put : (a b d e : Option (List ℕ)) → Grew a b sentence → Grew b d (codes "\n") → run_status c ≡ 4
-        → Grew d e (lines_of commands) → Grew a e text
+        → Grew d e (ended_lines commands) → Grew a e text
     listing_put a b d e h k bad m =
         let G : List ℕ → Type 0 = λ t. Grew d e t in
         through_last a d e listing text (end_put a b d h k) (subst G (sym (listing_at commands (run_status c) bad)) m)

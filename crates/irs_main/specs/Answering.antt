@@ -34,13 +34,13 @@ CameTo None ws files out c = Ran ws files out (run_status c) × IsCauseOfWritten
 -- ---- what is said
 
 -- texts with a line feed after each
-abbrev pub lines_of : List (List ℕ) → List ℕ
-lines_of [] = []
-lines_of (line ∷ lines) = (line ++ codes "\n") ++ lines_of lines
+abbrev pub ended_lines : List (List ℕ) → List ℕ
+ended_lines [] = []
+ended_lines (line ∷ lines) = (line ++ codes "\n") ++ ended_lines lines
 
 -- the text after the sentence: the listed commands, where the words are none of them
 abbrev pub listing_of : (commands : List (List ℕ)) → RunCause → List ℕ
-listing_of commands c = if run_status c == 4 then lines_of commands else []
+listing_of commands c = if run_status c == 4 then ended_lines commands else []
 
 -- what is said of what the words came to; nothing where all is done and no payment lacks its amount
 unfoldable pub explanation_of : (commands words : List (List ℕ)) → RunCause → List ℕ

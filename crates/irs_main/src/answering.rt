@@ -6,11 +6,11 @@ ghost use Rattle.std.specs.Prelude.{◌≡◌, ℕ, ◌<◌, List, true, false, 
 ghost use Rattle.irs_outside.specs.Outside.{Grew, GrewByFront, Rose};
 ghost use Rattle.irs_plain.specs.Sentences.{is_silent as is_silent_of};
 ghost use Rattle.irs_plain.specs.Shown.{shown};
-ghost use Rattle.irs_plain.specs.Words.{texts};
+ghost use Rattle.irs_plain.specs.Words.{word_texts};
 ghost use Rattle.irs_cli.specs.Causes.{run_status};
 ghost use Rattle.irs_cli.specs.Run.{source, written};
 ghost use Rattle.irs_main.specs.Answering.{CameTo, Explained, Printed, explanation_of, itself_of};
-ghost use Rattle.irs_main.specs.Private.Answering.{IsPlain};
+ghost use Rattle.irs_main.specs.Private.Answering.{SaysNoWord};
 
 use crate::pieces::put_lines;
 use irs_cli::{Cause, Files, Note, PutFailed, RunCause, Sink, Status, cause_of_run};
@@ -39,11 +39,11 @@ pub fn answer<F: Files, S: Sink, E: Sink>(
     ensures came { let files = source (F.told files.old) (F.gives files.old) (F.failed files.new) (F.faults files.old)
         (F.faults files.new) in
         let out = written (S.written out.old) (S.written out.new) (S.faults out.old) (S.faults out.new) in
-        CameTo (itself_of HELP.now VERSION.now (texts words.now)) (texts words.now) files out result }
+        CameTo (itself_of HELP.now VERSION.now (word_texts words.now)) (word_texts words.now) files out result }
     // No file is fetched for such a text.
-    ensures unread { IsSome (itself_of HELP.now VERSION.now (texts words.now)) → files.new ≡ files.old }
+    ensures unread { IsSome (itself_of HELP.now VERSION.now (word_texts words.now)) → files.new ≡ files.old }
     // What the words came to is said with the words as they are shown, or nothing is, where all is done.
-    ensures said { let text = explanation_of (map (λ c. c.now) COMMANDS) (map shown (texts words.now)) result in
+    ensures said { let text = explanation_of (map (λ c. c.now) COMMANDS) (map shown (word_texts words.now)) result in
         Explained text (E.written errors.old) (E.written errors.new) (E.faults errors.old) (E.faults errors.new) }
     ensures silent { is_silent_of result ≡ true → errors.new ≡ errors.old }
 {
@@ -69,7 +69,7 @@ pub fn answer<F: Files, S: Sink, E: Sink>(
 
 // What the program says of itself, where its one word asks for that.
 fn about_itself(words: &[String]) -> Option<&'static str>
-    ensures { option_map (λ t. t.now) result ≡ itself_of HELP.now VERSION.now (texts words.now) }
+    ensures { option_map (λ t. t.now) result ≡ itself_of HELP.now VERSION.now (word_texts words.now) }
 {
     let [word] = words else {
         return None;
@@ -87,7 +87,7 @@ fn about_itself(words: &[String]) -> Option<&'static str>
 fn print<S: Sink>(out: &mut S, text: &str) -> RunCause
     ensures printed { Printed text.now (S.written out.old) (S.written out.new) (S.faults out.old) (S.faults out.new)
         (run_status result) }
-    ensures plain { IsPlain result }
+    ensures plain { SaysNoWord result }
 {
     match out.put(text.as_bytes()) {
         Ok(()) => RunCause::Replied(Cause::Done, Note::Nothing),
@@ -97,7 +97,7 @@ fn print<S: Sink>(out: &mut S, text: &str) -> RunCause
 
 /// Says what the words came to, as far as `errors` takes it.
 pub(crate) fn explain<E: Sink>(errors: &mut E, words: &[String], cause: &RunCause)
-    ensures said { Explained (explanation_of (map (λ c. c.now) COMMANDS) (texts words.now) cause.now)
+    ensures said { Explained (explanation_of (map (λ c. c.now) COMMANDS) (word_texts words.now) cause.now)
         (E.written errors.old) (E.written errors.new) (E.faults errors.old) (E.faults errors.new) }
     ensures silent { is_silent_of cause.now ≡ true → errors.new ≡ errors.old }
 {
@@ -111,10 +111,10 @@ pub(crate) fn explain<E: Sink>(errors: &mut E, words: &[String], cause: &RunCaus
 fn tell<E: Sink>(errors: &mut E, words: &[String], cause: &RunCause) -> Result<(), PutFailed>
     requires { is_silent_of cause.now ≡ false }
     ensures ok { OnOk result (Grew (E.written errors.old) (E.written errors.new)
-        (explanation_of (map (λ c. c.now) COMMANDS) (texts words.now) cause.now)) }
+        (explanation_of (map (λ c. c.now) COMMANDS) (word_texts words.now) cause.now)) }
     ensures quiet { OnOk result (E.faults errors.new ≡ E.faults errors.old) }
     ensures err { OnErr result (GrewByFront (E.written errors.old) (E.written errors.new)
-        (explanation_of (map (λ c. c.now) COMMANDS) (texts words.now) cause.now)) }
+        (explanation_of (map (λ c. c.now) COMMANDS) (word_texts words.now) cause.now)) }
     ensures rose { OnErr result (Rose (E.faults errors.old) (E.faults errors.new)) }
 {
     put_sentence(errors, words, cause)?;

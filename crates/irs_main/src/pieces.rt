@@ -1,17 +1,17 @@
 //! Writing lines one after the other: nothing is written after a write that failed.
 ghost use Rattle.std.specs.Prelude.{◌≡◌, ◌++◌, codes, map, OnOk, OnErr};
 ghost use Rattle.irs_outside.specs.Outside.{Grew, GrewByFront, Rose};
-ghost use Rattle.irs_main.specs.Answering.{lines_of};
+ghost use Rattle.irs_main.specs.Answering.{ended_lines};
 
 use irs_cli::{PutFailed, Sink};
 
 /// Writes texts, each with a line feed after it.
 pub(crate) fn put_lines<S: Sink>(out: &mut S, lines: &[&str]) -> Result<(), PutFailed>
     ensures ok { OnOk result
-        (Grew (S.written out.old) (S.written out.new) (lines_of (map (λ l. l.now) lines.now))) }
+        (Grew (S.written out.old) (S.written out.new) (ended_lines (map (λ l. l.now) lines.now))) }
     ensures quiet { OnOk result (S.faults out.new ≡ S.faults out.old) }
     ensures err { OnErr result
-        (GrewByFront (S.written out.old) (S.written out.new) (lines_of (map (λ l. l.now) lines.now))) }
+        (GrewByFront (S.written out.old) (S.written out.new) (ended_lines (map (λ l. l.now) lines.now))) }
     ensures rose { OnErr result (Rose (S.faults out.old) (S.faults out.new)) }
 {
     for line in lines {

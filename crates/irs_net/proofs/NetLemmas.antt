@@ -14,7 +14,7 @@ use Rattle.irs_base.specs.declared.line.Dec.{Dec}
 use Rattle.irs_terms.specs.Currencies.{decimals_of}
 use Rattle.irs_schedule.specs.Schedules.{dec_of}
 use Rattle.irs_schedule.proofs.PlaceLemmas.{decimals_few}
-use Rattle.irs_net.specs.Nets.{HasPlaces, IsNet, IsSumOf, key_order, same_key, part_key, row_key, known_sum}
+use Rattle.irs_net.specs.Nets.{NetRowHasPlaces, IsNet, IsSumOf, key_order, same_key, part_key, row_key, known_sum}
 use Rattle.irs_net.specs.Nets.{unknown_count}
 use Rattle.irs_net.specs.Private.NetTotals.{row_of, total_at}
 use Rattle.irs_net.specs.declared.parts.NetPart.{NetPart}
@@ -108,7 +108,7 @@ one_net parts a b h k =
     rows_by_keys parts a h.sums ∙ ap (map (row_at parts)) keys ∙ sym (rows_by_keys parts b k.sums)
 
 -- the amounts of a net have the decimals of their currency
-pub few_places : (parts : List NetPart) (rows : List NetRow) → Every (IsSumOf parts) rows → Every HasPlaces rows
+pub few_places : (parts : List NetPart) (rows : List NetRow) → Every (IsSumOf parts) rows → Every NetRowHasPlaces rows
 few_places parts [] h = tt
 few_places parts (r ∷ rs) h =
     let e = ap (λ (v : Dec). v.places) h.0.amount in

@@ -10,9 +10,9 @@ use Rattle.irs_base.specs.declared.line.Dec.{Dec}
 use Rattle.irs_terms.specs.declared.currency.Currency.{Currency}
 use Rattle.irs_terms.specs.declared.results.Exchange.{Exchange}
 use Rattle.irs_schedule.proofs.PlaceLemmas.{decimals_few, every_both, every_map}
-use Rattle.irs_schedule.specs.Parts.{Covers, HasAmount, IsAmount, IsWithin, KeepsBounds, Part}
+use Rattle.irs_schedule.specs.Parts.{EntriesCover, HasAmount, IsAmount, IsWithin, KeepsBounds, Part}
 use Rattle.irs_schedule.specs.declared.entries.PaymentEntry.{PaymentEntry}
-use Rattle.irs_net.specs.NetParts.{exchange_part, parts_of, payment_part, signed, stream_parts}
+use Rattle.irs_net.specs.NetParts.{exchange_part, parts_of, payment_part, signed, net_parts_of}
 use Rattle.irs_net.specs.Private.NetTotals.{IsSmall, most_parts, most_units}
 use Rattle.irs_net.specs.declared.parts.NetPart.{NetPart}
 
@@ -27,23 +27,23 @@ every_at P (y ∷ ys) (suc i) x h low e = every_at P ys i x h.1 (omega (arith, l
 
 -- one stream more adds its parts
 pub parts_more : (ps : List Part) (bs : List Bool) (i : ℕ) (p : Part) → i < length ps → i < length bs
-    → p ≡ get_or ps i p → parts_of (take (suc i) ps) bs ≡ parts_of (take i ps) bs ++ stream_parts (get_or bs i false) p
+    → p ≡ get_or ps i p → parts_of (take (suc i) ps) bs ≡ parts_of (take i ps) bs ++ net_parts_of (get_or bs i false) p
 parts_more [] bs i p low lower e = absurd (omega (arith, low))
 parts_more (q ∷ qs) [] i p low lower e = absurd (omega (arith, lower))
-parts_more (q ∷ qs) (b ∷ bs) zero p low lower e = append-nil (stream_parts b q) ∙ ap (stream_parts b) (sym e)
+parts_more (q ∷ qs) (b ∷ bs) zero p low lower e = append-nil (net_parts_of b q) ∙ ap (net_parts_of b) (sym e)
 parts_more (q ∷ qs) (b ∷ bs) (suc i) p low lower e =
-    ap (λ (ns : List NetPart). stream_parts b q ++ ns)
+    ap (λ (ns : List NetPart). net_parts_of b q ++ ns)
     (parts_more qs bs i p (omega (arith, low)) (omega (arith, lower)) e)
-    ∙ sym (append_assoc (stream_parts b q) (parts_of (take i qs) bs) (stream_parts (get_or bs i false) p))
+    ∙ sym (append_assoc (net_parts_of b q) (parts_of (take i qs) bs) (net_parts_of (get_or bs i false) p))
 
 -- ---- how many
 
-payments_few : (a n : ℕ) (ys : List PaymentEntry) → Covers a ys n → length ys + a ≤ n + 1
+payments_few : (a n : ℕ) (ys : List PaymentEntry) → EntriesCover a ys n → length ys + a ≤ n + 1
 payments_few a n [] h = omega (arith, h)
 payments_few a n (y ∷ ys) h = let rest = payments_few (y.last_period + 1) n ys h.2 in let first = h.0 in
     let some = h.1 in omega (arith, rest, first, some)
 
-stream_few : (b : Bool) (p : Part) → KeepsBounds p → length (stream_parts b p) ≤ most_exchanges + most_periods
+stream_few : (b : Bool) (p : Part) → KeepsBounds p → length (net_parts_of b p) ≤ most_exchanges + most_periods
 stream_few b p h =
     let xs = map (exchange_part p.currency b) p.exchanges in
     let ys = map (payment_part p.currency b) p.payments in
@@ -62,7 +62,7 @@ streams_few (p ∷ ps) [] h = omega arith
 streams_few (p ∷ ps) (b ∷ bs) h =
     let own = stream_few b p h.0 in
     let rest = streams_few ps bs h.1 in
-    let both = length-append (stream_parts b p) (parts_of ps bs) in
+    let both = length-append (net_parts_of b p) (parts_of ps bs) in
     omega (arith, own, rest, both)
 
 -- a schedule has at most `most_parts` parts
@@ -106,7 +106,7 @@ payment_small : (currency : Currency) (b : Bool) (y : PaymentEntry) → HasAmoun
     → IsSmall (payment_part currency b y)
 payment_small currency b y h = paid_small currency b y.amount h
 
-stream_small : (b : Bool) (p : Part) → KeepsBounds p → Every IsSmall (stream_parts b p)
+stream_small : (b : Bool) (p : Part) → KeepsBounds p → Every IsSmall (net_parts_of b p)
 stream_small b p h =
     every_both IsSmall (map (exchange_part p.currency b) p.exchanges) (map (payment_part p.currency b) p.payments)
     (every_map IsSmall (λ (x : Exchange). IsAmount p.currency x.amount) (exchange_part p.currency b)
@@ -118,7 +118,7 @@ streams_small : (ps : List Part) (bs : List Bool) → Every KeepsBounds ps → E
 streams_small [] bs h = tt
 streams_small (p ∷ ps) [] h = tt
 streams_small (p ∷ ps) (b ∷ bs) h =
-    every_both IsSmall (stream_parts b p) (parts_of ps bs) (stream_small b p h.0) (streams_small ps bs h.1)
+    every_both IsSmall (net_parts_of b p) (parts_of ps bs) (stream_small b p h.0) (streams_small ps bs h.1)
 
 -- each amount of a schedule is small
 pub parts_small : (ps : List Part) (bs : List Bool) → IsWithin ps → Every IsSmall (parts_of ps bs)

@@ -23,12 +23,12 @@ use Rattle.irs_elements.specs.Find.{values_in}
 use Rattle.irs_elements.specs.declared.table.Choice.TheVariants.{Free}
 use Rattle.irs_elements.specs.declared.table.Kind.TheVariants.{Object}
 use Rattle.irs_json.specs.Carrier.{child_of}
-use Rattle.irs_json.specs.Names.{names_of}
+use Rattle.irs_json.specs.Names.{element_names}
 use Rattle.irs_read.specs.Documents.{DocumentFault, Way, the_swap, below}
 use Rattle.irs_read.specs.References.{streams_in}
 use Rattle.irs_read.specs.Swaps.{no_stream, many_streams}
 use Rattle.irs_net.specs.Private.FoundParties.{href_in, pair_of, parties_in, party_in, side_by, side_in}
-use Rattle.irs_net.specs.Parties.{AreSides, BreaksK8, BreaksK8Of, IsBackward, IsForward, IsPaid, IsSide, RefersTo}
+use Rattle.irs_net.specs.Parties.{AreSides, BreaksK8, BreaksK8Of, IsBackward, IsForward, IsPaidBy, IsSide, RefersTo}
 use Rattle.irs_net.specs.Parties.{SidesOf, broken_at}
 use Rattle.irs_net.specs.Private.SidesTo.{SidesTo}
 use Rattle.irs_net.specs.declared.sides.Sides.{Sides}
@@ -70,23 +70,23 @@ text_itself a = (bytes_eq-Decides a a).1 refl
 
 paid_if : (d : Data) (p r : List ℕ) (t : Bool) (pair : Pair) → bytes_eq p r ≡ t
     → party_in (codes "payerPartyReference") d ≡ Some p → party_in (codes "receiverPartyReference") d ≡ Some r
-    → (if t then None else Some (p, r)) ≡ Some pair → IsPaid d pair.0 pair.1
+    → (if t then None else Some (p, r)) ≡ Some pair → IsPaidBy d pair.0 pair.1
 paid_if d p r true pair t e f h = absurd (cc)
 paid_if d p r false pair t e f h =
-    let is : IsPaid d p r = record {
+    let is : IsPaidBy d p r = record {
       by = refers (codes "payerPartyReference") d p e;
       to = refers (codes "receiverPartyReference") d r f;
       apart = λ same. let s : bytes_eq p r ≡ true = (bytes_eq-Decides p r).1 same in absurd (cc);
     } in
-    subst (λ (q : Pair). IsPaid d q.0 q.1) (some_is (p, r) pair h) is
+    subst (λ (q : Pair). IsPaidBy d q.0 q.1) (some_is (p, r) pair h) is
 
 paid_by : (d : Data) (a b : Option (List ℕ)) (pair : Pair) → party_in (codes "payerPartyReference") d ≡ a
-    → party_in (codes "receiverPartyReference") d ≡ b → pair_of a b ≡ Some pair → IsPaid d pair.0 pair.1
+    → party_in (codes "receiverPartyReference") d ≡ b → pair_of a b ≡ Some pair → IsPaidBy d pair.0 pair.1
 paid_by d None b pair e f h = absurd (cc)
 paid_by d (Some p) None pair e f h = absurd (cc)
 paid_by d (Some p) (Some r) pair e f h = paid_if d p r (bytes_eq p r) pair refl e f h
 
-paid : (d : Data) (pair : Pair) → parties_in d ≡ Some pair → IsPaid d pair.0 pair.1
+paid : (d : Data) (pair : Pair) → parties_in d ≡ Some pair → IsPaidBy d pair.0 pair.1
 paid d pair h =
     paid_by d (party_in (codes "payerPartyReference") d) (party_in (codes "receiverPartyReference") d) pair refl refl h
 
@@ -99,7 +99,7 @@ pair_if : (p r : List ℕ) (t : Bool) → bytes_eq p r ≡ t → (p ≡ r → �
 pair_if p r true e apart = absurd (apart (same_text p r e))
 pair_if p r false e apart = refl
 
-parties_are : (d : Data) (p r : List ℕ) → IsPaid d p r → parties_in d ≡ some_pair p r
+parties_are : (d : Data) (p r : List ℕ) → IsPaidBy d p r → parties_in d ≡ some_pair p r
 parties_are d p r h =
     ap₂ pair_of (party_is (codes "payerPartyReference") d p h.by) (party_is (codes "receiverPartyReference") d r h.to)
     ∙ pair_if p r (bytes_eq p r) refl h.apart
@@ -120,20 +120,20 @@ abbrev other_order : Pair → Pair → Bool
 other_order a b = bytes_eq b.0 a.1 && bytes_eq b.1 a.0
 
 side_if : (f s : Data) (a b : Pair) (t u : Bool) (r : Bool) → same_order a b ≡ t → other_order a b ≡ u
-    → IsPaid f a.0 a.1 → IsPaid s b.0 b.1
+    → IsPaidBy f a.0 a.1 → IsPaidBy s b.0 b.1
     → (if t then Some true else (if u then Some false else None)) ≡ Some r → IsSide f s r
 side_if f s a b true u r e o first second h =
     let same = both_of (bytes_eq b.0 a.0) (bytes_eq b.1 a.1) e in
-    let moved : IsPaid s a.0 a.1 =
-    subst (λ (x : List ℕ). IsPaid s x a.1) (same_text b.0 a.0 same.0)
-    (subst (λ (x : List ℕ). IsPaid s b.0 x) (same_text b.1 a.1 same.1) second) in
+    let moved : IsPaidBy s a.0 a.1 =
+    subst (λ (x : List ℕ). IsPaidBy s x a.1) (same_text b.0 a.0 same.0)
+    (subst (λ (x : List ℕ). IsPaidBy s b.0 x) (same_text b.1 a.1 same.1) second) in
     let forward : IsForward f s = record { payer = a.0; receiver = a.1; first_paid = first; paid = moved } in
     subst (IsSide f s) (some_is true r h) forward
 side_if f s a b false true r e o first second h =
     let same = both_of (bytes_eq b.0 a.1) (bytes_eq b.1 a.0) o in
-    let moved : IsPaid s a.1 a.0 =
-    subst (λ (x : List ℕ). IsPaid s x a.0) (same_text b.0 a.1 same.0)
-    (subst (λ (x : List ℕ). IsPaid s b.0 x) (same_text b.1 a.0 same.1) second) in
+    let moved : IsPaidBy s a.1 a.0 =
+    subst (λ (x : List ℕ). IsPaidBy s x a.0) (same_text b.0 a.1 same.0)
+    (subst (λ (x : List ℕ). IsPaidBy s b.0 x) (same_text b.1 a.0 same.1) second) in
     let backward : IsBackward f s = record { payer = a.0; receiver = a.1; first_paid = first; paid = moved } in
     subst (IsSide f s) (some_is false r h) backward
 side_if f s a b false false r e o first second h = absurd (cc)
@@ -285,7 +285,7 @@ first_k8 streams i forward first stream begins there none to = (
 
 -- ---- the streams of a document that breaks no rule
 
-few_if : (d s : Data) (b : Bool) → is_some (names_of s) ≡ b → ((f : Broken) → DocumentFault d f → ⊥) → the_swap d ≡ Ok s
+few_if : (d s : Data) (b : Bool) → is_some (element_names s) ≡ b → ((f : Broken) → DocumentFault d f → ⊥) → the_swap d ≡ Ok s
     → (0 < length (streams_in s)) × (length (streams_in s) ≤ most_streams)
 few_if d s true e clean found =
     let none : length (streams_in s) ≡ 0 → ⊥ = λ h. clean _ (below s _ found (inr (e, no_stream h))) in
@@ -298,7 +298,7 @@ few_if d s false e clean found =
 -- a document without faults has at least one stream and at most the most
 pub streams_few : (d s : Data) → ((f : Broken) → DocumentFault d f → ⊥) → the_swap d ≡ Ok s
     → (0 < length (streams_in s)) × (length (streams_in s) ≤ most_streams)
-streams_few d s clean found = few_if d s (is_some (names_of s)) refl clean found
+streams_few d s clean found = few_if d s (is_some (element_names s)) refl clean found
 
 -- ---- of a document
 

@@ -23,12 +23,12 @@ payment_part currency forward y =
     record { date = y.adjusted; currency = currency; units = option_map (λ v. signed forward v.units) y.amount }
 
 -- the exchanges and payments of a stream
-abbrev pub stream_parts : Bool → Part → List NetPart
-stream_parts forward p =
+abbrev pub net_parts_of : Bool → Part → List NetPart
+net_parts_of forward p =
     map (exchange_part p.currency forward) p.exchanges ++ map (payment_part p.currency forward) p.payments
 
 -- those of all streams, each with its side
 abbrev pub parts_of : List Part → List Bool → List NetPart
 parts_of [] sides = []
 parts_of (p ∷ ps) [] = []
-parts_of (p ∷ ps) (forward ∷ sides) = stream_parts forward p ++ parts_of ps sides
+parts_of (p ∷ ps) (forward ∷ sides) = net_parts_of forward p ++ parts_of ps sides

@@ -81,5 +81,5 @@ parts_total currency (p ∷ ps) =
     (if bytes_eq currency.letters p.currency.letters then known_units p.units else pos 0) +ℤ parts_total currency ps
 
 -- the amount of a row has at most 12 decimals
-abbrev pub HasPlaces : NetRow → Type 0
-HasPlaces r = r.amount.places ≤ 12
+abbrev pub NetRowHasPlaces : NetRow → Type 0
+NetRowHasPlaces r = r.amount.places ≤ 12

@@ -21,7 +21,7 @@ pub record RefersTo (name : List ℕ) (stream : Data) (party : List ℕ) : Type 
   pub href : child_of (codes "@href") reference ≡ Some (string party)
 
 -- the stream is paid by one party to another
-pub record IsPaid (stream : Data) (payer receiver : List ℕ) : Type 0 where
+pub record IsPaidBy (stream : Data) (payer receiver : List ℕ) : Type 0 where
   pub by : RefersTo (codes "payerPartyReference") stream payer
   pub to : RefersTo (codes "receiverPartyReference") stream receiver
   pub apart : payer ≡ receiver → ⊥
@@ -30,15 +30,15 @@ pub record IsPaid (stream : Data) (payer receiver : List ℕ) : Type 0 where
 pub record IsForward (first stream : Data) : Type 0 where
   pub payer : List ℕ
   pub receiver : List ℕ
-  pub first_paid : IsPaid first payer receiver
-  pub paid : IsPaid stream payer receiver
+  pub first_paid : IsPaidBy first payer receiver
+  pub paid : IsPaidBy stream payer receiver
 
 -- or by the receiver of the first to its payer
 pub record IsBackward (first stream : Data) : Type 0 where
   pub payer : List ℕ
   pub receiver : List ℕ
-  pub first_paid : IsPaid first payer receiver
-  pub paid : IsPaid stream receiver payer
+  pub first_paid : IsPaidBy first payer receiver
+  pub paid : IsPaidBy stream receiver payer
 
 -- K8 of the stream with this number: its two references aren't those of stream 1, in either order
 abbrev pub broken_at : ℕ → Broken

@@ -3,7 +3,7 @@
 ghost use Rattle.std.specs.Prelude.{◌≡◌, ◌++◌, ◌≤◌, map, length, IfOk, IfSome, OnOk, unsigned_abs, option_map};
 ghost use Rattle.irs_base.specs.Members.{Every};
 ghost use Rattle.irs_schedule.specs.Parts.{HasAmount, IsAmount};
-ghost use Rattle.irs_net.specs.NetParts.{exchange_part, payment_part, parts_of, signed, stream_parts};
+ghost use Rattle.irs_net.specs.NetParts.{exchange_part, payment_part, parts_of, signed, net_parts_of};
 ghost use Rattle.irs_net.specs.Private.NetTotals.{IsSmall, most_parts, most_units};
 
 use crate::Sides;
@@ -95,7 +95,7 @@ fn add_payments(
 }
 
 fn add_stream(parts: &mut Vec<NetPart>, forward: bool, stream: &StreamPart) -> Result<(), Memory>
-    ensures { OnOk result (parts.new.items ≡ parts.old.items ++ stream_parts forward stream.now) }
+    ensures { OnOk result (parts.new.items ≡ parts.old.items ++ net_parts_of forward stream.now) }
 {
     let currency = stream.currency();
     add_exchanges(parts, currency, forward, stream.exchanges())?;

@@ -5,7 +5,7 @@ ghost use Rattle.std.specs.Prelude.{◌≡◌, List, map, length, IfOk};
 ghost use Rattle.irs_base.specs.Members.{Every};
 ghost use Rattle.irs_terms.specs.declared.currency.Currency.{Currency};
 ghost use Rattle.irs_net.specs.NetParts.{parts_of};
-ghost use Rattle.irs_net.specs.Nets.{HasPlaces, Net, parts_total, rows_total};
+ghost use Rattle.irs_net.specs.Nets.{NetRowHasPlaces, Net, parts_total, rows_total};
 ghost use Rattle.irs_net.specs.Private.NetTotals.{row_of};
 ghost use Rattle.irs_net.specs.declared.table.NetRow.{NetRow};
 
@@ -75,7 +75,7 @@ pub fn net(alloc: Global, s: &Schedule, sides: &Sides) -> Result<NetTable, Memor
     // For each currency the rows add up to the sum of all known amounts.
     ensures adds_up { (currency : Currency) (rows : List NetRow) → Net s.now sides.now.forward rows
         → rows_total currency rows ≡ parts_total currency (parts_of s.now sides.now.forward) }
-    ensures places { IfOk result (Every HasPlaces) }
+    ensures places { IfOk result (Every NetRowHasPlaces) }
 {
     let parts = parts_of(alloc, s, sides)?;
     let totals = totals_of(alloc, &parts)?;

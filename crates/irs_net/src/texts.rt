@@ -1,6 +1,6 @@
 //! The line of a row of the net: `n DATE CURRENCY AMOUNT UNKNOWN` and a line feed. The format is ours.
 ghost use Rattle.std.specs.Prelude.{◌≡◌};
-ghost use Rattle.irs_net.specs.Nets.{HasPlaces};
+ghost use Rattle.irs_net.specs.Nets.{NetRowHasPlaces};
 ghost use Rattle.irs_net.specs.NetTexts.{net_text};
 
 use crate::NetRow;
@@ -10,7 +10,7 @@ use irs_base::Line;
 /// memory.
 #[tactic(auto, unfolding(crate::specs::NetTexts::net_text))]
 pub fn net_text(row: &NetRow, line: &mut Line)
-    requires { HasPlaces row.now }
+    requires { NetRowHasPlaces row.now }
     ensures { line.new ≡ net_text row.now }
 {
     line.clear();

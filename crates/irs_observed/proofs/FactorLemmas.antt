@@ -6,13 +6,13 @@ use Rattle.std.proofs.lemmas.Bool.{cases_lt}
 use Rattle.jiff_core.proofs.SignedLemmas.{signed_arith}
 use Rattle.irs_base.proofs.RoundingLaws.{nearest_once}
 use Rattle.irs_observed.specs.DailyRates.{AreKnown, DailyRates}
-use Rattle.irs_observed.specs.Factors.{FactorPasses, Grows, GrowsBy, Precision, Reaches, one_factor, year_of}
+use Rattle.irs_observed.specs.Factors.{FactorPasses, Grows, GrowsBy, Precision, Reaches, one_factor, unit_rate}
 use Rattle.irs_observed.specs.ObservedRates.{CompoundsPast, rate_precision}
 use Rattle.irs_observed.specs.declared.observation.Observation.{Observation}
 use Rattle.irs_observed.proofs.ThroughLemmas.{one_through, through_all, through_more}
 
 -- the rate 1 for a year is above 0
-pub year_above : (basis : ℕ) → 1 ≤ basis → pos 0 <ℤ year_of basis
+pub year_above : (basis : ℕ) → 1 ≤ basis → pos 0 <ℤ unit_rate basis
 year_above basis some = let e : 0 < 10 ^ 9 * basis = omega (arith, some) in omega (arith, signed_arith, e)
 
 some_is : (a b : ℤ) → Some a ≡ Some b → a ≡ b
@@ -30,7 +30,7 @@ module _ (p : Precision) (basis : ℕ) (some : 1 ≤ basis) (daily : DailyRates)
       let same : a.rate ≡ b.rate = some_is a.rate b.rate (sym a.is_rate ∙ b.is_rate) in
       let moved : GrowsBy basis daily o f g =
       record { rate = b.rate; is_rate = b.is_rate; rounded = rw (sym same) a.rounded } in
-      nearest_once (f *ℤ (year_of basis +ℤ b.rate *ℤ pos o.weight)) (year_of basis) g h (year_above basis some)
+      nearest_once (f *ℤ (unit_rate basis +ℤ b.rate *ℤ pos o.weight)) (unit_rate basis) g h (year_above basis some)
       moved.rounded b.rounded
 
   -- there is one factor after the observations

@@ -9,7 +9,7 @@ use Rattle.irs_base.proofs.Rising.{member_cases, member_new, member_old, one_ris
 use Rattle.irs_calendar.specs.GoodDays.{DaySet, InCover, IsGood, Next}
 use Rattle.irs_adjust.specs.ConventionLaws.{next_stays}
 use Rattle.irs_adjust.proofs.FoundDays.{decides_good, decides_in_cover}
-use Rattle.irs_observed.specs.PeriodMembers.{AreMembers, IsMember, LeavesCover}
+use Rattle.irs_observed.specs.PeriodMembers.{AreMembers, IsPeriodMember, LeavesCover}
 
 -- there is one list of members
 pub one_members : (set : DaySet) (a b : ℤ) (u v : List ℤ) → AreMembers set a b u → AreMembers set a b v → u ≡ v
@@ -81,7 +81,7 @@ none_good set a b d x covered low order high none good =
 pub record ListsTo (set : DaySet) (a b : ℤ) (u : List ℤ) (day : ℤ) : Type 0 where
   pub low : a ≤ℤ day
   pub here : day <ℤ b → (day ≡ a) ⊎ IsGood set day
-  pub listed : Lists (λ d. IsMember set a b d × (d <ℤ day)) u
+  pub listed : Lists (λ d. IsPeriodMember set a b d × (d <ℤ day)) u
 
 -- before the first day there is no member to list
 pub lists_none : (set : DaySet) (a b : ℤ) → ListsTo set a b [] a
@@ -99,17 +99,17 @@ module _ (set : DaySet) (a b : ℤ) (u : List ℤ) (day next : ℤ) (to : ListsT
     (after : day <ℤ next) (good : next <ℤ b → IsGood set next)
     (none : (x : ℤ) → day <ℤ x → x <ℤ next → IsGood set x → ⊥) where
   -- the day is a member
-  is_member : IsMember set a b day
+  is_member : IsPeriodMember set a b day
   is_member = (to.low, open_day, to.here open_day)
 
-  sound_more : (d : ℤ) → Member d (u ++ day ∷ []) → IsMember set a b d × (d <ℤ next)
+  sound_more : (d : ℤ) → Member d (u ++ day ∷ []) → IsPeriodMember set a b d × (d <ℤ next)
   sound_more d m = elim (member_cases d day u m) [
     | inl old ↦ let h = to.listed.sound d old in let high = h.1 in (h.0, omega (arith, signed_arith, high, after))
     | inr new ↦
-        (subst (IsMember set a b) (sym new) is_member, omega (arith, signed_arith, new, after))
+        (subst (IsPeriodMember set a b) (sym new) is_member, omega (arith, signed_arith, new, after))
   ]
 
-  complete_more : (d : ℤ) → IsMember set a b d × (d <ℤ next) → Member d (u ++ day ∷ [])
+  complete_more : (d : ℤ) → IsPeriodMember set a b d × (d <ℤ next) → Member d (u ++ day ∷ [])
   complete_more d h = elim (order_of d day) [
     | inl below ↦ member_old d day u (to.listed.complete d (h.0, below))
     | inr (inl above) ↦ elim h.0.2 [

@@ -17,12 +17,12 @@ use Rattle.irs_adjust.proofs.FoundDays.{IsFound, decides_in_cover, decides_le, d
 use Rattle.irs_adjust.proofs.MovedDays.{decides_moves}
 use Rattle.irs_adjust.proofs.OffsetLaws.{one_moved}
 use Rattle.irs_observed.specs.ObservationPeriods.{IsObservationPeriod, ObservedPeriod, Shifts, back}
-use Rattle.irs_observed.specs.ObservationRules.{Lacks, reported_before}
+use Rattle.irs_observed.specs.ObservationRules.{LacksObservations, reported_before}
 use Rattle.irs_observed.specs.Private.ObservationWalk.{IsUnseen, IsWalk}
 use Rattle.irs_observed.specs.Observations.{AddsUp, AreObservations, AreObserved, HasWeights, IsObservation, ObservesOn}
 use Rattle.irs_observed.specs.Observations.{lockout_days, place_observed}
 use Rattle.irs_observed.specs.Outcomes.{observations_of}
-use Rattle.irs_observed.specs.PeriodMembers.{AreMembers, IsMember, LeavesCover, member_or_end}
+use Rattle.irs_observed.specs.PeriodMembers.{AreMembers, IsPeriodMember, LeavesCover, member_or_end}
 use Rattle.irs_observed.specs.declared.observation.NoObservations.{NoObservations}
 use Rattle.irs_observed.specs.declared.observation.NoObservations.TheVariants.{FewMembers, NoDay}
 use Rattle.irs_observed.specs.declared.observation.Observation.{Observation}
@@ -92,8 +92,8 @@ one_observations p os ps h k =
     (subst (λ (u : List ℤ). AreObserved p.offset p.days u h.to os) members h.observed) in
     one_observed p.offset p.days k.members k.to os ps observed k.observed
 
-one_reason : (p : ObservedPeriod) (f g : NoObservations) → First reported_before (Lacks p) f
-    → First reported_before (Lacks p) g → f ≡ g
+one_reason : (p : ObservedPeriod) (f g : NoObservations) → First reported_before (LacksObservations p) f
+    → First reported_before (LacksObservations p) g → f ≡ g
 one_reason p FewMembers FewMembers h k = refl
 one_reason p FewMembers NoDay h k = let e = k.1 FewMembers h.0 in absurd (cc)
 one_reason p NoDay FewMembers h k = let e = h.1 FewMembers k.0 in absurd (cc)
@@ -270,11 +270,11 @@ module _ (offset : ObservationOffset) (set : DaySet) (u : List ℤ) where
 -- a period has observations, or there is a first reason why it has none
 abbrev ThereOrReason : ObservedPeriod → Type 0
 ThereOrReason p =
-    (((f : NoObservations) × First reported_before (Lacks p) f) ⊎ ((f : NoObservations) → Lacks p f → ⊥))
-    × (((f : NoObservations) → Lacks p f → ⊥) → (os : List Observation) × AreObservations p os)
+    (((f : NoObservations) × First reported_before (LacksObservations p) f) ⊎ ((f : NoObservations) → LacksObservations p f → ⊥))
+    × (((f : NoObservations) → LacksObservations p f → ⊥) → (os : List Observation) × AreObservations p os)
 
 -- a reason is the first
-refused_with : (p : ObservedPeriod) (f : NoObservations) → First reported_before (Lacks p) f → ThereOrReason p
+refused_with : (p : ObservedPeriod) (f : NoObservations) → First reported_before (LacksObservations p) f → ThereOrReason p
 refused_with p f first = (inl (f, first), λ none. absurd (none f first.0))
 
 module _ (p : ObservedPeriod) (a b : ℤ) (period : IsObservationPeriod p a b) (covered : LeavesCover p.days a b → ⊥)
@@ -310,15 +310,15 @@ module _ (p : ObservedPeriod) (a b : ℤ) (period : IsObservationPeriod p a b) (
   no_first (Lockout n) none o h = none o h
 
   -- the first member has no observation day
-  pub refused_first : ((q : ℤ) → Prev p.days a q → ⊥) → First reported_before (Lacks p) NoDay
+  pub refused_first : ((q : ℤ) → Prev p.days a q → ⊥) → First reported_before (LacksObservations p) NoDay
   refused_first none =
       let first = first_member p.days a b u are some_members in
-      let is : IsMember p.days a b a =
-      subst (λ (x : ℤ). IsMember p.days a b x) first (member_at p.days a b u are 0 some_members) in
+      let is : IsPeriodMember p.days a b a =
+      subst (λ (x : ℤ). IsPeriodMember p.days a b x) first (member_at p.days a b u are 0 some_members) in
       refused_member p a b period covered u are enough a is (no_first p.offset none)
 
   -- a member at a place that the observations take from has none
-  pub refused_unseen : IsUnseen p.offset p.days u → First reported_before (Lacks p) NoDay
+  pub refused_unseen : IsUnseen p.offset p.days u → First reported_before (LacksObservations p) NoDay
   refused_unseen none =
       let at = place_observed p.offset (length u) none.place in
       refused_member p a b period covered u are enough (day_at u at)
@@ -381,5 +381,5 @@ there_or_reason p = elim (found_shift p.offset p.days p.start) [
 pub observations_determined : (p : ObservedPeriod) → Determined (observations_of p)
 observations_determined p =
     let there = there_or_reason p in
-    unless_broken_determined reported_before (Lacks p) (AreObservations p) there.0 there.1 (one_observations p)
+    unless_broken_determined reported_before (LacksObservations p) (AreObservations p) there.0 there.1 (one_observations p)
     (one_reason p)

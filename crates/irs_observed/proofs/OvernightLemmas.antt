@@ -17,10 +17,11 @@ use Rattle.irs_resets.specs.Rates.{RateTable}
 use Rattle.irs_resets.specs.declared.observed.PeriodKind.{PeriodKind}
 use Rattle.irs_resets.proofs.KindLaws.{one_kind}
 use Rattle.irs_observed.specs.DailyRates.{daily_rates}
-use Rattle.irs_observed.specs.ObservationRules.{Lacks, reported_before}
+use Rattle.irs_observed.specs.ObservationRules.{LacksObservations, reported_before}
 use Rattle.irs_observed.specs.Private.Outcomes.{rate_at_of, rate_over_of}
 use Rattle.irs_observed.specs.OvernightRates.{HasBounds, IsKindIn}
-use Rattle.irs_observed.specs.OvernightRates.{LacksAt, OvernightSource, period_of, periods_of, printed_at, printed_of}
+use Rattle.irs_observed.specs.OvernightRates.{LacksAt, OvernightSource, period_of, source_periods, printed_at}
+use Rattle.irs_observed.specs.OvernightRates.{printed_of}
 use Rattle.irs_observed.specs.RateOrigins.{HasOwnRate, StatesRate}
 use Rattle.irs_observed.specs.declared.observation.NoObservations.{NoObservations}
 use Rattle.irs_observed.specs.declared.observation.NoObservations.TheVariants.{FewMembers, NoDay}
@@ -42,7 +43,7 @@ next_after a (suc i) rising low high =
 
 module _ (source : OvernightSource) (rates : RateTable) (i : ℕ) (kind : PeriodKind) (is : IsKindIn source i kind) where
   one_kind_in : (k : PeriodKind) → IsKindIn source i k → k ≡ kind
-  one_kind_in k h = one_kind source.stream source.span (periods_of source) i k kind h is
+  one_kind_in k h = one_kind source.stream source.span (source_periods source) i k kind h is
 
   -- a stub with a rate of its own has that rate, and lacks nothing
   pub stated_rate : (rate : ℤ) → StatesRate kind source.stream.stubs rate
@@ -67,7 +68,7 @@ module _ (source : OvernightSource) (rates : RateTable) (i : ℕ) (kind : Period
     )
 
     pub daily_lacks : IsPeriod source.adjusted i → (why : NoObservations)
-        → First reported_before (Lacks (period_of source i)) why
+        → First reported_before (LacksObservations (period_of source i)) why
         → First reported_before (LacksAt source i) why
     daily_lacks period why first = (
       record { period = period; kind = kind; is_kind = is; daily = daily; lacks = first.0 },
@@ -75,7 +76,7 @@ module _ (source : OvernightSource) (rates : RateTable) (i : ℕ) (kind : Period
     )
 
     stops_with : IsPeriod source.adjusted i → (e : Stopped NoObservations)
-        → IfStopped e (First reported_before (Lacks (period_of source i)))
+        → IfStopped e (First reported_before (LacksObservations (period_of source i)))
         → IfStopped e (First reported_before (LacksAt source i))
     stops_with period (OfBroken why) first = daily_lacks period why first
     stops_with period OfMemory first = tt

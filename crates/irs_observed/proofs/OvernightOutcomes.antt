@@ -26,13 +26,13 @@ use Rattle.irs_terms.specs.declared.dates.ResetTerms.{ResetTerms}
 use Rattle.irs_terms.specs.declared.results.Reset.{Reset}
 use Rattle.irs_resets.specs.Rates.{RateTable}
 use Rattle.irs_resets.specs.ResetRules.{BreaksResets}
-use Rattle.irs_resets.specs.Resets.{HasResets, IsReset, IsResetsOf, ResetSource, count_of}
+use Rattle.irs_resets.specs.Resets.{HasResets, IsReset, IsResetsOf, ResetSource, source_period_count}
 use Rattle.irs_resets.proofs.DateLemmas.{one_dates}
 use Rattle.irs_resets.proofs.DatedResets.{dates_dated}
 use Rattle.irs_resets.proofs.ResetsThere.{BrokenOrNone, InDays, resets_decided, resets_there}
 use Rattle.irs_observed.specs.Outcomes.{overnight_resets_of}
 use Rattle.irs_observed.specs.OvernightRates.{AreOvernightRates, BreaksObservations, IsOvernightRate, LacksAt}
-use Rattle.irs_observed.specs.OvernightRates.{OvernightSource, observation_fault, periods_of}
+use Rattle.irs_observed.specs.OvernightRates.{OvernightSource, observation_fault, source_periods}
 use Rattle.irs_observed.specs.OvernightResets.{AreOvernightResets, BreaksOvernight, DailySource}
 use Rattle.irs_observed.specs.Private.OvernightResets.{ArePrinted}
 use Rattle.irs_observed.specs.OvernightResets.{HasOvernightResets, HasOvernightResetsBy, IsOvernightReset}
@@ -41,7 +41,7 @@ use Rattle.irs_resets.specs.Outcomes.{resets_of}
 use Rattle.irs_observed.specs.Private.OvernightWalk.{NoneLacks}
 use Rattle.irs_observed.specs.declared.daily_resets.OvernightResets.{OvernightResets}
 use Rattle.irs_observed.specs.declared.observation.NoObservations.TheVariants.{FewMembers, NoDay}
-use Rattle.irs_observed.specs.ObservedRates.{Fraction}
+use Rattle.irs_observed.specs.ObservedRates.{RateFraction}
 use Rattle.irs_observed.specs.declared.overnight_rate.OvernightRate.{OvernightRate}
 use Rattle.irs_observed.specs.declared.overnight_rate.OvernightRate.TheVariants.{Known}
 use Rattle.irs_observed.proofs.FirstOvernight.{first_day_at, first_few_at, none_breaks, none_lacks_at}
@@ -124,9 +124,9 @@ module _ (source : OvernightSource) (rates : RateTable) where
   pub rates_there : ((f : Fault) → BreaksObservations source f → ⊥) → (rs : List OvernightRate) × AreOvernightRates source rates rs
   rates_there free =
       let none = none_lacks_at source free in
-      let member : (k : ℕ) → 1 ≤ k → k < 1 + periods_of source → (r : OvernightRate) × IsOvernightRate source rates k r =
+      let member : (k : ℕ) → 1 ≤ k → k < 1 + source_periods source → (r : OvernightRate) × IsOvernightRate source rates k r =
       λ k low high. rate_of k none (rate_or_reason source rates k (low, omega (arith, low, high))) in
-      let l = numbered_there (IsOvernightRate source rates) (periods_of source) 1 member in
+      let l = numbered_there (IsOvernightRate source rates) (source_periods source) 1 member in
       (l.0, record { many = l.1; each = l.2 })
 
   -- there is one
@@ -194,7 +194,7 @@ module _ (t : ResetTerms) (source : ResetSource) (rs : List OvernightRate) where
   resets_by : (float : FloatTerms) (fix : RateTable) (rows : List Reset) → HasResets source float t fix rows
       → (xs : List Reset) × HasOvernightResets t source rs xs
   resets_by float fix rows h =
-      let member : (k : ℕ) → 1 ≤ k → k < 1 + count_of source → (x : Reset) × IsOvernightReset t source.days rs k x = λ k low high.
+      let member : (k : ℕ) → 1 ≤ k → k < 1 + source_period_count source → (x : Reset) × IsOvernightReset t source.days rs k x = λ k low high.
       let e : k < 1 + length rows = let many = h.many in omega (arith, high, many) in
       let row = numbered_has (IsReset source float t fix) 1 rows k h.each low e in (
         record {
@@ -204,7 +204,7 @@ module _ (t : ResetTerms) (source : ResetSource) (rs : List OvernightRate) where
         },
         record { dates = row.1.dates; observed = refl },
       ) in
-      let l = numbered_there (IsOvernightReset t source.days rs) (count_of source) 1 member in
+      let l = numbered_there (IsOvernightReset t source.days rs) (source_period_count source) 1 member in
       (l.0, record { many = l.1; each = l.2 })
 
 -- by the terms that the stream has
@@ -238,7 +238,7 @@ module _ (source : ResetSource) (fix : RateTable) (range : InDays source.days) (
       (λ i r row. dates_dated source fix range t i r row.dates) h.each
 
 -- the rates that are known have a denominator above 0
-pub rates_above : (source : OvernightSource) (fix : RateTable) (rs : List OvernightRate) (i : ℕ) (x : Fraction)
+pub rates_above : (source : OvernightSource) (fix : RateTable) (rs : List OvernightRate) (i : ℕ) (x : RateFraction)
     → AreOvernightRates source fix rs → slice_get rs i ≡ Some (Known x) → pos 0 <ℤ x.denominator
 rates_above source fix rs i x h at =
     known_rate_above source fix (1 + i) x (numbered_get (IsOvernightRate source fix) 1 i rs (Known x) h.each at)

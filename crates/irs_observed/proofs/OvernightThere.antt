@@ -17,15 +17,15 @@ use Rattle.irs_resets.specs.Rates.{RateTable}
 use Rattle.irs_resets.specs.declared.observed.PeriodKind.{PeriodKind}
 use Rattle.irs_resets.proofs.KindLaws.{kind_there, one_kind}
 use Rattle.irs_observed.specs.DailyRates.{AreKnown, DailyRates, Through, daily_rates}
-use Rattle.irs_observed.specs.Factors.{FactorPasses, Grows, Precision, Reaches, one_factor, year_of}
+use Rattle.irs_observed.specs.Factors.{FactorPasses, Grows, Precision, Reaches, one_factor, unit_rate}
 use Rattle.irs_observed.specs.ObservationPeriods.{ObservedPeriod}
-use Rattle.irs_observed.specs.ObservationRules.{Lacks, reported_before, uncovered}
+use Rattle.irs_observed.specs.ObservationRules.{LacksObservations, reported_before, uncovered}
 use Rattle.irs_observed.specs.Observations.{AreObservations, IsObservation, lockout_days, total_weight}
-use Rattle.irs_observed.specs.ObservedRates.{AddsBy, Fraction, IsAveraged, IsCompounded, IsObservedRate}
+use Rattle.irs_observed.specs.ObservedRates.{AddsBy, RateFraction, IsAveraged, IsCompounded, IsObservedRate}
 use Rattle.irs_observed.specs.ObservedRates.{days_of_year, rate_precision}
 use Rattle.irs_observed.specs.Outcomes.{observations_of}
 use Rattle.irs_observed.specs.OvernightRates.{IsKindIn, IsOvernightRate, IsRateBy, IsRateOf, IsRateOver, LacksAt}
-use Rattle.irs_observed.specs.OvernightRates.{OvernightSource, period_of, periods_of}
+use Rattle.irs_observed.specs.OvernightRates.{OvernightSource, period_of, source_periods}
 use Rattle.irs_observed.specs.RateOrigins.{HasOwnRate, StatesRate}
 use Rattle.irs_observed.specs.Private.RateOrigins.{own_rate_of}
 use Rattle.irs_observed.specs.declared.method.DailyRateMethod.{DailyRateMethod}
@@ -108,7 +108,7 @@ module _ (daily : DailyRates) where
     grown_there [] f known = (f, refl)
     grown_there (o ∷ os) f known =
         let rate = some_rate (daily o.observed) known.0 in
-        let next = nearest_exists (f *ℤ (year_of basis +ℤ rate.0 *ℤ pos o.weight)) (year_of basis)
+        let next = nearest_exists (f *ℤ (unit_rate basis +ℤ rate.0 *ℤ pos o.weight)) (unit_rate basis)
         (year_above basis some) in
         let rest = grown_there os next.0 known.1 in
         (rest.0, (next.0, record { rate = rate.0; is_rate = rate.1; rounded = next.1 }, rest.1))
@@ -162,21 +162,21 @@ year_some : (year : YearDays) → 1 ≤ days_of_year year
 year_some Days360 = omega arith
 year_some Days365 = omega arith
 
-same_fraction : (x y : Fraction) → x.numerator ≡ y.numerator → x.denominator ≡ y.denominator → x ≡ y
+same_fraction : (x y : RateFraction) → x.numerator ≡ y.numerator → x.denominator ≡ y.denominator → x ≡ y
 same_fraction x y n d =
-    let make : ℤ → ℤ → Fraction = λ a b. record { numerator = a; denominator = b } in
+    let make : ℤ → ℤ → RateFraction = λ a b. record { numerator = a; denominator = b } in
     ap₂ make n d
 
 -- ---- the rate by observations
 
-known_of_rate : (method : DailyRateMethod) (daily : DailyRates) (os : List Observation) (x : Fraction)
+known_of_rate : (method : DailyRateMethod) (daily : DailyRates) (os : List Observation) (x : RateFraction)
     → IsObservedRate method daily os x → AreKnown daily os
 known_of_rate (Compounding year) daily os x is =
     known_of_factors daily (days_of_year year) (year_some year) os (one_factor rate_precision) is.factor is.grows
 known_of_rate Averaging daily os x is = known_of_sums daily os (pos 0) x.numerator is.sums
 
 -- daily rates give one observed rate
-pub one_fraction : (method : DailyRateMethod) (daily : DailyRates) (os : List Observation) (x y : Fraction)
+pub one_fraction : (method : DailyRateMethod) (daily : DailyRates) (os : List Observation) (x y : RateFraction)
     → IsObservedRate method daily os x → IsObservedRate method daily os y → x ≡ y
 one_fraction (Compounding year) daily os x y a b =
     let same = one_grown rate_precision (days_of_year year) (year_some year) daily os (one_factor rate_precision) a.factor
@@ -217,7 +217,7 @@ compounded_there year daily os = elim (decides_known daily os) [
         | inl passes ↦ (OutOfRange, record { known = known; passes = passes })
         | inr none ↦
             let factor = grown_there daily basis some os (one_factor rate_precision) known in
-            let x : Fraction = record {
+            let x : RateFraction = record {
               numerator = (factor.0 -ℤ one_factor rate_precision) *ℤ pos basis;
               denominator = one_factor rate_precision *ℤ pos (total_weight os);
             } in
@@ -232,7 +232,7 @@ averaged_there daily os = elim (decides_known daily os) [
   | inr not ↦ (Absent, (λ h. h, not))
   | inl known ↦
       let sum = sums_there daily os (pos 0) known in
-      let x : Fraction = record {
+      let x : RateFraction = record {
         numerator = sum.0;
         denominator = pos (10 ^ 9) *ℤ pos (total_weight os);
       } in
@@ -261,7 +261,7 @@ first_weight offset set u b rising below some (o ∷ os) many each =
 
 -- a period that lacks nothing observes some day
 some_weight : (p : ObservedPeriod) (os : List Observation) → AreObservations p os
-    → ((why : NoObservations) → Lacks p why → ⊥) → 0 < total_weight os
+    → ((why : NoObservations) → LacksObservations p why → ⊥) → 0 < total_weight os
 some_weight p os h none = elim (cases_lt (lockout_days p.offset) (length h.members)) [
   | inr few ↦ absurd (none FewMembers (record {
     from = h.from;
@@ -301,7 +301,7 @@ module _ (source : OvernightSource) (rates : RateTable) (i : ℕ) where
   pub one_rate_at : (r s : OvernightRate) → IsOvernightRate source rates i r → IsOvernightRate source rates i s → r ≡ s
   one_rate_at r s h k =
       let same : h.kind ≡ k.kind =
-      one_kind source.stream source.span (periods_of source) i h.kind k.kind h.is_kind k.is_kind in
+      one_kind source.stream source.span (source_periods source) i h.kind k.kind h.is_kind k.is_kind in
       one_rate_of k.kind r s
       (subst (λ (kind : PeriodKind). IsRateOf source (daily_rates rates source.index) i kind r) same h.is_rate)
       k.is_rate
@@ -318,15 +318,15 @@ module _ (source : OvernightSource) (rates : RateTable) (i : ℕ) where
     with_own own states =
         rate (Stated own) (record { kind = kind; is_kind = is; is_rate = inl (own, states, refl) })
         (λ why h.
-        let same = one_kind source.stream source.span (periods_of source) i h.kind kind h.is_kind is in
+        let same = one_kind source.stream source.span (source_periods source) i h.kind kind h.is_kind is in
         h.daily (own, subst (λ (k : PeriodKind). StatesRate k source.stream.stubs own) (sym same) states))
 
     module _ (daily : HasOwnRate kind source.stream.stubs → ⊥) where
-      lacks_so : (why : NoObservations) → Lacks (period_of source i) why → LacksAt source i why
+      lacks_so : (why : NoObservations) → LacksObservations (period_of source i) why → LacksAt source i why
       lacks_so why lacks =
           record { period = period; kind = kind; is_kind = is; daily = daily; lacks = lacks }
 
-      with_reason : (why : NoObservations) → First reported_before (Lacks (period_of source i)) why → RateOrReason
+      with_reason : (why : NoObservations) → First reported_before (LacksObservations (period_of source i)) why → RateOrReason
       with_reason FewMembers first = few (lacks_so FewMembers first.0)
       with_reason NoDay first =
           no_day (lacks_so NoDay first.0) (λ h. let e = first.1 FewMembers h.lacks in absurd (cc))
@@ -360,11 +360,11 @@ module _ (source : OvernightSource) (rates : RateTable) (i : ℕ) where
   -- which of them is decided
   pub rate_or_reason : IsPeriod source.adjusted i → RateOrReason
   rate_or_reason period =
-      let kind = kind_there source.stream source.span (periods_of source) i in
+      let kind = kind_there source.stream source.span (source_periods source) i in
       by_own period kind.0 kind.1 (own_rate_of kind.0 source.stream.stubs) refl
 
 -- the fraction of a rate that is known has a denominator above 0
-pub known_above : (method : DailyRateMethod) (daily : DailyRates) (p : ObservedPeriod) (x : Fraction)
+pub known_above : (method : DailyRateMethod) (daily : DailyRates) (p : ObservedPeriod) (x : RateFraction)
     → IsRateOver method daily p (Known x) → pos 0 <ℤ x.denominator
 known_above (Compounding year) daily p x h =
     let some = h.some in
@@ -376,7 +376,7 @@ known_above Averaging daily p x h =
     omega (arith, signed_arith, some, denominator)
 
 -- and so has that of a period
-pub known_rate_above : (source : OvernightSource) (rates : RateTable) (i : ℕ) (x : Fraction)
+pub known_rate_above : (source : OvernightSource) (rates : RateTable) (i : ℕ) (x : RateFraction)
     → IsOvernightRate source rates i (Known x) → pos 0 <ℤ x.denominator
 known_rate_above source rates i x h = elim h.is_rate [
   | inl stated ↦ let e : Known x ≡ Stated stated.0 = stated.2 in absurd (cc)

@@ -3,10 +3,10 @@ use Rattle.std.proofs.Common.{◌≡◌, ◌-◌, ◌^◌, ℤ, pos, ◌+ℤ◌,
 use Rattle.irs_base.proofs.RoundingLaws.{rounded_is, rounded_value}
 use Rattle.irs_base.specs.Rounding.{rounded}
 use Rattle.irs_terms.specs.declared.amounts.Rounding.{Rounding}
-use Rattle.irs_observed.specs.ObservedRates.{Fraction, IsPeriodRate, period_rate_at}
+use Rattle.irs_observed.specs.ObservedRates.{RateFraction, IsPeriodRate, period_rate_at}
 use Rattle.irs_observed.proofs.SizeLemmas.{units_above}
 
-module _ (x : Fraction) (above : pos 0 <ℤ x.denominator) (multiplier spread : ℤ) (rounding : Rounding) where
+module _ (x : RateFraction) (above : pos 0 <ℤ x.denominator) (multiplier spread : ℤ) (rounding : Rounding) where
   -- the function gives the rate of a period
   pub period_rate_is : IsPeriodRate x multiplier spread rounding (period_rate_at x multiplier spread rounding)
   period_rate_is = record {

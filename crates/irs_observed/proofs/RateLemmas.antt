@@ -9,8 +9,10 @@ use Rattle.irs_base.specs.Rounding.{Rounded}
 use Rattle.irs_base.specs.declared.rounding.Direction.TheVariants.{Nearest}
 use Rattle.irs_base.proofs.RoundingLaws.{nearest_once}
 use Rattle.irs_observed.specs.DailyRates.{DailyRates, Through}
-use Rattle.irs_observed.specs.Factors.{Grows, one_factor, year_of}
-use Rattle.irs_observed.specs.ObservedRates.{AddsBy, Fraction, IsAveraged, IsCompounded, IsObservedRate, IsPrinted, days_of_year}
+use Rattle.irs_observed.specs.Factors.{Grows, one_factor, unit_rate}
+use Rattle.irs_observed.specs.ObservedRates.{AddsBy, RateFraction, IsAveraged, IsCompounded, IsObservedRate}
+use Rattle.irs_observed.specs.ObservedRates.{IsPrintedRate}
+use Rattle.irs_observed.specs.ObservedRates.{days_of_year}
 use Rattle.irs_observed.specs.ObservedRates.{rate_precision}
 use Rattle.irs_observed.specs.Observations.{total_weight}
 use Rattle.irs_observed.specs.RateLaws.{EachRate, NotAbove, NotBelow, OneGivesItself, ZeroGivesZero}
@@ -29,23 +31,23 @@ rate_meets P (Some x) r h e = let same : x ≡ r = cc in subst P same h
 -- ---- rates of 0
 
 -- a factor that no interest is earned on stays
-stays : (basis w : ℕ) (f g : ℤ) → 1 ≤ basis → Rounded Nearest (f *ℤ (year_of basis +ℤ pos 0 *ℤ pos w)) (year_of basis) g
+stays : (basis w : ℕ) (f g : ℤ) → 1 ≤ basis → Rounded Nearest (f *ℤ (unit_rate basis +ℤ pos 0 *ℤ pos w)) (unit_rate basis) g
     → g ≡ f
 stays basis w f g some h =
     let above = year_above basis some in
-    let none : year_of basis +ℤ pos 0 *ℤ pos w ≡ year_of basis = omega (arith, signed_arith) in
-    let moved : Rounded Nearest (f *ℤ year_of basis) (year_of basis) g = subst (λ (y : ℤ). Rounded Nearest (f *ℤ y) (year_of basis) g) none h in
-    let itself : Rounded Nearest (f *ℤ year_of basis) (year_of basis) f =
+    let none : unit_rate basis +ℤ pos 0 *ℤ pos w ≡ unit_rate basis = omega (arith, signed_arith) in
+    let moved : Rounded Nearest (f *ℤ unit_rate basis) (unit_rate basis) g = subst (λ (y : ℤ). Rounded Nearest (f *ℤ y) (unit_rate basis) g) none h in
+    let itself : Rounded Nearest (f *ℤ unit_rate basis) (unit_rate basis) f =
     (omega (arith, signed_arith, above), omega (arith, signed_arith, above)) in
-    nearest_once (f *ℤ year_of basis) (year_of basis) g f above moved itself
+    nearest_once (f *ℤ unit_rate basis) (unit_rate basis) g f above moved itself
 
 all_stay : (basis : ℕ) (daily : DailyRates) → 1 ≤ basis → (os : List Observation) (f g : ℤ) → Grows basis daily os f g
     → EachRate daily (λ r. r ≡ pos 0) os → g ≡ f
 all_stay basis daily some [] f g p zeros = p
 all_stay basis daily some (o ∷ os) f g p zeros =
     let rate = rate_meets (λ r. r ≡ pos 0) (daily o.observed) p.1.rate zeros.0 p.1.is_rate in
-    let by : Rounded Nearest (f *ℤ (year_of basis +ℤ pos 0 *ℤ pos o.weight)) (year_of basis) p.0 =
-    subst (λ (r : ℤ). Rounded Nearest (f *ℤ (year_of basis +ℤ r *ℤ pos o.weight)) (year_of basis) p.0) rate
+    let by : Rounded Nearest (f *ℤ (unit_rate basis +ℤ pos 0 *ℤ pos o.weight)) (unit_rate basis) p.0 =
+    subst (λ (r : ℤ). Rounded Nearest (f *ℤ (unit_rate basis +ℤ r *ℤ pos o.weight)) (unit_rate basis) p.0) rate
     p.1.rounded in
     all_stay basis daily some os p.0 g p.2 zeros.1 ∙ stays basis o.weight f p.0 some by
 
@@ -152,8 +154,8 @@ one_mean r z w some printed =
 
 -- by a year of either length
 one_by : (year : YearDays) (r f z : ℤ) (w : ℕ) → 0 < w
-    → Rounded Nearest (one_factor rate_precision *ℤ (year_of (days_of_year year) +ℤ r *ℤ pos w))
-    (year_of (days_of_year year)) f
+    → Rounded Nearest (one_factor rate_precision *ℤ (unit_rate (days_of_year year) +ℤ r *ℤ pos w))
+    (unit_rate (days_of_year year)) f
     → Rounded Nearest (pos (10 ^ 9) *ℤ ((f -ℤ one_factor rate_precision) *ℤ pos (days_of_year year)))
     (one_factor rate_precision *ℤ pos (w + 0)) z → z ≡ r
 one_by Days360 r f z w some factor printed = one_360 r f z w some factor printed
@@ -163,25 +165,25 @@ same_rate : (a b : ℤ) (found : Option ℤ) → found ≡ Some a → found ≡ 
 same_rate a b found h k = cc
 
 -- over one observation
-module _ (daily : DailyRates) (o : Observation) (r z : ℤ) (x : Fraction) (known : daily o.observed ≡ Some r)
+module _ (daily : DailyRates) (o : Observation) (r z : ℤ) (x : RateFraction) (known : daily o.observed ≡ Some r)
     (some : 0 < o.weight) where
-  one_compounded : (year : YearDays) → IsCompounded (days_of_year year) daily (o ∷ []) x → IsPrinted x z → z ≡ r
+  one_compounded : (year : YearDays) → IsCompounded (days_of_year year) daily (o ∷ []) x → IsPrintedRate x z → z ≡ r
   one_compounded year is printed =
       let step = is.grows.1 in
       let same = same_rate step.rate r (daily o.observed) step.is_rate known in
       let last : is.factor ≡ is.grows.0 = is.grows.2 in
       let rounded = subst (λ (f : ℤ). Rounded Nearest
-      (one_factor rate_precision *ℤ (year_of (days_of_year year) +ℤ step.rate *ℤ pos o.weight))
-      (year_of (days_of_year year)) f) (sym last) step.rounded in
+      (one_factor rate_precision *ℤ (unit_rate (days_of_year year) +ℤ step.rate *ℤ pos o.weight))
+      (unit_rate (days_of_year year)) f) (sym last) step.rounded in
       let factor = subst (λ (v : ℤ). Rounded Nearest
-      (one_factor rate_precision *ℤ (year_of (days_of_year year) +ℤ v *ℤ pos o.weight))
-      (year_of (days_of_year year)) is.factor) same rounded in
+      (one_factor rate_precision *ℤ (unit_rate (days_of_year year) +ℤ v *ℤ pos o.weight))
+      (unit_rate (days_of_year year)) is.factor) same rounded in
       let upper = subst (λ (n : ℤ). Rounded Nearest (pos (10 ^ 9) *ℤ n) x.denominator z) is.numerator printed in
       let lower = subst (λ (d : ℤ). Rounded Nearest
       (pos (10 ^ 9) *ℤ ((is.factor -ℤ one_factor rate_precision) *ℤ pos (days_of_year year))) d z) is.denominator upper in
       one_by year r is.factor z o.weight some factor lower
 
-  one_averaged : IsAveraged daily (o ∷ []) x → IsPrinted x z → z ≡ r
+  one_averaged : IsAveraged daily (o ∷ []) x → IsPrintedRate x z → z ≡ r
   one_averaged is printed =
       let step = is.sums.1 in
       let same = same_rate step.rate r (daily o.observed) step.is_rate known in
@@ -193,8 +195,8 @@ module _ (daily : DailyRates) (o : Observation) (r z : ℤ) (x : Fraction) (know
       let lower = subst (λ (d : ℤ). Rounded Nearest (pos (10 ^ 9) *ℤ (r *ℤ pos o.weight)) d z) is.denominator upper in
       one_mean r z o.weight some lower
 
-one_method : (method : DailyRateMethod) (daily : DailyRates) (o : Observation) (r z : ℤ) (x : Fraction) → 0 < o.weight
-    → daily o.observed ≡ Some r → IsObservedRate method daily (o ∷ []) x → IsPrinted x z → z ≡ r
+one_method : (method : DailyRateMethod) (daily : DailyRates) (o : Observation) (r z : ℤ) (x : RateFraction) → 0 < o.weight
+    → daily o.observed ≡ Some r → IsObservedRate method daily (o ∷ []) x → IsPrintedRate x z → z ≡ r
 one_method (Compounding year) daily o r z x some known is printed = one_compounded daily o r z x known some year is printed
 one_method Averaging daily o r z x some known is printed = one_averaged daily o r z x known some is printed
 

@@ -7,10 +7,10 @@ use Rattle.irs_base.specs.declared.stopped.Stopped.{Stopped}
 use Rattle.irs_base.specs.declared.stopped.Stopped.TheVariants.{Broken as OfBroken, Memory as OfMemory}
 use Rattle.irs_calendar.specs.GoodDays.{DaySet}
 use Rattle.irs_observed.specs.ObservationPeriods.{IsObservationPeriod, ObservedPeriod}
-use Rattle.irs_observed.specs.ObservationRules.{HasFewMembers, Lacks, LacksDay, no_period}
+use Rattle.irs_observed.specs.ObservationRules.{HasFewMembers, LacksObservations, LacksObservedDay, no_period}
 use Rattle.irs_observed.specs.ObservationRules.{reported_before, uncovered, unobserved}
 use Rattle.irs_observed.specs.Observations.{AreObserved, ObservesOn, lockout_days, place_observed}
-use Rattle.irs_observed.specs.PeriodMembers.{AreMembers, IsMember, LeavesCover}
+use Rattle.irs_observed.specs.PeriodMembers.{AreMembers, IsPeriodMember, LeavesCover}
 use Rattle.irs_observed.specs.declared.observation.NoObservations.{NoObservations}
 use Rattle.irs_observed.specs.declared.observation.NoObservations.TheVariants.{FewMembers, NoDay}
 use Rattle.irs_observed.proofs.MemberLemmas.{one_members}
@@ -24,7 +24,7 @@ use Rattle.irs_observed.proofs.ListLemmas.{member_place}
 use Rattle.irs_observed.proofs.WalkLemmas.{own_place, prev_at}
 
 -- too few members come first
-pub few_first : (p : ObservedPeriod) → HasFewMembers p → First reported_before (Lacks p) FewMembers
+pub few_first : (p : ObservedPeriod) → HasFewMembers p → First reported_before (LacksObservations p) FewMembers
 few_first p few = (few, λ y h. by y)
   where
     by : (y : NoObservations) → reported_before y FewMembers ≡ false
@@ -32,16 +32,16 @@ few_first p few = (few, λ y h. by y)
     by NoDay = refl
 
 -- a day without a result comes first where there are members enough
-pub no_day_first : (p : ObservedPeriod) → LacksDay p → (HasFewMembers p → ⊥) → First reported_before (Lacks p) NoDay
+pub no_day_first : (p : ObservedPeriod) → LacksObservedDay p → (HasFewMembers p → ⊥) → First reported_before (LacksObservations p) NoDay
 no_day_first p lacks enough = (lacks, by)
   where
-    by : (y : NoObservations) → Lacks p y → reported_before y NoDay ≡ false
+    by : (y : NoObservations) → LacksObservations p y → reported_before y NoDay ≡ false
     by FewMembers h = absurd (enough h)
     by NoDay h = refl
 
 -- without an observation period
 pub refused_period : (p : ObservedPeriod) → ((a b : ℤ) → IsObservationPeriod p a b → ⊥)
-    → First reported_before (Lacks p) NoDay
+    → First reported_before (LacksObservations p) NoDay
 refused_period p none = no_day_first p (no_period none) (λ few. none few.from few.to few.period)
 
 module _ (p : ObservedPeriod) (a b : ℤ) (period : IsObservationPeriod p a b) where
@@ -58,14 +58,14 @@ module _ (p : ObservedPeriod) (a b : ℤ) (period : IsObservationPeriod p a b) w
       subst (λ (x : ℤ). LeavesCover p.days c x) end (subst (λ (x : ℤ). LeavesCover p.days x b) start leaves)
 
   -- with a day outside the cover
-  pub refused_uncovered : LeavesCover p.days a b → First reported_before (Lacks p) NoDay
+  pub refused_uncovered : LeavesCover p.days a b → First reported_before (LacksObservations p) NoDay
   refused_uncovered leaves =
       no_day_first p (uncovered (record { from = a; to = b; period = period; leaves = leaves }))
       (λ few. few.covered (leaves_other few.from few.to few.period leaves))
 
   module _ (covered : LeavesCover p.days a b → ⊥) (u : List ℤ) (are : AreMembers p.days a b u) where
     -- with too few members
-    pub refused_few : length u ≤ lockout_days p.offset → First reported_before (Lacks p) FewMembers
+    pub refused_few : length u ≤ lockout_days p.offset → First reported_before (LacksObservations p) FewMembers
     refused_few few =
         few_first p (record {
           from = a;
@@ -94,22 +94,22 @@ module _ (p : ObservedPeriod) (a b : ℤ) (period : IsObservationPeriod p a b) w
           omega (arith, fewer, e, enough)
 
       -- with a member that has no observation day
-      pub refused_member : (d : ℤ) → IsMember p.days a b d → ((o : ℤ) → ObservesOn p.offset p.days d o → ⊥)
-          → First reported_before (Lacks p) NoDay
+      pub refused_member : (d : ℤ) → IsPeriodMember p.days a b d → ((o : ℤ) → ObservesOn p.offset p.days d o → ⊥)
+          → First reported_before (LacksObservations p) NoDay
       refused_member d is none =
           no_day_first p
           (unobserved (record { from = a; to = b; period = period; member = d; is_member = is; none = none }))
           not_few
 
-      member_same : (c d x : ℤ) → IsObservationPeriod p c d → IsMember p.days c d x → IsMember p.days a b x
+      member_same : (c d x : ℤ) → IsObservationPeriod p c d → IsPeriodMember p.days c d x → IsPeriodMember p.days a b x
       member_same c d x other is =
           let start = one_start p c d a b other period in
           let end = one_end p c d a b other period in
-          subst (λ (z : ℤ). IsMember p.days a z x) end (subst (λ (z : ℤ). IsMember p.days z d x) start is)
+          subst (λ (z : ℤ). IsPeriodMember p.days a z x) end (subst (λ (z : ℤ). IsPeriodMember p.days z d x) start is)
 
       -- nothing is lacking where each member has an observation day
       pub none_lacks : ((k : ℕ) → k < length u → (o : ℤ) × ObservesOn p.offset p.days (day_at u k) o)
-          → (y : NoObservations) → Lacks p y → ⊥
+          → (y : NoObservations) → LacksObservations p y → ⊥
       none_lacks observes FewMembers few = not_few few
       none_lacks observes NoDay (no_period none) = none a b period
       none_lacks observes NoDay (uncovered h) = covered (leaves_same h.from h.to h.period h.leaves)

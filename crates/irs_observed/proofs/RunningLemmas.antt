@@ -13,13 +13,13 @@ use Rattle.irs_observed.specs.OvernightRates.{IsRateBy}
 use Rattle.irs_observed.specs.RunningRates.{AddsUpUntil, IsRateBefore, IsRateUntil}
 use Rattle.irs_observed.specs.Private.RunningRates.{BeginsBefore}
 use Rattle.irs_observed.specs.RunningRates.{ends_by, observed_until}
-use Rattle.irs_observed.specs.ObservedRates.{Fraction}
+use Rattle.irs_observed.specs.ObservedRates.{RateFraction}
 use Rattle.irs_observed.specs.declared.method.DailyRateMethod.{DailyRateMethod}
 use Rattle.irs_observed.specs.declared.method.DailyRateMethod.TheVariants.{Compounding, Averaging}
 use Rattle.irs_observed.specs.declared.observation.Observation.{Observation}
 use Rattle.irs_observed.specs.declared.overnight_rate.OvernightRate.{OvernightRate}
 use Rattle.irs_observed.specs.declared.overnight_rate.OvernightRate.TheVariants.{Known, Absent}
-use Rattle.irs_observed.specs.PeriodMembers.{IsMember, member_or_end}
+use Rattle.irs_observed.specs.PeriodMembers.{IsPeriodMember, member_or_end}
 use Rattle.irs_terms.specs.declared.parameters.ObservationOffset.{ObservationOffset}
 use Rattle.irs_base.proofs.Decided.{order_of}
 use Rattle.irs_observed.proofs.ListLemmas.{at_or_end, member_place, past_end, rises_to}
@@ -209,7 +209,7 @@ adds_up_until p d os a b has period low high =
     let u = are.members in
     let start = one_start p are.from are.to a b are.period period in
     let end = one_end p are.from are.to a b are.period period in
-    let inside : IsMember p.days are.from are.to are.from =
+    let inside : IsPeriodMember p.days are.from are.to are.from =
     (omega (arith, signed_arith), omega (arith, signed_arith, start, end, low, high), inl refl) in
     let at = member_place are.from u (are.are_members.complete are.from inside) in
     let some : 0 < length u = omega (arith, at.1) in
@@ -240,7 +240,7 @@ one_before method daily p d x y (inl h) (inr k) = absurd (h.has.0 k.0 k.1)
 one_before method daily p d x y (inr h) (inl k) = absurd (k.has.0 h.0 h.1)
 one_before method daily p d x y (inr h) (inr k) = h.2 ∙ sym k.2
 
-until_above : (method : DailyRateMethod) (daily : DailyRates) (p : ObservedPeriod) (d : ℤ) (x : Fraction)
+until_above : (method : DailyRateMethod) (daily : DailyRates) (p : ObservedPeriod) (d : ℤ) (x : RateFraction)
     → IsRateUntil method daily p d (Known x) → pos 0 <ℤ x.denominator
 until_above (Compounding year) daily p d x h =
     let some = h.some in
@@ -252,7 +252,7 @@ until_above Averaging daily p d x h =
     omega (arith, signed_arith, some, denominator)
 
 -- the fraction of a rate that is known has a denominator above 0
-pub before_above : (method : DailyRateMethod) (daily : DailyRates) (p : ObservedPeriod) (d : ℤ) (x : Fraction)
+pub before_above : (method : DailyRateMethod) (daily : DailyRates) (p : ObservedPeriod) (d : ℤ) (x : RateFraction)
     → IsRateBefore method daily p d (Known x) → pos 0 <ℤ x.denominator
 before_above method daily p d x (inl h) = until_above method daily p d x h
 before_above method daily p d x (inr h) = let e : Known x ≡ Absent = h.2 in absurd (cc)

@@ -8,7 +8,7 @@ use Rattle.irs_base.specs.Rounding.{Rounded}
 use Rattle.irs_base.specs.declared.rounding.Direction.{Direction}
 use Rattle.irs_base.proofs.RoundingLaws.{rounded_size}
 use Rattle.irs_terms.specs.declared.amounts.Rounding.{Rounding}
-use Rattle.irs_observed.specs.ObservedRates.{Fraction, IsPeriodRate, IsPrinted, most_observed, most_period_rate}
+use Rattle.irs_observed.specs.ObservedRates.{RateFraction, IsPeriodRate, IsPrintedRate, most_observed, most_period_rate}
 
 -- p/q is rounded to at most a whole number that it doesn't pass in size
 pub rounded_within : (dir : Direction) (p q m : ℤ) (l : ℕ) → pos 0 <ℤ q → unsigned_abs p ≤ l * unsigned_abs q
@@ -64,15 +64,15 @@ scaled_size n t w h e k =
 -- ---- the parts of a rate
 
 -- the rate of a period depends only on the numerator and the denominator
-pub period_rate_of : (x : Fraction) (n d m s z : ℤ) (rounding : Rounding) → n ≡ x.numerator → d ≡ x.denominator
+pub period_rate_of : (x : RateFraction) (n d m s z : ℤ) (rounding : Rounding) → n ≡ x.numerator → d ≡ x.denominator
     → IsPeriodRate (record { numerator = n; denominator = d }) m s rounding z → IsPeriodRate x m s rounding z
 period_rate_of x n d m s z rounding numerator denominator is =
     subst (λ (e : ℤ). IsPeriodRate (record { numerator = x.numerator; denominator = e }) m s rounding z) denominator
     (subst (λ (k : ℤ). IsPeriodRate (record { numerator = k; denominator = d }) m s rounding z) numerator is)
 
 -- the printed rate depends only on the numerator and the denominator
-pub printed_of : (x : Fraction) (n d z : ℤ) → n ≡ x.numerator → d ≡ x.denominator
-    → IsPrinted (record { numerator = n; denominator = d }) z → IsPrinted x z
+pub printed_of : (x : RateFraction) (n d z : ℤ) → n ≡ x.numerator → d ≡ x.denominator
+    → IsPrintedRate (record { numerator = n; denominator = d }) z → IsPrintedRate x z
 printed_of x n d z numerator denominator is =
-    subst (λ (e : ℤ). IsPrinted (record { numerator = x.numerator; denominator = e }) z) denominator
-    (subst (λ (k : ℤ). IsPrinted (record { numerator = k; denominator = d }) z) numerator is)
+    subst (λ (e : ℤ). IsPrintedRate (record { numerator = x.numerator; denominator = e }) z) denominator
+    (subst (λ (k : ℤ). IsPrintedRate (record { numerator = k; denominator = d }) z) numerator is)

@@ -11,7 +11,7 @@ use Rattle.irs_adjust.specs.declared.ways.Way.TheVariants.{Back}
 use Rattle.irs_adjust.proofs.WayLemmas.{Reached, moved, reached_more, reached_none}
 use Rattle.irs_observed.specs.ObservationPeriods.{MovesBack}
 use Rattle.irs_observed.specs.Private.ObservationWalk.{IsWalk, LooksBack, good_at}
-use Rattle.irs_observed.specs.PeriodMembers.{AreMembers, IsMember, LeavesCover}
+use Rattle.irs_observed.specs.PeriodMembers.{AreMembers, IsPeriodMember, LeavesCover}
 use Rattle.irs_observed.proofs.ListLemmas.{at_member, at_or_end, first_lowest, member_place, none_between}
 use Rattle.irs_observed.proofs.ListLemmas.{rises_to}
 use Rattle.irs_observed.proofs.MemberLemmas.{covered_day}
@@ -24,7 +24,7 @@ pub good_later : (q : ℤ) (u : List ℤ) (k : ℕ) → good_at q u (suc k) ≡ 
 good_later q u k = rw (not_zero k) refl
 
 module _ (set : DaySet) (a b : ℤ) (u : List ℤ) (are : AreMembers set a b u) where
-  pub member_at : (k : ℕ) → k < length u → IsMember set a b (day_at u k)
+  pub member_at : (k : ℕ) → k < length u → IsPeriodMember set a b (day_at u k)
   member_at k h = are.sound (day_at u k) (at_member u k h)
 
   first_by : (k : ℕ) → k < length u → a ≡ day_at u k → a ≤ℤ day_at u 0 → day_at u 0 ≡ a
@@ -39,7 +39,7 @@ module _ (set : DaySet) (a b : ℤ) (u : List ℤ) (are : AreMembers set a b u) 
       let first = member_at 0 some in
       let low = first.0 in
       let high = first.1 in
-      let here : IsMember set a b a =
+      let here : IsPeriodMember set a b a =
       (omega (arith, signed_arith), omega (arith, signed_arith, low, high), inl refl) in
       let at = member_place a u (are.complete a here) in
       first_by at.0 at.1 at.2 low
@@ -64,7 +64,7 @@ module _ (set : DaySet) (a b : ℤ) (u : List ℤ) (are : AreMembers set a b u) 
   none_good_between k x h low high good =
       let before = (member_at k (omega (arith, h))).0 in
       let after = (member_at (suc k) h).1 in
-      let is : IsMember set a b x =
+      let is : IsPeriodMember set a b x =
       (omega (arith, signed_arith, before, low), omega (arith, signed_arith, high, after), inr good) in
       none_between u k x are.rising h low high (are.complete x is)
 

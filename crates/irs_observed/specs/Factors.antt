@@ -15,15 +15,15 @@ abbrev pub one_factor : Precision → ℤ
 one_factor p = pos (10 ^ p.decimals)
 
 -- the rate 1 for a year of that many days
-abbrev pub year_of : ℕ → ℤ
-year_of basis = pos (10 ^ 9 * basis)
+abbrev pub unit_rate : ℕ → ℤ
+unit_rate basis = pos (10 ^ 9 * basis)
 
 -- the factor f becomes g by simple interest at the daily rate over the weight, by a year of basis days. It is
 -- rounded in its own units, so that one relation serves every precision
 pub record GrowsBy (basis : ℕ) (daily : DailyRates) (o : Observation) (f g : ℤ) : Type 0 where
   pub rate : ℤ
   pub is_rate : daily o.observed ≡ Some rate
-  pub rounded : Rounded Nearest (f *ℤ (year_of basis +ℤ rate *ℤ pos o.weight)) (year_of basis) g
+  pub rounded : Rounded Nearest (f *ℤ (unit_rate basis +ℤ rate *ℤ pos o.weight)) (unit_rate basis) g
 
 -- the factor f becomes g through the observations
 abbrev pub Grows : ℕ → DailyRates → List Observation → ℤ → ℤ → Type 0

@@ -2,7 +2,7 @@
 use Rattle.std.specs.Prelude.{◌≤◌, Bool, true, false, List, length, ℤ}
 use Rattle.irs_observed.specs.ObservationPeriods.{IsObservationPeriod, ObservedPeriod}
 use Rattle.irs_observed.specs.Observations.{ObservesOn, lockout_days}
-use Rattle.irs_observed.specs.PeriodMembers.{AreMembers, IsMember, LeavesCover}
+use Rattle.irs_observed.specs.PeriodMembers.{AreMembers, IsPeriodMember, LeavesCover}
 use Rattle.irs_observed.specs.declared.observation.NoObservations.{NoObservations}
 use Rattle.irs_observed.specs.declared.observation.NoObservations.TheVariants.{FewMembers, NoDay}
 
@@ -30,19 +30,19 @@ pub record IsUnobserved (p : ObservedPeriod) : Type 0 where
   pub to : ℤ
   pub period : IsObservationPeriod p from to
   pub member : ℤ
-  pub is_member : IsMember p.days from to member
+  pub is_member : IsPeriodMember p.days from to member
   pub none : (o : ℤ) → ObservesOn p.offset p.days member o → ⊥
 
 -- a day has no result: an end of the observation period, a day of it in the cover, or an observation day
-pub data LacksDay (p : ObservedPeriod) : Type 0 where
-  no_period : ((a b : ℤ) → IsObservationPeriod p a b → ⊥) → LacksDay p
-  uncovered : IsUncovered p → LacksDay p
-  unobserved : IsUnobserved p → LacksDay p
+pub data LacksObservedDay (p : ObservedPeriod) : Type 0 where
+  no_period : ((a b : ℤ) → IsObservationPeriod p a b → ⊥) → LacksObservedDay p
+  uncovered : IsUncovered p → LacksObservedDay p
+  unobserved : IsUnobserved p → LacksObservedDay p
 
 -- the period has no observations for this reason
-abbrev pub Lacks : ObservedPeriod → NoObservations → Type 0
-Lacks p FewMembers = HasFewMembers p
-Lacks p NoDay = LacksDay p
+abbrev pub LacksObservations : ObservedPeriod → NoObservations → Type 0
+LacksObservations p FewMembers = HasFewMembers p
+LacksObservations p NoDay = LacksObservedDay p
 
 -- too few members are reported before a day without a result
 abbrev pub reported_before : NoObservations → NoObservations → Bool

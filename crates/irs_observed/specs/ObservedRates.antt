@@ -24,7 +24,7 @@ abbrev pub rate_precision : Precision
 rate_precision = record { decimals = 18; most = 10 ^ 22 }
 
 -- the rate numerator / denominator, 1 being 100 per cent
-pub record Fraction : Type 0 where
+pub record RateFraction : Type 0 where
   pub numerator : ℤ
   pub denominator : ℤ
 
@@ -35,19 +35,19 @@ pub record AddsBy (daily : DailyRates) (o : Observation) (f g : ℤ) : Type 0 wh
   pub sum : g ≡ f +ℤ rate *ℤ pos o.weight
 
 -- x is the rate that gives the last factor by simple interest over the days of the observation period
-pub record IsCompounded (basis : ℕ) (daily : DailyRates) (os : List Observation) (x : Fraction) : Type 0 where
+pub record IsCompounded (basis : ℕ) (daily : DailyRates) (os : List Observation) (x : RateFraction) : Type 0 where
   pub factor : ℤ
   pub grows : Grows basis daily os (one_factor rate_precision) factor
   pub numerator : x.numerator ≡ (factor -ℤ one_factor rate_precision) *ℤ pos basis
   pub denominator : x.denominator ≡ one_factor rate_precision *ℤ pos (total_weight os)
 
 -- x is the average of the daily rates by their weights
-pub record IsAveraged (daily : DailyRates) (os : List Observation) (x : Fraction) : Type 0 where
+pub record IsAveraged (daily : DailyRates) (os : List Observation) (x : RateFraction) : Type 0 where
   pub sums : Through (AddsBy daily) os (pos 0) x.numerator
   pub denominator : x.denominator ≡ pos (10 ^ 9) *ℤ pos (total_weight os)
 
 -- x is the observed rate by the daily rates of the observations, not rounded
-abbrev pub IsObservedRate : DailyRateMethod → DailyRates → List Observation → Fraction → Type 0
+abbrev pub IsObservedRate : DailyRateMethod → DailyRates → List Observation → RateFraction → Type 0
 IsObservedRate (Compounding year) daily os x = IsCompounded (days_of_year year) daily os x
 IsObservedRate Averaging daily os x = IsAveraged daily os x
 
@@ -62,7 +62,7 @@ PassesLimit (Compounding year) daily os = CompoundsPast (days_of_year year) dail
 PassesLimit Averaging daily os = ⊥
 
 -- the observed rate, or none where a daily rate is absent
-abbrev pub IsRateOrAbsent : DailyRateMethod → DailyRates → List Observation → Option Fraction → Type 0
+abbrev pub IsRateOrAbsent : DailyRateMethod → DailyRates → List Observation → Option RateFraction → Type 0
 IsRateOrAbsent method daily os None = AreKnown daily os → ⊥
 IsRateOrAbsent method daily os (Some x) = IsObservedRate method daily os x
 
@@ -71,7 +71,7 @@ abbrev pub most_observed : ℕ
 most_observed = 3_650_365
 
 -- the bounds of an observed rate
-pub record IsBounded (x : Fraction) : Type 0 where
+pub record IsBounded (x : RateFraction) : Type 0 where
   pub above : pos 0 <ℤ x.denominator
   pub denominator : unsigned_abs x.denominator ≤ 10 ^ 18 * all_days
   pub numerator : unsigned_abs x.numerator ≤ 4 * 10 ^ 24
@@ -82,19 +82,19 @@ abbrev pub most_period_rate : ℕ
 most_period_rate = (most_observed + 1) * 10 ^ 10
 
 -- z is the rate as a whole number of 10^-9
-abbrev pub IsPrinted : Fraction → ℤ → Type 0
-IsPrinted x z = Rounded Nearest (pos (10 ^ 9) *ℤ x.numerator) x.denominator z
+abbrev pub IsPrintedRate : RateFraction → ℤ → Type 0
+IsPrintedRate x z = Rounded Nearest (pos (10 ^ 9) *ℤ x.numerator) x.denominator z
 
 -- r is the multiplier times the rate, plus the spread, rounded once to the decimals. All three are in units
 -- of 10^-9
-pub record IsPeriodRate (x : Fraction) (multiplier spread : ℤ) (rounding : Rounding) (r : ℤ) : Type 0 where
+pub record IsPeriodRate (x : RateFraction) (multiplier spread : ℤ) (rounding : Rounding) (r : ℤ) : Type 0 where
   pub whole : ℤ
   pub rounded : Rounded rounding.dir (multiplier *ℤ x.numerator +ℤ spread *ℤ x.denominator)
       (pos (10 ^ (9 - rounding.places)) *ℤ x.denominator) whole
   pub scaled : r ≡ whole *ℤ pos (10 ^ (9 - rounding.places))
 
 -- the same as a function
-abbrev pub period_rate_at : Fraction → ℤ → ℤ → Rounding → ℤ
+abbrev pub period_rate_at : RateFraction → ℤ → ℤ → Rounding → ℤ
 period_rate_at x multiplier spread rounding =
     rounded rounding.dir (multiplier *ℤ x.numerator +ℤ spread *ℤ x.denominator)
     (pos (10 ^ (9 - rounding.places)) *ℤ x.denominator) *ℤ pos (10 ^ (9 - rounding.places))

@@ -6,9 +6,9 @@ use Rattle.irs_base.specs.declared.places.Fault.{Fault}
 use Rattle.irs_resets.specs.Rates.{RateTable}
 use Rattle.irs_observed.specs.DailyRates.{DailyRates}
 use Rattle.irs_observed.specs.ObservationPeriods.{ObservedPeriod}
-use Rattle.irs_observed.specs.ObservationRules.{Lacks, reported_before}
+use Rattle.irs_observed.specs.ObservationRules.{LacksObservations, reported_before}
 use Rattle.irs_observed.specs.Observations.{AreObservations}
-use Rattle.irs_observed.specs.ObservedRates.{Fraction, IsRateOrAbsent, PassesLimit}
+use Rattle.irs_observed.specs.ObservedRates.{RateFraction, IsRateOrAbsent, PassesLimit}
 use Rattle.irs_observed.specs.OvernightRates.{AreOvernightRates, BreaksObservations}
 use Rattle.irs_observed.specs.OvernightRates.{OvernightSource}
 use Rattle.irs_observed.specs.OvernightResets.{AreOvernightResets, BreaksOvernight, DailySource}
@@ -21,10 +21,10 @@ use Rattle.irs_observed.specs.declared.observation.Observation.{Observation}
 
 -- the observations of a calculation period, or the first reason why there are none
 abbrev pub observations_of : ObservedPeriod → Spec (List Observation) NoObservations
-observations_of p = unless_broken reported_before (Lacks p) (AreObservations p)
+observations_of p = unless_broken reported_before (LacksObservations p) (AreObservations p)
 
 -- the observed rate, absent where a daily rate is, or the refusal that a factor passes its limit
-abbrev pub observed_rate_of : DailyRateMethod → DailyRates → List Observation → Spec (Option Fraction) FactorOutOfRange
+abbrev pub observed_rate_of : DailyRateMethod → DailyRates → List Observation → Spec (Option RateFraction) FactorOutOfRange
 observed_rate_of method daily os = record {
   Answers = λ x. (PassesLimit method daily os → ⊥) × IsRateOrAbsent method daily os x;
   Refuses = λ _. PassesLimit method daily os;

@@ -20,14 +20,14 @@ use Rattle.irs_terms.specs.declared.parameters.CalculationParameters.{Calculatio
 use Rattle.irs_terms.specs.declared.parameters.ObservationOffset.{ObservationOffset}
 use Rattle.irs_calendar.specs.GoodDays.{DaySet}
 use Rattle.irs_resets.specs.Rates.{RateTable}
-use Rattle.irs_resets.specs.ObservedRates.{IsKind}
+use Rattle.irs_resets.specs.ObservedRates.{IsPeriodKind}
 use Rattle.irs_resets.specs.ResetDates.{IsPeriod}
 use Rattle.irs_resets.specs.declared.observed.PeriodKind.{PeriodKind}
 use Rattle.irs_observed.specs.DailyRates.{AreKnown, DailyRates, daily_rates}
 use Rattle.irs_observed.specs.ObservationPeriods.{ObservedPeriod, observed_period}
-use Rattle.irs_observed.specs.ObservationRules.{Lacks}
+use Rattle.irs_observed.specs.ObservationRules.{LacksObservations}
 use Rattle.irs_observed.specs.Observations.{AreObservations, total_weight}
-use Rattle.irs_observed.specs.ObservedRates.{Fraction, IsBounded, IsObservedRate, PassesLimit}
+use Rattle.irs_observed.specs.ObservedRates.{RateFraction, IsBounded, IsObservedRate, PassesLimit}
 use Rattle.irs_observed.specs.RateOrigins.{HasOwnRate, StatesRate}
 use Rattle.irs_observed.specs.declared.method.DailyRateMethod.{DailyRateMethod}
 use Rattle.irs_observed.specs.declared.method.DailyRateMethod.TheVariants.{Compounding, Averaging}
@@ -42,13 +42,13 @@ use Rattle.irs_observed.specs.declared.overnight_rate.OvernightRate.TheVariants.
 -- ---- one rate
 
 -- the observed rate as it is printed: a whole number of 10^-9, to the nearest, a half up
-abbrev pub printed : Fraction → ℤ
-printed x = rounded Nearest (pos (10 ^ 9) *ℤ x.numerator) x.denominator
+abbrev pub printed_rate : RateFraction → ℤ
+printed_rate x = rounded Nearest (pos (10 ^ 9) *ℤ x.numerator) x.denominator
 
 -- what is printed of a rate
 abbrev pub printed_of : OvernightRate → Option ℤ
 printed_of (Stated rate) = Some rate
-printed_of (Known x) = Some (printed x)
+printed_of (Known x) = Some (printed_rate x)
 printed_of Absent = None
 printed_of OutOfRange = None
 
@@ -114,12 +114,12 @@ overnight_source s span adjusted applicable float parameters = record {
 }
 
 -- the number of calculation periods
-abbrev pub periods_of : OvernightSource → ℕ
-periods_of source = length source.adjusted - 1
+abbrev pub source_periods : OvernightSource → ℕ
+source_periods source = length source.adjusted - 1
 
 -- what period i is
 abbrev pub IsKindIn : OvernightSource → ℕ → PeriodKind → Type 0
-IsKindIn source i kind = IsKind source.stream source.span (periods_of source) i kind
+IsKindIn source i kind = IsPeriodKind source.stream source.span (source_periods source) i kind
 
 -- calculation period i with the offset of its observations
 abbrev pub period_of : OvernightSource → ℕ → ObservedPeriod
@@ -141,7 +141,7 @@ pub record IsOvernightRate (source : OvernightSource) (rates : RateTable) (i : �
 
 -- one observed rate for each period
 pub record AreOvernightRates (source : OvernightSource) (rates : RateTable) (rs : List OvernightRate) : Type 0 where
-  pub many : length rs ≡ periods_of source
+  pub many : length rs ≡ source_periods source
   pub each : EachNumbered (IsOvernightRate source rates) 1 rs
 
 -- what is printed of the rate of period i
@@ -156,7 +156,7 @@ pub record LacksAt (source : OvernightSource) (i : ℕ) (why : NoObservations) :
   pub kind : PeriodKind
   pub is_kind : IsKindIn source i kind
   pub daily : HasOwnRate kind source.stream.stubs → ⊥
-  pub lacks : Lacks (period_of source i) why
+  pub lacks : LacksObservations (period_of source i) why
 
 -- what a period without observations breaks: K48 where it has too few members, else K33
 abbrev pub observation_fault : NoObservations → ℕ → Fault

@@ -11,7 +11,7 @@ use Rattle.irs_calendar.specs.GoodDays.{DaySet}
 use Rattle.irs_resets.specs.Rates.{RateTable}
 use Rattle.irs_resets.specs.ResetDates.{ResetDays, IsDates}
 use Rattle.irs_resets.specs.ResetRules.{BreaksResets}
-use Rattle.irs_resets.specs.Resets.{ResetSource, count_of}
+use Rattle.irs_resets.specs.Resets.{ResetSource, source_period_count}
 use Rattle.irs_observed.specs.ObservedRates.{most_observed}
 use Rattle.irs_observed.specs.OvernightRates.{AreOvernightRates, BreaksObservations, OvernightSource, overnight_source}
 use Rattle.irs_observed.specs.OvernightRates.{printed_at}
@@ -47,7 +47,7 @@ pub record IsOvernightReset (t : ResetTerms) (days : ResetDays) (rs : List Overn
 -- one reset for each period
 pub record HasOvernightResets (t : ResetTerms) (source : ResetSource) (rs : List OvernightRate) (rows : List Reset)
     : Type 0 where
-  pub many : length rows ≡ count_of source
+  pub many : length rows ≡ source_period_count source
   pub each : EachNumbered (IsOvernightReset t source.days rs) 1 rows
 
 -- the resets by the terms of their dates

@@ -4,12 +4,12 @@ use Rattle.irs_base.specs.Listed.{Lists}
 use Rattle.irs_calendar.specs.GoodDays.{DaySet, InCover, IsGood}
 
 -- the members from a, included, to b, excluded: the day a, business day or not, and each later business day
-abbrev pub IsMember : DaySet → ℤ → ℤ → ℤ → Type 0
-IsMember set a b d = (a ≤ℤ d) × (d <ℤ b) × ((d ≡ a) ⊎ IsGood set d)
+abbrev pub IsPeriodMember : DaySet → ℤ → ℤ → ℤ → Type 0
+IsPeriodMember set a b d = (a ≤ℤ d) × (d <ℤ b) × ((d ≡ a) ⊎ IsGood set d)
 
 -- these days in order
 abbrev pub AreMembers : DaySet → ℤ → ℤ → List ℤ → Type 0
-AreMembers set a b u = Lists (IsMember set a b) u
+AreMembers set a b u = Lists (IsPeriodMember set a b) u
 
 -- the member at a place, counted from 0, or the end b after the last
 abbrev pub member_or_end : List ℤ → ℤ → ℕ → ℤ

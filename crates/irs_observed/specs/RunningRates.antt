@@ -3,7 +3,7 @@ use Rattle.std.specs.Prelude.{◌≡◌, ◌⊎◌, ◌<◌, min, List, [], ◌�
 use Rattle.std.specs.Prelude.{◌≤ℤ◌, unsigned_abs}
 use Rattle.irs_observed.specs.DailyRates.{DailyRates}
 use Rattle.irs_observed.specs.ObservationPeriods.{IsObservationPeriod, ObservedPeriod}
-use Rattle.irs_observed.specs.ObservationRules.{Lacks}
+use Rattle.irs_observed.specs.ObservationRules.{LacksObservations}
 use Rattle.irs_observed.specs.Observations.{AreObservations, total_weight}
 use Rattle.irs_observed.specs.OvernightRates.{IsRateBy}
 use Rattle.irs_observed.specs.declared.method.DailyRateMethod.{DailyRateMethod}
@@ -23,7 +23,7 @@ observed_until b (o ∷ os) = if int_lt o.day b then ends_by b o ∷ observed_un
 
 -- the observations of a calculation period, which lacks none
 abbrev pub HasObservations : ObservedPeriod → List Observation → Type 0
-HasObservations p os = ((why : NoObservations) → Lacks p why → ⊥) × AreObservations p os
+HasObservations p os = ((why : NoObservations) → LacksObservations p why → ⊥) × AreObservations p os
 
 -- r is the rate by the daily rates of the members before b, of which there is one. The members and their observation
 -- days are those of the whole period, so a lockout is that of its last days
@@ -37,7 +37,7 @@ pub record IsRateUntil (method : DailyRateMethod) (daily : DailyRates) (p : Obse
 -- the same, or no rate where the period has no observations; no period of a schedule is without them (K33, K48)
 abbrev pub IsRateBefore : DailyRateMethod → DailyRates → ObservedPeriod → ℤ → OvernightRate → Type 0
 IsRateBefore method daily p b r =
-    IsRateUntil method daily p b r ⊎ ((why : NoObservations) × Lacks p why × (r ≡ Absent))
+    IsRateUntil method daily p b r ⊎ ((why : NoObservations) × LacksObservations p why × (r ≡ Absent))
 
 -- the weights of the members before d add up to the days from the first day of the observation period to d
 abbrev pub AddsUpUntil : ObservedPeriod → ℤ → Type 0

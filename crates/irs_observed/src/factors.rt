@@ -7,7 +7,7 @@ ghost use Rattle.irs_base.specs.Rounding.{Rounded};
 ghost use Rattle.irs_base.specs.declared.rounding.Direction.TheVariants.{Nearest};
 ghost use Rattle.irs_terms.specs.Lawful.{IsRate};
 ghost use Rattle.irs_observed.specs.DailyRates.{AreKnown, rates_by};
-ghost use Rattle.irs_observed.specs.Factors.{FactorPasses, Grows, GrowsBy, one_factor, year_of};
+ghost use Rattle.irs_observed.specs.Factors.{FactorPasses, Grows, GrowsBy, one_factor, unit_rate};
 ghost use Rattle.irs_observed.specs.ObservedRates.{CompoundsPast, rate_precision};
 ghost use Rattle.irs_observed.specs.Observations.{HasWeights};
 
@@ -27,7 +27,7 @@ const MOST_FACTOR: u128 = 10_000_000_000_000_000_000_000;
 // The rate 1 for a year of that many days.
 fn year_of(basis: u16) -> i128
     requires range { (1 ≤ basis) × (basis ≤ 365) }
-    ensures value { result ≡ year_of basis }
+    ensures value { result ≡ unit_rate basis }
     ensures above { pos 0 <ℤ result }
     ensures size { unsigned_abs result ≤ 365 * 10 ^ 9 }
 {
@@ -70,7 +70,7 @@ fn next_factor(basis: u16, factor: i128, rate: i64, weight: u32) -> i128
     requires factor { unsigned_abs factor ≤ rate_precision.most }
     requires rate { IsRate rate }
     requires weight { weight < all_days }
-    ensures { Rounded Nearest (factor *ℤ (year_of basis +ℤ rate *ℤ pos weight)) (year_of basis) result }
+    ensures { Rounded Nearest (factor *ℤ (unit_rate basis +ℤ rate *ℤ pos weight)) (unit_rate basis) result }
 {
     let year = year_of(basis);
     let grown = grown_year(year, interest(rate, weight));

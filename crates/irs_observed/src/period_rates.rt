@@ -4,9 +4,10 @@ ghost use Rattle.irs_base.specs.Days.{all_days};
 ghost use Rattle.irs_base.specs.Rounding.{Rounded};
 ghost use Rattle.irs_base.specs.declared.rounding.Direction.TheVariants.{Nearest};
 ghost use Rattle.irs_terms.specs.Lawful.{IsRate};
-ghost use Rattle.irs_observed.specs.ObservedRates.{IsBounded, IsPeriodRate, IsPrinted, most_observed, most_period_rate};
+ghost use Rattle.irs_observed.specs.ObservedRates.{IsBounded, IsPeriodRate, IsPrintedRate, most_observed};
+ghost use Rattle.irs_observed.specs.ObservedRates.{most_period_rate};
 ghost use Rattle.irs_observed.specs.ObservedRates.{period_rate_at};
-ghost use Rattle.irs_observed.specs.OvernightRates.{printed as printed_value};
+ghost use Rattle.irs_observed.specs.OvernightRates.{printed_rate as printed_value};
 
 use crate::products::{product, ten_to};
 use crate::rates::ObservedRate;
@@ -15,7 +16,7 @@ use irs_terms::Rounding;
 
 /// The observed rate in units of 10^-9, to the nearest, a half up: what is printed of it.
 pub fn printed_rate(x: ObservedRate) -> i64
-    ensures printed { IsPrinted x result }
+    ensures printed { IsPrintedRate x result }
     ensures value { result ≡ printed_value x }
     ensures size { unsigned_abs result ≤ most_observed * 10 ^ 9 }
 {

@@ -5,7 +5,7 @@ ghost use Rattle.irs_base.specs.Days.{all_days};
 ghost use Rattle.irs_base.specs.Outcomes.{MeetsExactly};
 ghost use Rattle.irs_observed.specs.DailyRates.{daily_rates, rates_by};
 ghost use Rattle.irs_observed.specs.Factors.{one_factor};
-ghost use Rattle.irs_observed.specs.ObservedRates.{Fraction, IsBounded, IsRateOrAbsent, most_observed};
+ghost use Rattle.irs_observed.specs.ObservedRates.{RateFraction, IsBounded, IsRateOrAbsent, most_observed};
 ghost use Rattle.irs_observed.specs.ObservedRates.{rate_precision};
 ghost use Rattle.irs_observed.specs.Observations.{HasWeights, total_weight};
 ghost use Rattle.irs_observed.specs.Outcomes.{observed_rate_of};
@@ -33,9 +33,9 @@ pub struct ObservedRate {
 }
 
 impl Model for ObservedRate {
-    ghost use Rattle.irs_observed.specs.ObservedRates.{Fraction, IsBounded};
+    ghost use Rattle.irs_observed.specs.ObservedRates.{RateFraction, IsBounded};
 
-    ghost Value = { Fraction };
+    ghost Value = { RateFraction };
 
     ghost view = { λ x. record { numerator = x.numerator; denominator = x.denominator } };
 

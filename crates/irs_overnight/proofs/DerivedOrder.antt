@@ -10,12 +10,12 @@ use Rattle.irs_base.specs.declared.places.Rule.{Rule}
 use Rattle.irs_base.proofs.Firsts.{AreTied, false_lt, level_later, level_same, tied, tied_last}
 use Rattle.irs_base.proofs.RuleNumbers.{same_rule}
 use Rattle.irs_resets.specs.ResetDates.{IsPeriod}
-use Rattle.irs_overnight.specs.DailyPeriods.{period_at}
-use Rattle.irs_overnight.specs.DerivedRules.{BreaksBasis, BreaksDerived, BreaksPeriod, NotAfter, derived_before}
-use Rattle.irs_overnight.specs.DerivedRules.{derived_turn, no_basis, not_after_at, period_fault}
+use Rattle.irs_overnight.specs.DailyPeriods.{derived_period_at}
+use Rattle.irs_overnight.specs.DerivedRules.{BreaksBasis, BreaksDerived, BreaksPeriod, FixingNotAfter, derived_before}
+use Rattle.irs_overnight.specs.DerivedRules.{derived_turn, no_basis, fixing_not_after_at, period_fault}
 use Rattle.irs_overnight.specs.FoundRates.{DailyPeriod, PeriodFails}
 use Rattle.irs_overnight.specs.Private.PeriodTurns.{FirstWay, NoneFails}
-use Rattle.irs_overnight.specs.DailySources.{DailySource}
+use Rattle.irs_overnight.specs.DailySources.{DerivedSource}
 use Rattle.irs_overnight.specs.Sources.{basis_of}
 use Rattle.irs_overnight.specs.declared.periods.PeriodFault.{PeriodFault}
 use Rattle.irs_overnight.specs.declared.periods.PeriodFault.TheVariants.{NoDays, OutOfRange}
@@ -68,26 +68,26 @@ fails_so p NoDays first = first
 fails_so p OutOfRange first = first.1
 
 -- no period before this number fails
-abbrev pub KeptBelow : DailySource → ℕ → ℕ → Type 0
-KeptBelow source basis i = (j : ℕ) → IsPeriod source.adjusted j → j < i → NoneFails (period_at source basis j)
+abbrev pub KeptBelow : DerivedSource → ℕ → ℕ → Type 0
+KeptBelow source basis i = (j : ℕ) → IsPeriod source.adjusted j → j < i → NoneFails (derived_period_at source basis j)
 
-module _ (source : DailySource) (basis : ℕ) (is : basis_of source.day_count ≡ Some basis) where
+module _ (source : DerivedSource) (basis : ℕ) (is : basis_of source.day_count ≡ Some basis) where
   -- the way in which a period fails, by the basis that the day count has
-  fails_by : (f : Fault) (b : BreaksPeriod source f) → PeriodFails b.why (period_at source basis b.number)
+  fails_by : (f : Fault) (b : BreaksPeriod source f) → PeriodFails b.why (derived_period_at source basis b.number)
   fails_by f b =
       let same : b.basis ≡ basis = some_basis b.basis basis (sym b.is_basis ∙ is) in
-      subst (λ (n : ℕ). PeriodFails b.why (period_at source n b.number)) same b.fails
+      subst (λ (n : ℕ). PeriodFails b.why (derived_period_at source n b.number)) same b.fails
 
   module _ (i : ℕ) (v : PeriodFault) (period : IsPeriod source.adjusted i)
-      (first : FirstWay (period_at source basis i) v) (kept : KeptBelow source basis i) where
+      (first : FirstWay (derived_period_at source basis i) v) (kept : KeptBelow source basis i) where
     not_earlier : (f : Fault) → BreaksPeriod source f → derived_before f (period_fault v i) ≡ false
     not_earlier f b =
         let fails = fails_by f b in
         let at : level b.number i (inner b.why v) ≡ false = elim (cases_order b.number i) [
           | inl same ↦
               level_same b.number i (inner b.why v) same
-              (inner_false (period_at source basis i) b.why v first
-              (subst (λ (n : ℕ). PeriodFails b.why (period_at source basis n)) same fails))
+              (inner_false (derived_period_at source basis i) b.why v first
+              (subst (λ (n : ℕ). PeriodFails b.why (derived_period_at source basis n)) same fails))
           | inr (inl less) ↦ absurd (kept b.number b.period less b.why fails)
           | inr (inr more) ↦ level_later b.number i (inner b.why v) more
         ] in
@@ -104,7 +104,7 @@ module _ (source : DailySource) (basis : ℕ) (is : basis_of source.day_count �
         period = period;
         why = v;
         fails =
-            fails_so (period_at source basis i) v first;
+            fails_so (derived_period_at source basis i) v first;
         is = refl;
       },
       not_earlier,
@@ -121,7 +121,7 @@ module _ (source : DailySource) (basis : ℕ) (is : basis_of source.day_count �
   has_basis f b = let e = b.0 in cc (e, is)
 
   -- where fixing dates rise the first of periods is the first of all
-  pub first_of_periods : ((n : ℕ) → NotAfter source.resets n → ⊥) → (f : Fault)
+  pub first_of_periods : ((n : ℕ) → FixingNotAfter source.resets n → ⊥) → (f : Fault)
       → First derived_before (BreaksPeriod source) f → First derived_before (BreaksDerived source) f
   first_of_periods rising f first = (
     inr (inr first.0),
@@ -133,7 +133,7 @@ module _ (source : DailySource) (basis : ℕ) (is : basis_of source.day_count �
   )
 
   -- where no fixing date is out of order and no period breaks a rule, none is broken
-  pub derived_kept : ((n : ℕ) → NotAfter source.resets n → ⊥) → ((f : Fault) → BreaksPeriod source f → ⊥) → (f : Fault)
+  pub derived_kept : ((n : ℕ) → FixingNotAfter source.resets n → ⊥) → ((f : Fault) → BreaksPeriod source f → ⊥) → (f : Fault)
       → BreaksDerived source f → ⊥
   derived_kept rising periods f b = elim b [
     | inl basis ↦ has_basis f basis
@@ -141,22 +141,22 @@ module _ (source : DailySource) (basis : ℕ) (is : basis_of source.day_count �
     | inr (inr period) ↦ periods f period
   ]
 
-  after_fixing : (w : PeriodFault) (j n : ℕ) → derived_before (period_fault w j) (not_after_at n) ≡ false
+  after_fixing : (w : PeriodFault) (j n : ℕ) → derived_before (period_fault w j) (fixing_not_after_at n) ≡ false
   after_fixing NoDays j n = refl
   after_fixing OutOfRange j n = refl
 
   -- the lowest period whose fixing date isn't later is the first of all
-  pub first_fixing : (n : ℕ) → First nat_lt (NotAfter source.resets) n
-      → First derived_before (BreaksDerived source) (not_after_at n)
+  pub first_fixing : (n : ℕ) → First nat_lt (FixingNotAfter source.resets) n
+      → First derived_before (BreaksDerived source) (fixing_not_after_at n)
   first_fixing n first = (
     inr (inl (record { number = n; not_after = first.0; is = refl })),
     λ g b. elim b [
       | inl basis ↦ absurd (has_basis g basis)
       | inr (inl fixing) ↦
-          subst (λ (h : Fault). derived_before h (not_after_at n) ≡ false) (sym fixing.is)
+          subst (λ (h : Fault). derived_before h (fixing_not_after_at n) ≡ false) (sym fixing.is)
           (level_none fixing.number n (first.1 fixing.number fixing.not_after))
       | inr (inr period) ↦
-          subst (λ (h : Fault). derived_before h (not_after_at n) ≡ false) (sym period.is)
+          subst (λ (h : Fault). derived_before h (fixing_not_after_at n) ≡ false) (sym period.is)
           (after_fixing period.why period.number n)
     ],
   )
@@ -166,7 +166,7 @@ after_basis NoDays j = refl
 after_basis OutOfRange j = refl
 
 -- a day count without a basis is the first of all
-pub first_basis : (source : DailySource) → basis_of source.day_count ≡ None
+pub first_basis : (source : DerivedSource) → basis_of source.day_count ≡ None
     → First derived_before (BreaksDerived source) no_basis
 first_basis source none = (
   inl (none, refl),

@@ -18,13 +18,13 @@ use Rattle.irs_calendar.proofs.EndLemmas.{truly_seen}
 use Rattle.irs_terms.specs.Lawful.{IsRate}
 use Rattle.irs_terms.specs.declared.frequency.Frequency.{Frequency}
 use Rattle.irs_resets.specs.FixingFiles.{Fixes, IsBad, IsFaulty, IsLine, Repeats, line_at}
-use Rattle.irs_resets.specs.FixingLines.{Spells}
+use Rattle.irs_resets.specs.FixingLines.{SpellsRate}
 use Rattle.irs_resets.specs.Words.{is_passed}
 use Rattle.irs_resets.specs.declared.store.Slot.{Slot}
 use Rattle.irs_resets.proofs.FileLemmas.{passed_none}
 use Rattle.irs_overnight.specs.FileLaw.{AreFixings, AreKept, HasRate, IsSmallFound, file_text}
 use Rattle.irs_overnight.specs.Reading.{IsLawfulLine}
-use Rattle.irs_overnight.specs.Texts.{derived_text_of, fields_of, tenor_text}
+use Rattle.irs_overnight.specs.Texts.{derived_text_of, derived_row_fields, tenor_text}
 use Rattle.irs_overnight.specs.declared.derived.DerivedRow.{DerivedRow}
 use Rattle.irs_overnight.specs.declared.derived.Found.{Found}
 use Rattle.irs_overnight.specs.declared.derived.Found.TheVariants.{Rate, Missing}
@@ -65,7 +65,7 @@ space : 32 ≤ 32
 space = omega arith
 
 fields_unbroken : (row : DerivedRow) (found : Found) (tenor : Option Frequency) (index : List ℕ)
-    → IsLawfulLine index tenor → IsSmallFound found → row.period < 2 ^ 32 → NoBreak (fields_of row found tenor index)
+    → IsLawfulLine index tenor → IsSmallFound found → row.period < 2 ^ 32 → NoBreak (derived_row_fields row found tenor index)
 fields_unbroken row (Rate x) tenor index lawful rate period =
     let a = visible_unbroken (day_text row.fixing) (day_visible row.fixing) in
     let b = visible_unbroken (dec_text x 9) (rate_visible x rate) in
@@ -91,7 +91,7 @@ fields_unbroken row (Missing d) tenor index lawful rate period =
 
 -- the line of a row
 abbrev line_of : Option Frequency → List ℕ → DerivedRow → List ℕ
-line_of tenor index row = fields_of row row.found tenor index
+line_of tenor index row = derived_row_fields row row.found tenor index
 
 text_is : (row : DerivedRow) (tenor : Option Frequency) (index : List ℕ)
     → derived_text_of row tenor index ≡ line_of tenor index row ++ 10 ∷ []
@@ -174,16 +174,16 @@ end_passed (b ∷ bs) e = hash (b == 35) refl
     hash false s = absurd (let x = rw (sym s) at e in cc)
 
 -- what spells a fixing is no end line
-spelt_no_end : (line name : List ℕ) (slot : Slot) (rate : ℤ) → Spells line name slot rate → is_end_line line ≡ false
+spelt_no_end : (line name : List ℕ) (slot : Slot) (rate : ℤ) → SpellsRate line name slot rate → is_end_line line ≡ false
 spelt_no_end line name slot rate s = elim (cases_Bool (is_end_line line)) [
   | inl end ↦ absurd (passed_none line name slot rate (end_passed line end) s)
   | inr other ↦ other
 ]
 
 row_no_end : (row : DerivedRow) (found : Found) (tenor : Option Frequency) (index : List ℕ) → IsDay row.fixing
-    → IsLawfulLine index tenor → IsSmallFound found → is_end_line (fields_of row found tenor index) ≡ false
+    → IsLawfulLine index tenor → IsSmallFound found → is_end_line (derived_row_fields row found tenor index) ≡ false
 row_no_end row (Rate x) tenor index day lawful small =
-    spelt_no_end (fields_of row (Rate x) tenor index) index (record { date = row.fixing; tenor = tenor }) x
+    spelt_no_end (derived_row_fields row (Rate x) tenor index) index (record { date = row.fixing; tenor = tenor }) x
     (reads_as row (Rate x) tenor index day lawful small)
 row_no_end row (Missing d) tenor index day lawful small = refl
 
@@ -231,8 +231,8 @@ abbrev slot_of : ℤ → Option Frequency → Slot
 slot_of d t = record { date = d; tenor = t }
 
 -- a line spells one rate
-one_spelt : (line name other : List ℕ) (slot : Slot) (d : ℤ) (t : Option Frequency) (x y : ℤ) → Spells line name slot x
-    → Spells line other (slot_of d t) y → (name ≡ other) × (slot ≡ slot_of d t) × (x ≡ y)
+one_spelt : (line name other : List ℕ) (slot : Slot) (d : ℤ) (t : Option Frequency) (x y : ℤ) → SpellsRate line name slot x
+    → SpellsRate line other (slot_of d t) y → (name ≡ other) × (slot ≡ slot_of d t) × (x ≡ y)
 one_spelt line name other slot d t x y p q =
     let date = some_day slot.date d (sym p.date ∙ q.date) in
     let tenor = some_tenor slot.tenor t (sym p.tenor ∙ q.tenor) in (
@@ -248,19 +248,19 @@ module _ (tenor : Option Frequency) (index : List ℕ) (rows : List DerivedRow) 
   lines = lines_by rows tenor index
 
   spelt_by : (row : DerivedRow) (found : Found) → row.found ≡ found → IsDay row.fixing → IsSmallFound row.found
-      → (name : List ℕ) (slot : Slot) (rate : ℤ) → Spells (line_of tenor index row) name slot rate
+      → (name : List ℕ) (slot : Slot) (rate : ℤ) → SpellsRate (line_of tenor index row) name slot rate
       → (row.found ≡ Rate rate) × (name ≡ index) × (slot ≡ slot_of row.fixing tenor)
   spelt_by row (Rate x) e day small name slot rate s =
       let small_rate : IsRate x = subst IsSmallFound e small in
-      let line : Spells (fields_of row (Rate x) tenor index) name slot rate =
-      subst (λ (f : Found). Spells (fields_of row f tenor index) name slot rate) e s in
+      let line : SpellsRate (derived_row_fields row (Rate x) tenor index) name slot rate =
+      subst (λ (f : Found). SpellsRate (derived_row_fields row f tenor index) name slot rate) e s in
       let own = reads_as row (Rate x) tenor index day lawful small_rate in
-      let one = one_spelt (fields_of row (Rate x) tenor index) name index slot row.fixing tenor rate x line own in
+      let one = one_spelt (derived_row_fields row (Rate x) tenor index) name index slot row.fixing tenor rate x line own in
       (e ∙ ap Rate (sym one.2), one.0, one.1)
   spelt_by row (Missing d) e day small name slot rate s =
-      let line : Spells (fields_of row (Missing d) tenor index) name slot rate =
-      subst (λ (f : Found). Spells (fields_of row f tenor index) name slot rate) e s in
-      absurd (passed_none (fields_of row (Missing d) tenor index) name slot rate refl line)
+      let line : SpellsRate (derived_row_fields row (Missing d) tenor index) name slot rate =
+      subst (λ (f : Found). SpellsRate (derived_row_fields row f tenor index) name slot rate) e s in
+      absurd (passed_none (derived_row_fields row (Missing d) tenor index) name slot rate refl line)
 
   -- the row of a line that gives a rate
   fixes_row : (n : ℕ) (name : List ℕ) (slot : Slot) (rate : ℤ) → Fixes lines n name slot rate
@@ -268,10 +268,10 @@ module _ (tenor : Option Frequency) (index : List ℕ) (rows : List DerivedRow) 
   fixes_row n name slot rate f = elim (which_line tenor index rows n f.is_line) [
     | inl head ↦
         absurd (passed_none head_line name slot rate refl
-        (subst (λ (l : List ℕ). Spells l name slot rate) head f.spelt))
+        (subst (λ (l : List ℕ). SpellsRate l name slot rate) head f.spelt))
     | inr line ↦
-        let s : Spells (line_of tenor index line.row) name slot rate =
-        subst (λ (l : List ℕ). Spells l name slot rate) line.is f.spelt in
+        let s : SpellsRate (line_of tenor index line.row) name slot rate =
+        subst (λ (l : List ℕ). SpellsRate l name slot rate) line.is f.spelt in
         let is = spelt_by line.row line.row.found refl (kept.days line.place line.row line.at)
         (kept.rates line.place line.row line.at) name slot rate s in (
           record { place = line.place; row = line.row; at = line.at; found = is.0; same_name = is.1; same_slot = is.2 },
@@ -285,21 +285,21 @@ module _ (tenor : Option Frequency) (index : List ℕ) (rows : List DerivedRow) 
       let there = at_row tenor index rows h.place h.row h.at in
       let low = there.0 in
       let e : h.place + 2 - 1 ≡ suc h.place = omega arith in
-      let line : line_at lines (h.place + 2) ≡ fields_of h.row (Rate rate) tenor index =
-      ap (λ (m : ℕ). get_or lines m []) e ∙ there.1 ∙ ap (λ (f : Found). fields_of h.row f tenor index) h.found in
+      let line : line_at lines (h.place + 2) ≡ derived_row_fields h.row (Rate rate) tenor index =
+      ap (λ (m : ℕ). get_or lines m []) e ∙ there.1 ∙ ap (λ (f : Found). derived_row_fields h.row f tenor index) h.found in
       let small : IsRate rate = subst IsSmallFound h.found (kept.rates h.place h.row h.at) in
-      let own : Spells (fields_of h.row (Rate rate) tenor index) index (slot_of h.row.fixing tenor) rate =
+      let own : SpellsRate (derived_row_fields h.row (Rate rate) tenor index) index (slot_of h.row.fixing tenor) rate =
       reads_as h.row (Rate rate) tenor index (kept.days h.place h.row h.at) lawful small in
-      let named : Spells (fields_of h.row (Rate rate) tenor index) name (slot_of h.row.fixing tenor) rate =
-      subst (λ (i : List ℕ). Spells (fields_of h.row (Rate rate) tenor index) i (slot_of h.row.fixing tenor) rate)
+      let named : SpellsRate (derived_row_fields h.row (Rate rate) tenor index) name (slot_of h.row.fixing tenor) rate =
+      subst (λ (i : List ℕ). SpellsRate (derived_row_fields h.row (Rate rate) tenor index) i (slot_of h.row.fixing tenor) rate)
       (sym h.same_name) own in
-      let spelt : Spells (fields_of h.row (Rate rate) tenor index) name slot rate =
-      subst (λ (q : Slot). Spells (fields_of h.row (Rate rate) tenor index) name q rate) (sym h.same_slot) named in (
+      let spelt : SpellsRate (derived_row_fields h.row (Rate rate) tenor index) name slot rate =
+      subst (λ (q : Slot). SpellsRate (derived_row_fields h.row (Rate rate) tenor index) name q rate) (sym h.same_slot) named in (
         h.place + 2,
         record {
           is_line = (omega arith, omega (arith, low));
           spelt =
-              subst (λ (l : List ℕ). Spells l name slot rate) (sym line) spelt;
+              subst (λ (l : List ℕ). SpellsRate l name slot rate) (sym line) spelt;
         },
       )
 
@@ -308,15 +308,15 @@ module _ (tenor : Option Frequency) (index : List ℕ) (rows : List DerivedRow) 
 
   good_row : (row : DerivedRow) (found : Found) → row.found ≡ found → IsDay row.fixing → IsSmallFound row.found
       → is_passed (line_of tenor index row) ≡ false
-      → ((name : List ℕ) (slot : Slot) (rate : ℤ) → Spells (line_of tenor index row) name slot rate → ⊥) → ⊥
+      → ((name : List ℕ) (slot : Slot) (rate : ℤ) → SpellsRate (line_of tenor index row) name slot rate → ⊥) → ⊥
   good_row row (Rate x) e day small not none =
       let small_rate : IsRate x = subst IsSmallFound e small in
       none index (slot_of row.fixing tenor) x
-      (subst (λ (f : Found). Spells (fields_of row f tenor index) index (slot_of row.fixing tenor) x) (sym e)
+      (subst (λ (f : Found). SpellsRate (derived_row_fields row f tenor index) index (slot_of row.fixing tenor) x) (sym e)
       (reads_as row (Rate x) tenor index day lawful small_rate))
   good_row row (Missing d) e day small not none =
       passed_by (is_passed (line_of tenor index row))
-      (ap (λ (f : Found). is_passed (fields_of row f tenor index)) e) not
+      (ap (λ (f : Found). is_passed (derived_row_fields row f tenor index)) e) not
 
   not_bad : (n : ℕ) → IsBad lines n → ⊥
   not_bad n b = elim (which_line tenor index rows n b.is_line) [
@@ -326,7 +326,7 @@ module _ (tenor : Option Frequency) (index : List ℕ) (rows : List DerivedRow) 
         (kept.rates line.place line.row line.at)
         (ap is_passed (sym line.is) ∙ b.bad.not_passed)
         (λ name slot rate s. b.bad.spells_none name slot rate
-        (subst (λ (l : List ℕ). Spells l name slot rate) (sym line.is) s))
+        (subst (λ (l : List ℕ). SpellsRate l name slot rate) (sym line.is) s))
   ]
 
   not_repeated : (n : ℕ) → Repeats lines n → ⊥

@@ -14,17 +14,17 @@ use Rattle.irs_resets.specs.ResetDates.{IsPeriod}
 use Rattle.irs_schedule.specs.Parts.{KeepsBounds}
 use Rattle.irs_overnight.specs.DailySources.{fixing_at}
 use Rattle.irs_overnight.specs.DerivedRows.{IsDerivedRow}
-use Rattle.irs_overnight.specs.DerivedRules.{NotAfter, not_after_at}
+use Rattle.irs_overnight.specs.DerivedRules.{FixingNotAfter, fixing_not_after_at}
 use Rattle.irs_overnight.specs.FileLaw.{AreKept}
 use Rattle.irs_overnight.specs.Private.FileLaw.{IsInRange}
-use Rattle.irs_overnight.specs.Overnight.{Asked, IsAsked, IsOvernight, OvernightKept, ReadsBack}
+use Rattle.irs_overnight.specs.Overnight.{OvernightAsked, IsAsked, IsOvernight, OvernightKept, RowsReadBack}
 use Rattle.irs_overnight.specs.Sources.{PaysFloating}
 use Rattle.irs_overnight.specs.declared.derived.DerivedRow.{DerivedRow}
 use Rattle.irs_overnight.proofs.FileRead.{are_fixings}
 use Rattle.irs_overnight.proofs.SourceLemmas.{every_at, part_floats}
 
 -- fixing dates rise where each is after the one before it
-module _ (resets : List Reset) (none : (n : ℕ) → NotAfter resets n → ⊥) where
+module _ (resets : List Reset) (none : (n : ℕ) → FixingNotAfter resets n → ⊥) where
   next_after : (i : ℕ) → 1 ≤ i → i + 1 ≤ length resets → fixing_at resets i <ℤ fixing_at resets (i + 1)
   next_after i low high =
       let a = fixing_at resets i in
@@ -65,7 +65,7 @@ IsDated adjusted resets i row = IsPeriod adjusted i × (row.period ≡ i) × (ro
 
 module _ (adjusted : List ℤ) (resets : List Reset) (rows : List DerivedRow) (dated : (k : ℕ) (row : DerivedRow)
     → slice_get rows k ≡ Some row → IsDated adjusted resets (1 + k) row) (good : All IsInRange rows) (none : (n : ℕ)
-    → NotAfter resets n → ⊥) (many : length adjusted ≡ length resets + 1) (few : length adjusted < 2 ^ 32) where
+    → FixingNotAfter resets n → ⊥) (many : length adjusted ≡ length resets + 1) (few : length adjusted < 2 ^ 32) where
   range_at : (k : ℕ) (row : DerivedRow) → slice_get rows k ≡ Some row → IsInRange row
   range_at k row at =
       subst IsInRange (get_or_from_slice_get rows k row row at) (good k row (slice_get_within rows k row at))
@@ -92,7 +92,7 @@ module _ (adjusted : List ℤ) (resets : List Reset) (rows : List DerivedRow) (d
   }
 
 -- the floating terms of a requested stream are lawful
-pub lawful_float : (a : Asked) → IsAsked a → (float : FloatTerms) → PaysFloating a.swap a.number float
+pub lawful_float : (a : OvernightAsked) → IsAsked a → (float : FloatTerms) → PaysFloating a.swap a.number float
     → IsLawfulFloat float
 lawful_float a h float pays =
     let streams = h.lawful.2 in
@@ -103,8 +103,8 @@ lawful_float a h float pays =
     subst IsLawfulLeg pays.pays stream.leg
 
 -- the rows print a fixing file
-pub reads_back : (a : Asked) → IsAsked a → Every KeepsBounds a.parts → (rows : List DerivedRow) → IsOvernight a rows
-    → OvernightKept a → All IsInRange rows → ReadsBack a rows
+pub reads_back : (a : OvernightAsked) → IsAsked a → Every KeepsBounds a.parts → (rows : List DerivedRow) → IsOvernight a rows
+    → OvernightKept a → All IsInRange rows → RowsReadBack a rows
 reads_back a h bounds rows over kept good = λ float pays.
     let part = over.has.part in
     let keeps = every_at KeepsBounds a.parts (a.number - 1) part bounds over.has.at in
@@ -116,8 +116,8 @@ reads_back a h bounds rows over kept good = λ float pays.
     let is = over.has.is in
     let many : length over.source.adjusted ≡ length over.source.resets + 1 = rw is (omega (arith, adjusted, resets)) in
     let short : length over.source.adjusted < 2 ^ 32 = rw is (omega (arith, adjusted, few)) in
-    let none : (n : ℕ) → NotAfter over.source.resets n → ⊥ =
-    λ n not_after. kept (not_after_at n) (record {
+    let none : (n : ℕ) → FixingNotAfter over.source.resets n → ⊥ =
+    λ n not_after. kept (fixing_not_after_at n) (record {
       source = over.source;
       has = over.has;
       breaks =

@@ -4,15 +4,15 @@ use Rattle.std.proofs.Common.{◌∙◌, arith, append_assoc}
 use Rattle.std.specs.Prelude.{get_or}
 use Rattle.std.proofs.lemmas.List.{take_all}
 use Rattle.irs_base.specs.Days.{IsDay}
-use Rattle.irs_base.specs.Fields.{is_space}
+use Rattle.irs_base.specs.Fields.{is_space_or_tab}
 use Rattle.irs_base.specs.Texts.{day_text, dec_text}
 use Rattle.irs_terms.specs.Lawful.{IsLawfulIndex, IsRate}
 use Rattle.irs_terms.specs.declared.frequency.Frequency.{Frequency}
-use Rattle.irs_resets.specs.FixingLines.{Spells}
+use Rattle.irs_resets.specs.FixingLines.{SpellsRate}
 use Rattle.irs_base.specs.Fields.{without_gap}
 use Rattle.irs_resets.specs.Words.{behind_gap, behind_word, trimmed, word}
 use Rattle.irs_resets.proofs.WordLemmas.{trimmed_to}
-use Rattle.irs_overnight.specs.Reading.{IsLawfulLine, ReadsAs}
+use Rattle.irs_overnight.specs.Reading.{IsLawfulLine, ReadsAsRow}
 use Rattle.irs_overnight.specs.Texts.{tenor_text}
 use Rattle.irs_overnight.specs.declared.derived.DerivedRow.{DerivedRow}
 use Rattle.irs_overnight.specs.declared.derived.Found.{Found}
@@ -57,7 +57,7 @@ index_trimmed index h =
     let some : 0 < n = omega (arith, h.0) in
     let low : 32 ≤ get_or index (n - 1) 0 = (h.2 (n - 1) 0 (omega (arith, some))).0 in
     let not : get_or index (n - 1) 0 ≢ 32 = h.4 in
-    let solid : is_space (get_or index (n - 1) 0) ≡ false =
+    let solid : is_space_or_tab (get_or index (n - 1) 0) ≡ false =
     no_space (get_or index (n - 1) 0) (omega (arith, low, not)) in
     sym (trimmed_to index n some (omega arith) solid (λ k from within. absurd (omega (arith, from, within))))
     ∙ take_all n index (omega arith)
@@ -67,7 +67,7 @@ index_trimmed index h =
 module _ (d : ℤ) (x : ℤ) (tenor : Option Frequency) (index : List ℕ) (day : IsDay d) (rate : IsRate x)
     (lawful : IsLawfulLine index tenor) where
   -- the text of a date, a rate, a tenor and an index spells that rate
-  pub spells_whole : Spells (day_text d ++ 32 ∷ (dec_text x 9 ++ 32 ∷ (tenor_text tenor ++ 32 ∷ index))) index
+  pub spells_whole : SpellsRate (day_text d ++ 32 ∷ (dec_text x 9 ++ 32 ∷ (tenor_text tenor ++ 32 ∷ index))) index
       (record { date = d; tenor = tenor }) x
   spells_whole =
       let t : List ℕ = tenor_text tenor ++ 32 ∷ index in
@@ -96,7 +96,7 @@ module _ (d : ℤ) (x : ℤ) (tenor : Option Frequency) (index : List ℕ) (day 
 
 -- what each line reads as
 pub reads_as : (row : DerivedRow) (found : Found) (tenor : Option Frequency) (index : List ℕ) → IsDay row.fixing
-    → IsLawfulLine index tenor → ReadsAs row found tenor index
+    → IsLawfulLine index tenor → ReadsAsRow row found tenor index
 reads_as row (Rate x) tenor index day lawful =
     λ rate. simp append_assoc (spells_whole row.fixing x tenor index day rate lawful)
 reads_as row (Missing d) tenor index day lawful = refl

@@ -5,10 +5,10 @@ use Rattle.jiff_core.proofs.SignedLemmas.{signed_arith}
 use Rattle.irs_terms.specs.declared.codes.DayCountCode.{DayCountCode}
 use Rattle.irs_terms.specs.declared.codes.DayCountCode.TheVariants.{OneOne, ActActIsda, Act365Fixed, Act360, Thirty360}
 use Rattle.irs_terms.specs.declared.codes.DayCountCode.TheVariants.{ThirtyE360, ThirtyE360Isda}
-use Rattle.irs_overnight.specs.Factors.{Grows, PassesLimit, one_factor}
+use Rattle.irs_overnight.specs.Factors.{DerivedGrows, DerivedPassesLimit, derived_one}
 use Rattle.irs_overnight.specs.FoundRates.{DailyPeriod, FindsRate, IsFound, PassesRange}
 use Rattle.irs_overnight.specs.Private.PeriodTurns.{NoneFails}
-use Rattle.irs_overnight.specs.Observations.{AreObservations, first_absent}
+use Rattle.irs_overnight.specs.Observations.{AreRateObservations, first_absent}
 use Rattle.irs_overnight.specs.Sources.{basis_of}
 use Rattle.irs_overnight.specs.Starts.{LacksDays}
 use Rattle.irs_overnight.specs.declared.derived.Found.{Found}
@@ -19,7 +19,7 @@ use Rattle.irs_overnight.proofs.FactorLemmas.{one_compounded}
 use Rattle.irs_overnight.proofs.ObservationLemmas.{one_observations}
 
 -- where factors grow each rate is there
-grows_known : (basis : ℕ) (os : List Observation) (f g : ℤ) → Grows basis os f g → first_absent os ≡ None
+grows_known : (basis : ℕ) (os : List Observation) (f g : ℤ) → DerivedGrows basis os f g → first_absent os ≡ None
 grows_known basis [] f g p = refl
 grows_known basis (o ∷ os) f g p =
     let rest = grows_known basis os p.0 g p.2 in
@@ -54,9 +54,9 @@ one_is_found : (basis : ℕ) (days : ℤ) (os : List Observation) (x y : Found) 
 one_is_found basis days os (Rate x) (Rate y) some above p q =
     ap Rate (one_compounded basis some days os x y (positive days above) p q)
 one_is_found basis days os (Rate x) (Missing d) some above p q =
-    absurd (apart (first_absent os) d (grows_known basis os one_factor p.factor p.grows) q)
+    absurd (apart (first_absent os) d (grows_known basis os derived_one p.factor p.grows) q)
 one_is_found basis days os (Missing d) (Rate x) some above p q =
-    absurd (apart (first_absent os) d (grows_known basis os one_factor q.factor q.grows) p)
+    absurd (apart (first_absent os) d (grows_known basis os derived_one q.factor q.grows) p)
 one_is_found basis days os (Missing c) (Missing d) some above p q = ap Missing (some_day c d (sym p ∙ q))
 
 module _ (p : DailyPeriod) (some : 1 ≤ p.basis) (above : pos 0 <ℤ (p.end -ℤ p.start)) where
@@ -68,11 +68,11 @@ module _ (p : DailyPeriod) (some : 1 ≤ p.basis) (above : pos 0 <ℤ (p.end -�
       (subst (λ (os : List Observation). IsFound p.basis (p.end -ℤ p.start) os x) same a.is) b.is
 
 -- the rates of a period don't pass a limit where those of its observations don't
-pub not_passed : (p : DailyPeriod) (os : List Observation) → AreObservations p.lines p.days p.start p.end os
-    → (PassesLimit p.basis (p.end -ℤ p.start) os → ⊥) → PassesRange p → ⊥
+pub not_passed : (p : DailyPeriod) (os : List Observation) → AreRateObservations p.lines p.days p.start p.end os
+    → (DerivedPassesLimit p.basis (p.end -ℤ p.start) os → ⊥) → PassesRange p → ⊥
 not_passed p os are kept h =
     let same = one_observations p.lines p.days p.start p.end h.observations os h.are are in
-    kept (subst (λ (xs : List Observation). PassesLimit p.basis (p.end -ℤ p.start) xs) same h.passes)
+    kept (subst (λ (xs : List Observation). DerivedPassesLimit p.basis (p.end -ℤ p.start) xs) same h.passes)
 
 -- a period that lacks no day and passes no limit breaks no rule
 pub none_fails : (p : DailyPeriod) → (LacksDays p.days p.start p.end → ⊥) → (PassesRange p → ⊥) → NoneFails p

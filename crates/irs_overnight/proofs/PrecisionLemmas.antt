@@ -21,11 +21,10 @@ use Rattle.irs_resets.specs.Rates.{RateTable}
 use Rattle.irs_observed.specs.DailyRates.{DailyRates, daily_rates}
 use Rattle.irs_observed.specs.Factors.{Grows as GrowsFine, GrowsBy as GrowsFineBy, one_factor as one_fine}
 use Rattle.irs_observed.specs.ObservationPeriods.{observed_period}
-use Rattle.irs_observed.specs.Observations.{AreObserved as AreObservedFine, IsObservation as IsObserved}
-use Rattle.irs_observed.specs.Observations.{total_weight}
-use Rattle.irs_observed.specs.ObservedRates.{Fraction, IsObservedRate, days_of_year, rate_precision}
-use Rattle.irs_observed.specs.OvernightRates.{IsOvernightRate, IsRateOver, OvernightSource, period_of, printed}
-use Rattle.irs_observed.specs.PeriodMembers.{AreMembers, IsMember, member_or_end}
+use Rattle.irs_observed.specs.Observations.{AreObserved as AreObservedFine, IsObservation as IsObserved, total_weight}
+use Rattle.irs_observed.specs.ObservedRates.{RateFraction, IsObservedRate, days_of_year, rate_precision}
+use Rattle.irs_observed.specs.OvernightRates.{IsOvernightRate, IsRateOver, OvernightSource, period_of, printed_rate}
+use Rattle.irs_observed.specs.PeriodMembers.{AreMembers, IsPeriodMember, member_or_end}
 use Rattle.irs_observed.specs.RateLaws.{EachRate}
 use Rattle.irs_observed.specs.declared.method.DailyRateMethod.{DailyRateMethod}
 use Rattle.irs_observed.specs.declared.method.DailyRateMethod.TheVariants.{Compounding}
@@ -35,16 +34,19 @@ use Rattle.irs_observed.specs.declared.observation.Observation.{Observation as O
 use Rattle.irs_observed.specs.declared.overnight_rate.OvernightRate.TheVariants.{Known, Stated}
 use Rattle.irs_observed.proofs.ListLemmas.{at_or_end, member_place, past_end, rises_to}
 use Rattle.irs_observed.proofs.WalkLemmas.{first_member, good_later, good_member}
-use Rattle.irs_overnight.specs.DailyPeriods.{period_at}
-use Rattle.irs_overnight.specs.DailySources.{DailySource}
+use Rattle.irs_overnight.specs.DailyPeriods.{derived_period_at}
+use Rattle.irs_overnight.specs.DailySources.{DerivedSource}
 use Rattle.irs_overnight.specs.DerivedRows.{IsDerivedRow}
-use Rattle.irs_overnight.specs.Factors.{Grows, GrowsBy, one_factor, year_of}
-use Rattle.irs_overnight.specs.FoundRates.{FindsRate, daily_period}
-use Rattle.irs_overnight.specs.Observations.{AreObservations, AreObserved, IsObservation, next_start, observed_on}
+use Rattle.irs_observed.specs.Factors.{unit_rate}
+use Rattle.irs_overnight.specs.Factors.{DerivedGrows, DerivedGrowsBy, derived_one}
+use Rattle.irs_overnight.specs.FoundRates.{FindsRate, derived_period}
+use Rattle.irs_overnight.specs.Observations.{AreRateObservations, AreRatesObserved, IsRateObservation, next_start}
+use Rattle.irs_overnight.specs.Observations.{observed_on}
 use Rattle.irs_overnight.specs.Sources.{RateLines, daily_lines, rate_by}
 use Rattle.irs_overnight.specs.Starts.{AreStarts, Starts}
 use Rattle.irs_overnight.specs.TwoPrecisions.{AgreeAsPrinted, AgreeInStream, AgreeUnrounded, AreNear, CompoundedPeriod}
-use Rattle.irs_overnight.specs.TwoPrecisions.{HasDays, IsObservedIn, IsOneStream, StaysLow, compounded_period}
+use Rattle.irs_overnight.specs.TwoPrecisions.{StartsBeforeItEnds, IsObservedIn, IsOneStream, StaysLow}
+use Rattle.irs_overnight.specs.TwoPrecisions.{compounded_period}
 use Rattle.irs_overnight.specs.TwoPrecisions.{up_to_ten, with_parameters, without_parameters}
 use Rattle.irs_overnight.specs.declared.derived.DerivedRow.{DerivedRow}
 use Rattle.irs_overnight.specs.declared.derived.Found.{Found}
@@ -62,7 +64,7 @@ same_members set s e u v order members starts =
     one_rising v u starts.rising members.rising (λ d m. members.complete d (as_member d (starts.sound d m)))
     (λ d m. starts.complete d (as_start d (members.sound d m)))
   where
-    as_member : (d : ℤ) → Starts set s e d → IsMember set s e d
+    as_member : (d : ℤ) → Starts set s e d → IsPeriodMember set s e d
     as_member d (inl first) =
         (omega (arith, signed_arith, first), omega (arith, signed_arith, first, order), inl first)
     as_member d (inr later) = let low = later.0 in (omega (arith, signed_arith, low), later.1, inr later.2)
@@ -78,7 +80,7 @@ same_members set s e u v order members starts =
       | inr (inr same) ↦ inl (sym same)
     ]
 
-    as_start : (d : ℤ) → IsMember set s e d → Starts set s e d
+    as_start : (d : ℤ) → IsPeriodMember set s e d → Starts set s e d
     as_start d m = elim m.2 [
       | inl first ↦ inl first
       | inr good ↦ by_order d m.0 m.1 good (at_or_after d m.0)
@@ -107,7 +109,7 @@ module _ (set : DaySet) (rates : RateTable) (index : List ℕ) (s e q : ℤ) (u 
       ∙ sym (good_later q u k)
 
   same_at : (k : ℕ) (o : Observed) (p : Observation) → k < length u → IsObserved Absent set u e k o
-      → IsObservation (daily_lines rates index) q u e k p → Same (daily_rates rates index) o p
+      → IsRateObservation (daily_lines rates index) q u e k p → Same (daily_rates rates index) o p
   same_at k o p low is are =
       let rises = rises_to u e k members.rising (λ d m. (members.sound d m).1) low in
       let one : suc k ≡ k + 1 = omega arith in
@@ -129,7 +131,7 @@ module _ (set : DaySet) (rates : RateTable) (index : List ℕ) (s e q : ℤ) (u 
 
   pub same_each : (k : ℕ) (os : List Observed) (ps : List Observation) → k + length os ≡ length u
       → k + length ps ≡ length u → EachNumbered (IsObserved Absent set u e) k os
-      → EachNumbered (IsObservation (daily_lines rates index) q u e) k ps → Pairs (Same (daily_rates rates index)) os ps
+      → EachNumbered (IsRateObservation (daily_lines rates index) q u e) k ps → Pairs (Same (daily_rates rates index)) os ps
   same_each k [] [] many long each all = tt
   same_each k [] (p ∷ ps) many long each all = absurd (omega (arith, many, long))
   same_each k (o ∷ os) [] many long each all = absurd (omega (arith, many, long))
@@ -163,22 +165,22 @@ same_found a b found h k = cc
 
 module _ (basis : ℕ) (some : 0 < 10 ^ 9 * basis) (daily : DailyRates) where
   stays_step : (o : Observed) (p : Observation) (v : ℕ) (f g h k : ℤ) → Same daily o p → v ≤ 10 ^ 15
-      → IfSome (daily o.observed) (λ r. pos 0 ≤ℤ r) → Stays v f g → GrowsFineBy basis daily o f h → GrowsBy basis p g k
+      → IfSome (daily o.observed) (λ r. pos 0 ≤ℤ r) → Stays v f g → GrowsFineBy basis daily o f h → DerivedGrowsBy basis p g k
       → Stays (v + o.weight) h k
   stays_step o p v f g h k same few low s fine coarse =
       let rate = same_found fine.rate coarse.rate (daily o.observed) fine.is_rate (sym same.rate ∙ coarse.observed) in
-      let days : Rounded Nearest (g *ℤ (year_of basis +ℤ coarse.rate *ℤ pos o.weight)) (year_of basis) k =
-      subst (λ (w : ℤ). Rounded Nearest (g *ℤ (year_of basis +ℤ coarse.rate *ℤ w)) (year_of basis) k) same.weight
+      let days : Rounded Nearest (g *ℤ (unit_rate basis +ℤ coarse.rate *ℤ pos o.weight)) (unit_rate basis) k =
+      subst (λ (w : ℤ). Rounded Nearest (g *ℤ (unit_rate basis +ℤ coarse.rate *ℤ w)) (unit_rate basis) k) same.weight
       coarse.rounded in
-      let by : Rounded Nearest (g *ℤ (year_of basis +ℤ fine.rate *ℤ pos o.weight)) (year_of basis) k =
-      subst (λ (r : ℤ). Rounded Nearest (g *ℤ (year_of basis +ℤ r *ℤ pos o.weight)) (year_of basis) k) (sym rate)
+      let by : Rounded Nearest (g *ℤ (unit_rate basis +ℤ fine.rate *ℤ pos o.weight)) (unit_rate basis) k =
+      subst (λ (r : ℤ). Rounded Nearest (g *ℤ (unit_rate basis +ℤ r *ℤ pos o.weight)) (unit_rate basis) k) (sym rate)
       days in
       stays_next (10 ^ 9 * basis) o.weight v some same.above few fine.rate f g h k
       (rate_meets (λ r. pos 0 ≤ℤ r) (daily o.observed) fine.rate low fine.is_rate) s fine.rounded by
 
   pub stays_through : (os : List Observed) (ps : List Observation) (v : ℕ) (f g h k : ℤ) → Pairs (Same daily) os ps
       → v + total_weight os ≤ 10 ^ 15 → EachRate daily (λ r. pos 0 ≤ℤ r) os → Stays v f g
-      → GrowsFine basis daily os f h → Grows basis ps g k → Stays (v + total_weight os) h k
+      → GrowsFine basis daily os f h → DerivedGrows basis ps g k → Stays (v + total_weight os) h k
   stays_through [] [] v f g h k pairs few low s fine coarse =
       let none : v ≡ v + 0 = omega arith in
       subst (λ (n : ℕ). Stays n h k) none
@@ -202,7 +204,7 @@ year_most Days360 = omega arith
 year_most Days365 = omega arith
 
 -- both products of a period, at the end
-pub record Ends (p : CompoundedPeriod) (x : Fraction) (g : ℤ) : Type 0 where
+pub record Ends (p : CompoundedPeriod) (x : RateFraction) (g : ℤ) : Type 0 where
   pub weight : ℕ
   pub days : p.end -ℤ p.start ≡ pos weight
   pub some : 0 < weight
@@ -211,7 +213,7 @@ pub record Ends (p : CompoundedPeriod) (x : Fraction) (g : ℤ) : Type 0 where
   pub near : Near (days_of_year p.year) weight fine coarse
   pub numerator : x.numerator ≡ pos fine *ℤ pos (days_of_year p.year)
   pub denominator : x.denominator ≡ pos (10 ^ 18) *ℤ pos weight
-  pub is_coarse : g -ℤ one_factor ≡ pos coarse
+  pub is_coarse : g -ℤ derived_one ≡ pos coarse
 
 above_one : (f : ℤ) (n m : ℕ) → f ≡ pos n → m ≤ n → f -ℤ pos m ≡ pos (n - m)
 above_one f n m is large = omega (arith, signed_arith, is, large)
@@ -237,9 +239,9 @@ few_days s e w first last sum =
 some_days : (s e : ℤ) (w : ℕ) → s <ℤ e → e -ℤ s ≡ pos w → 0 < w
 some_days s e w order sum = omega (arith, signed_arith, order, sum)
 
-module _ (p : CompoundedPeriod) (has : HasDays p) (low : StaysLow p) (x : Fraction) (is : IsObservedIn p x)
-    (ps : List Observation) (are : AreObservations (daily_lines p.rates p.index) p.days p.start p.end ps) (g : ℤ)
-    (grows : Grows (days_of_year p.year) ps one_factor g) where
+module _ (p : CompoundedPeriod) (has : StartsBeforeItEnds p) (low : StaysLow p) (x : RateFraction) (is : IsObservedIn p x)
+    (ps : List Observation) (are : AreRateObservations (daily_lines p.rates p.index) p.days p.start p.end ps) (g : ℤ)
+    (grows : DerivedGrows (days_of_year p.year) ps derived_one g) where
   abbrev members : List ℤ
   members = is.are_observations.members
 
@@ -254,9 +256,9 @@ module _ (p : CompoundedPeriod) (has : HasDays p) (low : StaysLow p) (x : Fracti
       subst (λ (b : ℤ). AreObservedFine Absent p.days members b is.observations) is.are_observations.period.to
       is.are_observations.observed
 
-  coarse_observed : AreObserved (daily_lines p.rates p.index) are.first members p.end ps
+  coarse_observed : AreRatesObserved (daily_lines p.rates p.index) are.first members p.end ps
   coarse_observed =
-      subst (λ (u : List ℤ). AreObserved (daily_lines p.rates p.index) are.first u p.end ps)
+      subst (λ (u : List ℤ). AreRatesObserved (daily_lines p.rates p.index) are.first u p.end ps)
       (same_members p.days p.start p.end members are.starts has.order are_members are.are_starts) are.observed
 
   pairs : Pairs (Same (daily_rates p.rates p.index)) is.observations ps
@@ -279,7 +281,7 @@ module _ (p : CompoundedPeriod) (has : HasDays p) (low : StaysLow p) (x : Fracti
   stays =
       let few = few_days p.start p.end (total_weight is.observations) has.first has.last days in
       stays_through (days_of_year p.year) (year_some p.year) (daily_rates p.rates p.index) is.observations ps 0
-      (one_fine rate_precision) one_factor is.is_rate.factor g pairs (omega (arith, few))
+      (one_fine rate_precision) derived_one is.is_rate.factor g pairs (omega (arith, few))
       (low.not_below is.observations is.are_observations) stays_one is.is_rate.grows grows
 
   small : stays.fine ≤ 10 ^ 19
@@ -324,7 +326,7 @@ module _ (p : CompoundedPeriod) (has : HasDays p) (low : StaysLow p) (x : Fracti
       }
 
 -- fractions of these parts are near
-near_of : (x y : Fraction) (a b c d : ℤ) → x.numerator ≡ a → x.denominator ≡ b → y.numerator ≡ c → y.denominator ≡ d
+near_of : (x y : RateFraction) (a b c d : ℤ) → x.numerator ≡ a → x.denominator ≡ b → y.numerator ≡ c → y.denominator ≡ d
     → AreNear (record { numerator = a; denominator = b }) (record { numerator = c; denominator = d }) → AreNear x y
 near_of x y a b c d xn xd yn yd near =
     subst (λ (v : ℤ). AreNear x (record { numerator = y.numerator; denominator = v })) (sym yd)
@@ -360,13 +362,13 @@ agree_as_printed p has low x z r is shown finds =
 -- ---- over a stream
 
 -- with one member at least a fraction of daily rates has a denominator above 0
-denominator_above : (year : YearDays) (daily : DailyRates) (os : List Observed) (x : Fraction) → 0 < total_weight os
+denominator_above : (year : YearDays) (daily : DailyRates) (os : List Observed) (x : RateFraction) → 0 < total_weight os
     → IsObservedRate (Compounding year) daily os x → pos 0 <ℤ x.denominator
 denominator_above year daily os x some is =
     let above : pos 0 <ℤ (pos (10 ^ 18) *ℤ pos (total_weight os)) = omega (arith, signed_arith, some) in
     subst (λ (d : ℤ). pos 0 <ℤ d) (sym is.denominator) above
 
-known_over : (source : OvernightSource) (rates : RateTable) (i : ℕ) (x : Fraction)
+known_over : (source : OvernightSource) (rates : RateTable) (i : ℕ) (x : RateFraction)
     → IsOvernightRate source rates i (Known x)
     → IsRateOver source.method (daily_rates rates source.index) (period_of source i) (Known x)
 known_over source rates i x is = elim is.is_rate [
@@ -374,12 +376,12 @@ known_over source rates i x is = elim is.is_rate [
   | inr over ↦ over.1
 ]
   where
-    not_stated : (x : Fraction) (rate : ℤ) → Known x ≡ Stated rate → ⊥
+    not_stated : (x : RateFraction) (rate : ℤ) → Known x ≡ Stated rate → ⊥
     not_stated x rate e = cc
 
-module _ (observed : OvernightSource) (derived : DailySource) (rates : RateTable) (year : YearDays)
+module _ (observed : OvernightSource) (derived : DerivedSource) (rates : RateTable) (year : YearDays)
     (one : IsOneStream observed derived rates year) (i : ℕ) where
-  over_absent : (x : Fraction) → IsOvernightRate observed rates i (Known x)
+  over_absent : (x : RateFraction) → IsOvernightRate observed rates i (Known x)
       → IsRateOver (Compounding year) (daily_rates rates observed.index)
       (with_parameters (compounded_period observed rates year i)) (Known x)
   over_absent x is =
@@ -393,23 +395,23 @@ module _ (observed : OvernightSource) (derived : DailySource) (rates : RateTable
       → FindsRate (without_parameters (compounded_period observed rates year i)) (Rate r)
   finds_over row r is found =
       let basis = some_basis is.basis (days_of_year year) (sym is.is_basis ∙ one.basis) in
-      let a = subst (λ (f : Found). FindsRate (period_at derived is.basis i) f) found is.finds in
-      let b = subst (λ (n : ℕ). FindsRate (period_at derived n i) (Rate r)) basis a in
-      let c = subst (λ (u : List ℤ). FindsRate (daily_period (days_of_year year) derived.lines derived.days
+      let a = subst (λ (f : Found). FindsRate (derived_period_at derived is.basis i) f) found is.finds in
+      let b = subst (λ (n : ℕ). FindsRate (derived_period_at derived n i) (Rate r)) basis a in
+      let c = subst (λ (u : List ℤ). FindsRate (derived_period (days_of_year year) derived.lines derived.days
       (day_at u (i - 1)) (day_at u i)) (Rate r)) one.adjusted b in
-      let d = subst (λ (s : DaySet). FindsRate (daily_period (days_of_year year) derived.lines s
+      let d = subst (λ (s : DaySet). FindsRate (derived_period (days_of_year year) derived.lines s
       (day_at observed.adjusted (i - 1)) (day_at observed.adjusted i)) (Rate r)) one.days c in
-      subst (λ (l : RateLines). FindsRate (daily_period (days_of_year year) l observed.applicable
+      subst (λ (l : RateLines). FindsRate (derived_period (days_of_year year) l observed.applicable
       (day_at observed.adjusted (i - 1)) (day_at observed.adjusted i)) (Rate r)) one.lines d
 
 -- so do the rates of each period of a stream in both forms
-pub agree_in_stream : (observed : OvernightSource) (derived : DailySource) (rates : RateTable) (year : YearDays)
+pub agree_in_stream : (observed : OvernightSource) (derived : DerivedSource) (rates : RateTable) (year : YearDays)
     → AgreeInStream observed derived rates year
 agree_in_stream observed derived rates year one i x row r has low is row_is found =
     let over = over_absent observed derived rates year one i x is in
     let rate = over.is_rate.1 in
     let above = denominator_above year (daily_rates rates observed.index) over.observations x over.some rate in
-    agree_as_printed (compounded_period observed rates year i) has low x (printed x) r
+    agree_as_printed (compounded_period observed rates year i) has low x (printed_rate x) r
     (record { observations = over.observations; are_observations = over.are_observations; is_rate = rate })
     (rounded_is Nearest (pos (10 ^ 9) *ℤ x.numerator) x.denominator above)
     (finds_over observed derived rates year one i row r row_is found)

@@ -9,13 +9,14 @@ use Rattle.irs_calendar.specs.GoodDays.{DaySet}
 use Rattle.irs_resets.specs.Rates.{RateTable, rate_at}
 use Rattle.irs_resets.specs.declared.store.Slot.{Slot}
 use Rattle.irs_schedule.specs.Parts.{Part}
-use Rattle.irs_overnight.specs.DailySources.{DailySource, daily_source}
+use Rattle.irs_overnight.specs.DailySources.{DerivedSource, derived_source}
 use Rattle.irs_overnight.specs.DerivedRows.{AreDerived, IsDerivedRow}
 use Rattle.irs_overnight.specs.DerivedRules.{BreaksDerived}
-use Rattle.irs_overnight.specs.FoundRates.{FindsRate, PeriodFails, daily_period}
-use Rattle.irs_overnight.specs.Observations.{AreObservations, IsObservation, next_start, observed_on}
-use Rattle.irs_overnight.specs.Overnight.{BreaksOvernight, IsFirstDerived, IsOvernight, OvernightKept, asked}
-use Rattle.irs_overnight.specs.Sources.{RateLines, daily_lines, one_day, rate_by}
+use Rattle.irs_overnight.specs.FoundRates.{FindsRate, PeriodFails, derived_period}
+use Rattle.irs_overnight.specs.Observations.{AreRateObservations, IsRateObservation, next_start, observed_on}
+use Rattle.irs_overnight.specs.Overnight.{BreaksDerivedRule, IsFirstDerived, IsOvernight, OvernightKept, asked}
+use Rattle.irs_observed.specs.DailyRates.{one_day}
+use Rattle.irs_overnight.specs.Sources.{RateLines, daily_lines, rate_by}
 use Rattle.irs_overnight.specs.declared.derived.DerivedRow.{DerivedRow}
 use Rattle.irs_overnight.specs.declared.derived.Found.{Found}
 use Rattle.irs_overnight.specs.declared.observations.Observation.{Observation}
@@ -36,14 +37,14 @@ SameLines l m = (d : ℤ) → rate_by l d ≡ rate_by m d
 -- ---- observations
 
 module _ (l m : RateLines) (same : SameLines l m) where
-  observed_too : (q : ℤ) (u : List ℤ) (e : ℤ) (k : ℕ) (o : Observation) → IsObservation l q u e k o
-      → IsObservation m q u e k o
+  observed_too : (q : ℤ) (u : List ℤ) (e : ℤ) (k : ℕ) (o : Observation) → IsRateObservation l q u e k o
+      → IsRateObservation m q u e k o
   observed_too q u e k o h =
       h ∙ ap (λ (r : Option ℤ). record { day = observed_on q u k; weight = next_start u e k -ℤ day_at u k; rate = r })
       (same (observed_on q u k))
 
-  observations_too : (set : DaySet) (s e : ℤ) (os : List Observation) → AreObservations l set s e os
-      → AreObservations m set s e os
+  observations_too : (set : DaySet) (s e : ℤ) (os : List Observation) → AreRateObservations l set s e os
+      → AreRateObservations m set s e os
   observations_too set s e os h = record {
     starts = h.starts;
     are_starts = h.are_starts;
@@ -51,18 +52,18 @@ module _ (l m : RateLines) (same : SameLines l m) where
     previous = h.previous;
     observed = record {
       many = h.observed.many;
-      each = numbered_map (IsObservation l h.first h.starts e) (IsObservation m h.first h.starts e) 0 os
+      each = numbered_map (IsRateObservation l h.first h.starts e) (IsRateObservation m h.first h.starts e) 0 os
           (λ k o _ _ is. observed_too h.first h.starts e k o is) h.observed.each;
     };
   }
 
-  finds_too : (basis : ℕ) (set : DaySet) (s e : ℤ) (found : Found) → FindsRate (daily_period basis l set s e) found
-      → FindsRate (daily_period basis m set s e) found
+  finds_too : (basis : ℕ) (set : DaySet) (s e : ℤ) (found : Found) → FindsRate (derived_period basis l set s e) found
+      → FindsRate (derived_period basis m set s e) found
   finds_too basis set s e found h =
       record { observations = h.observations; are = observations_too set s e h.observations h.are; is = h.is }
 
-  fails_too : (why : PeriodFault) (basis : ℕ) (set : DaySet) (s e : ℤ) → PeriodFails why (daily_period basis l set s e)
-      → PeriodFails why (daily_period basis m set s e)
+  fails_too : (why : PeriodFault) (basis : ℕ) (set : DaySet) (s e : ℤ) → PeriodFails why (derived_period basis l set s e)
+      → PeriodFails why (derived_period basis m set s e)
   fails_too NoDays basis set s e h = h
   fails_too OutOfRange basis set s e h =
       record { observations = h.observations; are = observations_too set s e h.observations h.are; passes = h.passes }
@@ -73,12 +74,12 @@ module _ (t u : RateTable) (e : SameRates t u) (part : Part) (index : List ℕ) 
   lines_too : SameLines (daily_lines t index) (daily_lines u index)
   lines_too d = e index (record { date = d; tenor = Some one_day })
 
-  derived_too : (rows : List DerivedRow) → AreDerived (daily_source part index days t) rows
-      → AreDerived (daily_source part index days u) rows
+  derived_too : (rows : List DerivedRow) → AreDerived (derived_source part index days t) rows
+      → AreDerived (derived_source part index days u) rows
   derived_too rows h = record {
     many = h.many;
-    each = numbered_map (IsDerivedRow (daily_source part index days t))
-        (IsDerivedRow (daily_source part index days u)) 1 rows
+    each = numbered_map (IsDerivedRow (derived_source part index days t))
+        (IsDerivedRow (derived_source part index days u)) 1 rows
         (λ i row _ _ is. record {
           stands = is.stands;
           period = is.period;
@@ -90,8 +91,8 @@ module _ (t u : RateTable) (e : SameRates t u) (part : Part) (index : List ℕ) 
         }) h.each;
   }
 
-  broken_too : (f : Fault) → BreaksDerived (daily_source part index days t) f
-      → BreaksDerived (daily_source part index days u) f
+  broken_too : (f : Fault) → BreaksDerived (derived_source part index days t) f
+      → BreaksDerived (derived_source part index days u) f
   broken_too f (inl h) = inl h
   broken_too f (inr (inl h)) = inr (inl (record { number = h.number; not_after = h.not_after; is = h.is }))
   broken_too f (inr (inr h)) = inr (inr (record {
@@ -110,19 +111,19 @@ module _ (t u : RateTable) (e : SameRates t u) (swap : Swap) (n : ℕ) (parts : 
   pub overnight_same : (rows : List DerivedRow) → IsOvernight (asked swap n parts days t) rows
       → IsOvernight (asked swap n parts days u) rows
   overnight_same rows h = record {
-    source = daily_source h.has.part h.has.float.index days u;
+    source = derived_source h.has.part h.has.float.index days u;
     has = record { float = h.has.float; pays = h.has.pays; part = h.has.part; at = h.has.at; is = refl };
     derived = derived_too t u e h.has.part h.has.float.index days rows
-        (subst (λ (s : DailySource). AreDerived s rows) h.has.is h.derived);
+        (subst (λ (s : DerivedSource). AreDerived s rows) h.has.is h.derived);
   }
 
-  overnight_breaks : (f : Fault) → BreaksOvernight (asked swap n parts days t) f
-      → BreaksOvernight (asked swap n parts days u) f
+  overnight_breaks : (f : Fault) → BreaksDerivedRule (asked swap n parts days t) f
+      → BreaksDerivedRule (asked swap n parts days u) f
   overnight_breaks f h = record {
-    source = daily_source h.has.part h.has.float.index days u;
+    source = derived_source h.has.part h.has.float.index days u;
     has = record { float = h.has.float; pays = h.has.pays; part = h.has.part; at = h.has.at; is = refl };
     breaks = broken_too t u e h.has.part h.has.float.index days f
-        (subst (λ (s : DailySource). BreaksDerived s f) h.has.is h.breaks);
+        (subst (λ (s : DerivedSource). BreaksDerived s f) h.has.is h.breaks);
   }
 
 -- rates that agree on each line break no rule alike

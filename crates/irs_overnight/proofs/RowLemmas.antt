@@ -10,13 +10,13 @@ use Rattle.irs_base.proofs.MemberLemmas.{one_numbered}
 use Rattle.irs_terms.specs.declared.results.Reset.{Reset}
 use Rattle.irs_resets.specs.ResetDates.{IsPeriod}
 use Rattle.irs_schedule.specs.RowsOf.{no_reset}
-use Rattle.irs_overnight.specs.DerivedRules.{NotAfter}
+use Rattle.irs_overnight.specs.DerivedRules.{FixingNotAfter}
 use Rattle.irs_schedule.specs.Parts.{Rises}
 use Rattle.irs_schedule.proofs.PeriodLemmas.{next_day}
-use Rattle.irs_overnight.specs.DailyPeriods.{period_at}
+use Rattle.irs_overnight.specs.DailyPeriods.{derived_period_at}
 use Rattle.irs_overnight.specs.DerivedRows.{AreDerived, IsDerivedRow}
 use Rattle.irs_overnight.specs.FoundRates.{FindsRate}
-use Rattle.irs_overnight.specs.DailySources.{DailySource}
+use Rattle.irs_overnight.specs.DailySources.{DerivedSource}
 use Rattle.irs_overnight.specs.declared.derived.DerivedRow.{DerivedRow}
 use Rattle.irs_overnight.specs.declared.derived.Found.{Found}
 use Rattle.irs_overnight.proofs.PeriodLemmas.{basis_range, one_found, some_basis}
@@ -34,14 +34,14 @@ made i d f = record { period = i; fixing = d; found = f }
 pub same_row : (i j : ℕ) (c d : ℤ) (f g : Found) → i ≡ j → c ≡ d → f ≡ g → made i c f ≡ made j d g
 same_row i j c d f g a b e = λ t. made (a t) (b t) (e t)
 
-module _ (source : DailySource) (rises : Rises source.adjusted) where
+module _ (source : DerivedSource) (rises : Rises source.adjusted) where
   one_row : (i : ℕ) (x y : DerivedRow) → IsDerivedRow source i x → IsDerivedRow source i y → x ≡ y
   one_row i x y p q =
       let bases : p.basis ≡ q.basis = some_basis p.basis q.basis (sym p.is_basis ∙ q.is_basis) in
-      let moved : FindsRate (period_at source q.basis i) x.found =
-      subst (λ (n : ℕ). FindsRate (period_at source n i) x.found) bases p.finds in
+      let moved : FindsRate (derived_period_at source q.basis i) x.found =
+      subst (λ (n : ℕ). FindsRate (derived_period_at source n i) x.found) bases p.finds in
       let order = in_order source.adjusted i rises q.stands in
-      let found = one_found (period_at source q.basis i) (basis_range source.day_count q.basis q.is_basis).0
+      let found = one_found (derived_period_at source q.basis i) (basis_range source.day_count q.basis q.is_basis).0
       (omega (arith, signed_arith, order)) x.found y.found moved q.finds in
       same_row x.period y.period x.fixing y.fixing x.found y.found (p.period ∙ sym q.period) (p.fixing
       ∙ sym q.fixing) found
@@ -69,12 +69,12 @@ read_at resets place x d low is =
 -- one more fixing date that is after the one before it
 pub rises_more : (resets : List Reset) (place : ℕ) (x y : Reset) → 1 ≤ place → place < length resets
     → x ≡ get_or resets place x → y ≡ get_or resets (place - 1) y → (x.fixing ≤ℤ y.fixing → ⊥)
-    → ((n : ℕ) → n ≤ place → NotAfter resets n → ⊥) → (n : ℕ) → n ≤ place + 1 → NotAfter resets n → ⊥
+    → ((n : ℕ) → n ≤ place → FixingNotAfter resets n → ⊥) → (n : ℕ) → n ≤ place + 1 → FixingNotAfter resets n → ⊥
 rises_more resets place x y some low is_x is_y after before n high h = elim (cases_lt n (place + 1)) [
   | inl less ↦ before n (omega (arith, less)) h
   | inr more ↦
       let e : n ≡ place + 1 = omega (arith, high, more) in
-      let here : NotAfter resets (place + 1) = subst (λ (k : ℕ). NotAfter resets k) e h in
+      let here : FixingNotAfter resets (place + 1) = subst (λ (k : ℕ). FixingNotAfter resets k) e h in
       let a : get_or resets place no_reset ≡ x = read_at resets place x no_reset low is_x in
       let b : get_or resets (place - 1) no_reset ≡ y =
       read_at resets (place - 1) y no_reset (omega (arith, low)) is_y in

@@ -3,11 +3,11 @@ use Rattle.std.proofs.Common.{◌≡◌, inl, inr, ℕ, ◌<◌, List, [], ◌�
 use Rattle.std.proofs.lemmas.Bool.{cases_lt}
 use Rattle.irs_base.specs.Limits.{most_rate}
 use Rattle.irs_base.specs.declared.places.Fault.{Fault}
-use Rattle.irs_overnight.specs.DailyPeriods.{period_at}
-use Rattle.irs_overnight.specs.DailySources.{DailySource}
+use Rattle.irs_overnight.specs.DailyPeriods.{derived_period_at}
+use Rattle.irs_overnight.specs.DailySources.{DerivedSource}
 use Rattle.irs_overnight.specs.DerivedRows.{IsDerivedRow}
 use Rattle.irs_overnight.specs.DerivedRules.{BreaksDerived, period_fault}
-use Rattle.irs_overnight.specs.Factors.{Grows, IsCompounded, one_factor}
+use Rattle.irs_overnight.specs.Factors.{DerivedGrows, IsDerivedRate, derived_one}
 use Rattle.irs_overnight.specs.FileLaw.{IsSmallFound}
 use Rattle.irs_overnight.specs.FoundRates.{DailyPeriod, FindsRate, PassesRange}
 use Rattle.irs_overnight.specs.Observations.{first_absent}
@@ -18,7 +18,7 @@ use Rattle.irs_overnight.specs.declared.observations.Observation.{Observation}
 use Rattle.irs_overnight.specs.declared.periods.PeriodFault.TheVariants.{OutOfRange}
 
 -- factors grow by rates that are there
-grown_known : (basis : ℕ) (os : List Observation) (f g : ℤ) → Grows basis os f g → first_absent os ≡ None
+grown_known : (basis : ℕ) (os : List Observation) (f g : ℤ) → DerivedGrows basis os f g → first_absent os ≡ None
 grown_known basis [] f g h = refl
 grown_known basis (o ∷ os) f g h = let rest = grown_known basis os h.0 g h.2 in
     let there = h.1.observed in
@@ -28,12 +28,12 @@ found_small : (p : DailyPeriod) (found : Found) → FindsRate p found → (Passe
 found_small p (Missing d) h none = tt
 found_small p (Rate x) h none = elim (cases_lt most_rate (unsigned_abs x)) [
   | inl more ↦
-      let is : IsCompounded p.basis (p.end -ℤ p.start) h.observations x = h.is in
+      let is : IsDerivedRate p.basis (p.end -ℤ p.start) h.observations x = h.is in
       absurd (none (record {
         observations = h.observations;
         are = h.are;
         passes = record {
-          known = grown_known p.basis h.observations one_factor is.factor is.grows;
+          known = grown_known p.basis h.observations derived_one is.factor is.grows;
           passes = inr (record { rate = x; is_compounded = is; passes = more });
         };
       }))
@@ -41,10 +41,10 @@ found_small p (Rate x) h none = elim (cases_lt most_rate (unsigned_abs x)) [
 ]
 
 -- where K44 isn't broken, the rate of a row is at most 10 in size
-pub row_small : (source : DailySource) → ((f : Fault) → BreaksDerived source f → ⊥) → (i : ℕ) (row : DerivedRow)
+pub row_small : (source : DerivedSource) → ((f : Fault) → BreaksDerived source f → ⊥) → (i : ℕ) (row : DerivedRow)
     → IsDerivedRow source i row → IsSmallFound row.found
 row_small source kept i row h =
-    found_small (period_at source h.basis i) row.found h.finds (λ passes. kept (period_fault OutOfRange i) (inr (inr (record {
+    found_small (derived_period_at source h.basis i) row.found h.finds (λ passes. kept (period_fault OutOfRange i) (inr (inr (record {
       basis = h.basis;
       is_basis = h.is_basis;
       number = i;

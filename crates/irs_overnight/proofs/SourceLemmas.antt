@@ -21,9 +21,10 @@ use Rattle.irs_schedule.specs.Parts.{KeepsBounds, Part, Rises}
 use Rattle.irs_schedule.specs.Schedules.{IsPart}
 use Rattle.irs_overnight.specs.DerivedRows.{AreDerived}
 use Rattle.irs_overnight.specs.DerivedRules.{BreaksDerived, derived_before}
-use Rattle.irs_overnight.specs.Overnight.{Asked, BreaksOvernight, HasSource, IsAsked, IsFirstDerived, IsOvernight}
+use Rattle.irs_overnight.specs.Overnight.{OvernightAsked, BreaksDerivedRule, HasSource, IsAsked, IsFirstDerived}
+use Rattle.irs_overnight.specs.Overnight.{IsOvernight}
 use Rattle.irs_overnight.specs.Overnight.{OvernightKept}
-use Rattle.irs_overnight.specs.DailySources.{DailySource, daily_source}
+use Rattle.irs_overnight.specs.DailySources.{DerivedSource, derived_source}
 use Rattle.irs_terms.specs.declared.step_list.StepValues.{StepValues}
 use Rattle.irs_overnight.specs.Sources.{Floats, PaysFloating}
 use Rattle.irs_overnight.specs.declared.derived.DerivedRow.{DerivedRow}
@@ -50,12 +51,12 @@ one_pays swap number f g p q =
     some_float f g (sym p.pays ∙ ap (λ (s : Stream). s.leg) same ∙ q.pays)
 
 -- there is one source
-pub one_source : (a : Asked) (x y : DailySource) → HasSource a x → HasSource a y → x ≡ y
+pub one_source : (a : OvernightAsked) (x y : DerivedSource) → HasSource a x → HasSource a y → x ≡ y
 one_source a x y p q =
     let floats = one_pays a.swap a.number p.float q.float p.pays q.pays in
     let parts = some_part p.part q.part (sym p.at ∙ q.at) in
-    let same : daily_source p.part p.float.index a.days a.rates ≡ daily_source q.part q.float.index a.days a.rates =
-    (λ t. daily_source (parts t) (floats t).index a.days a.rates) in
+    let same : derived_source p.part p.float.index a.days a.rates ≡ derived_source q.part q.float.index a.days a.rates =
+    (λ t. derived_source (parts t) (floats t).index a.days a.rates) in
     p.is ∙ same ∙ sym q.is
 
 -- the partner of a member
@@ -68,7 +69,7 @@ partner R (x ∷ ss) (p ∷ ps) zero s pairs at = (p, refl, subst (λ (y : Strea
 partner R (x ∷ ss) (p ∷ ps) (suc i) s pairs at = partner R ss ps i s pairs.1 at
 
 -- the part of the stream, which floats
-pub asked_part : (a : Asked) → IsAsked a → (p : Part) × (slice_get a.parts (a.number - 1) ≡ Some p) × IsTrue p.floating
+pub asked_part : (a : OvernightAsked) → IsAsked a → (p : Part) × (slice_get a.parts (a.number - 1) ≡ Some p) × IsTrue p.floating
 asked_part a h =
     let pays = h.floats.1 in
     let found = partner (λ s p. IsPart (stream_sets h.calendars s) [] s p) a.swap.streams a.parts
@@ -82,13 +83,13 @@ every_at P [] i p each at = absurd (cc)
 every_at P (x ∷ ps) zero p each at = subst P (some_part x p at) each.0
 every_at P (x ∷ ps) (suc i) p each at = every_at P ps i p each.1 at
 
-module _ (a : Asked) (source : DailySource) (has : HasSource a source) where
+module _ (a : OvernightAsked) (source : DerivedSource) (has : HasSource a source) where
   -- rows over that source are the rates of the stream
   pub overnight_rows : (rows : List DerivedRow) → AreDerived source rows → IsOvernight a rows
   overnight_rows rows derived = record { source = source; has = has; derived = derived }
 
-  breaks_source : (f : Fault) → BreaksOvernight a f → BreaksDerived source f
-  breaks_source f b = subst (λ (s : DailySource). BreaksDerived s f) (one_source a b.source source b.has has) b.breaks
+  breaks_source : (f : Fault) → BreaksDerivedRule a f → BreaksDerived source f
+  breaks_source f b = subst (λ (s : DerivedSource). BreaksDerived s f) (one_source a b.source source b.has has) b.breaks
 
   -- where no rule is broken over that source, none is for the stream
   pub overnight_kept : ((f : Fault) → BreaksDerived source f → ⊥) → OvernightKept a
@@ -104,20 +105,20 @@ module _ (a : Asked) (source : DailySource) (has : HasSource a source) where
   }
 
 -- there is one list of rates
-pub one_overnight : (a : Asked) → Every KeepsBounds a.parts → (xs ys : List DerivedRow) → IsOvernight a xs
+pub one_overnight : (a : OvernightAsked) → Every KeepsBounds a.parts → (xs ys : List DerivedRow) → IsOvernight a xs
     → IsOvernight a ys → xs ≡ ys
 one_overnight a bounds xs ys p q =
     let same = one_source a p.source q.source p.has q.has in
     let part = every_at KeepsBounds a.parts (a.number - 1) q.has.part bounds q.has.at in
     let is = q.has.is in
     let rises : Rises q.source.adjusted = rw is part.adjusted_rises in
-    one_derived q.source rises xs ys (subst (λ (s : DailySource). AreDerived s xs) same p.derived) q.derived
+    one_derived q.source rises xs ys (subst (λ (s : DerivedSource). AreDerived s xs) same p.derived) q.derived
 
 -- and one first rule that is broken
-pub one_broken : (a : Asked) (x y : Broken) → IsFirstDerived a x → IsFirstDerived a y → x ≡ y
+pub one_broken : (a : OvernightAsked) (x y : Broken) → IsFirstDerived a x → IsFirstDerived a y → x ≡ y
 one_broken a x y p q =
     let same : p.fault ≡ q.fault =
-    one_first derived_before derived_ties (BreaksOvernight a) p.fault q.fault p.first q.first in
+    one_first derived_before derived_ties (BreaksDerivedRule a) p.fault q.fault p.first q.first in
     p.is ∙ ap (in_stream a.number) same ∙ sym q.is
 
 -- a stream that is there isn't missing
@@ -125,17 +126,17 @@ pub lacks : (o : Option Stream) (s : Stream) → o ≡ None → o ≡ Some s →
 lacks o s p q = cc
 
 -- parts are at the places of the list alone
-pub asked_place : (a : Asked) → IsAsked a → (1 ≤ a.number) × (a.number - 1 < length a.parts)
+pub asked_place : (a : OvernightAsked) → IsAsked a → (1 ≤ a.number) × (a.number - 1 < length a.parts)
 asked_place a h = let found = asked_part a h in
     (h.floats.1.from_one, slice_get_within a.parts (a.number - 1) found.0 found.1)
 
 -- the part that is read there has the source
-pub has_source : (a : Asked) → (h : IsAsked a) → (float : FloatTerms) → PaysFloating a.swap a.number float → (p : Part)
-    → slice_get a.parts (a.number - 1) ≡ Some p → HasSource a (daily_source p float.index a.days a.rates)
+pub has_source : (a : OvernightAsked) → (h : IsAsked a) → (float : FloatTerms) → PaysFloating a.swap a.number float → (p : Part)
+    → slice_get a.parts (a.number - 1) ≡ Some p → HasSource a (derived_source p float.index a.days a.rates)
 has_source a h float pays p at = record { float = float; pays = pays; part = p; at = at; is = refl }
 
 -- the part of a requested stream floats
-pub part_floats : (a : Asked) → IsAsked a → (p : Part) → slice_get a.parts (a.number - 1) ≡ Some p → IsTrue p.floating
+pub part_floats : (a : OvernightAsked) → IsAsked a → (p : Part) → slice_get a.parts (a.number - 1) ≡ Some p → IsTrue p.floating
 part_floats a h p at =
     let found = asked_part a h in
     subst (λ (x : Part). IsTrue x.floating) (some_part found.0 p (sym found.1 ∙ at)) found.2

@@ -6,7 +6,8 @@ use Rattle.irs_base.specs.Listed.{Member}
 use Rattle.irs_base.proofs.Decided.{order_of}
 use Rattle.irs_base.proofs.Rising.{member_cases, member_new, member_old, one_rising, rising_push}
 use Rattle.irs_calendar.specs.GoodDays.{DaySet, IsGood}
-use Rattle.irs_overnight.specs.Starts.{AreStarts, LeavesCover}
+use Rattle.irs_observed.specs.PeriodMembers.{LeavesCover}
+use Rattle.irs_overnight.specs.Starts.{AreStarts}
 
 -- what is false isn't true
 pub is_not : (b : Bool) → b ≡ false → IsTrue b → ⊥

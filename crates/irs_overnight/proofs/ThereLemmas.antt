@@ -12,15 +12,17 @@ use Rattle.irs_adjust.proofs.FoundDays.{decides_good, decides_in_cover, decides_
 use Rattle.irs_resets.specs.ResetDates.{IsPeriod}
 use Rattle.irs_resets.proofs.FileLemmas.{some_rate}
 use Rattle.irs_schedule.specs.Parts.{KeepsBounds, Rises}
-use Rattle.irs_overnight.specs.DailyPeriods.{period_at}
-use Rattle.irs_overnight.specs.DailySources.{DailySource, daily_source, fixing_at}
+use Rattle.irs_overnight.specs.DailyPeriods.{derived_period_at}
+use Rattle.irs_overnight.specs.DailySources.{DerivedSource, derived_source, fixing_at}
 use Rattle.irs_overnight.specs.DerivedRows.{AreDerived, IsDerivedRow}
 use Rattle.irs_overnight.specs.DerivedRules.{BreaksDerived, no_basis, period_fault}
-use Rattle.irs_overnight.specs.Factors.{Grows, one_factor, year_of}
+use Rattle.irs_observed.specs.Factors.{unit_rate}
+use Rattle.irs_overnight.specs.Factors.{DerivedGrows, derived_one}
 use Rattle.irs_overnight.specs.FoundRates.{DailyPeriod, FindsRate, IsFound}
-use Rattle.irs_overnight.specs.Observations.{AreObservations, AreObserved, IsObservation, first_absent, next_start}
+use Rattle.irs_overnight.specs.Observations.{AreRateObservations, AreRatesObserved, IsRateObservation, first_absent}
+use Rattle.irs_overnight.specs.Observations.{next_start}
 use Rattle.irs_overnight.specs.Observations.{observed_on}
-use Rattle.irs_overnight.specs.Overnight.{Asked, HasSource, IsAsked, IsOvernight, OvernightKept}
+use Rattle.irs_overnight.specs.Overnight.{OvernightAsked, HasSource, IsAsked, IsOvernight, OvernightKept}
 use Rattle.irs_overnight.specs.Sources.{RateLines, basis_of, rate_by}
 use Rattle.irs_overnight.specs.Starts.{AreStarts, LacksDays}
 use Rattle.irs_overnight.specs.declared.derived.DerivedRow.{DerivedRow}
@@ -76,9 +78,9 @@ starts_there set s e order inside =
     let found = starts_of set s n.0 (subst (λ (x : ℤ). Inside set s x) (sym n.1) inside) in
     (found.0, subst (λ (x : ℤ). AreStarts set s x found.0) n.1 found.1)
 
-observed_there : (lines : RateLines) (q : ℤ) (u : List ℤ) (e : ℤ) → (os : List Observation) × AreObserved lines q u e os
+observed_there : (lines : RateLines) (q : ℤ) (u : List ℤ) (e : ℤ) → (os : List Observation) × AreRatesObserved lines q u e os
 observed_there lines q u e =
-    let there = numbered_there (IsObservation lines q u e) (length u) 0 (λ k low high. (
+    let there = numbered_there (IsRateObservation lines q u e) (length u) 0 (λ k low high. (
       record {
         day = observed_on q u k;
         weight = next_start u e k -ℤ day_at u k;
@@ -90,7 +92,7 @@ observed_there lines q u e =
     (there.0, record { many = there.1; each = there.2 })
 
 observations_there : (lines : RateLines) (set : DaySet) (s e : ℤ) → s <ℤ e → (LacksDays set s e → ⊥)
-    → (os : List Observation) × AreObservations lines set s e os
+    → (os : List Observation) × AreRateObservations lines set s e os
 observations_there lines set s e order kept =
     let inside : Inside set s e = λ d low high. elim (decides_in_cover set d) [
       | inl inside ↦ inside
@@ -114,12 +116,12 @@ observations_there lines set s e order kept =
     ]
 
 module _ (basis : ℕ) (some : 1 ≤ basis) where
-  grows_there : (os : List Observation) (f : ℤ) → first_absent os ≡ None → (g : ℤ) × Grows basis os f g
+  grows_there : (os : List Observation) (f : ℤ) → first_absent os ≡ None → (g : ℤ) × DerivedGrows basis os f g
   grows_there [] f none = (f, refl)
   grows_there (o ∷ os) f none =
       let known = known_or o.rate o.day (first_absent os) none in
       let rate = some_rate o.rate known.0 in
-      let next = nearest_exists (f *ℤ (year_of basis +ℤ rate.0 *ℤ o.weight)) (year_of basis) (above basis some) in
+      let next = nearest_exists (f *ℤ (unit_rate basis +ℤ rate.0 *ℤ o.weight)) (unit_rate basis) (above basis some) in
       let rest = grows_there os next.0 known.1 in
       (rest.0, (next.0, record { rate = rate.0; observed = rate.1; rounded = next.1 }, rest.1))
 
@@ -127,8 +129,8 @@ module _ (basis : ℕ) (some : 1 ≤ basis) where
       → (found : Found) × IsFound basis days os found
   found_by days os (Some d) above e = (Missing d, e)
   found_by days os None above e =
-      let factor = grows_there os one_factor e in
-      let rate = nearest_exists ((factor.0 -ℤ one_factor) *ℤ pos basis) (pos (10 ^ 6) *ℤ days) (positive days above) in
+      let factor = grows_there os derived_one e in
+      let rate = nearest_exists ((factor.0 -ℤ derived_one) *ℤ pos basis) (pos (10 ^ 6) *ℤ days) (positive days above) in
       (Rate rate.0, record { factor = factor.0; grows = factor.1; rounded = rate.1 })
 
 -- a period that lacks no day gives a rate or a missing day
@@ -140,13 +142,13 @@ finds_there p some order kept =
     (omega (arith, signed_arith, order)) refl in
     (found.0, record { observations = os.0; are = os.1; is = found.1 })
 
-module _ (source : DailySource) (rises : Rises source.adjusted) (long : 1 ≤ length source.adjusted) (kept : (f : Fault)
+module _ (source : DerivedSource) (rises : Rises source.adjusted) (long : 1 ≤ length source.adjusted) (kept : (f : Fault)
     → BreaksDerived source f → ⊥) where
   rows_by : (basis : ℕ) → basis_of source.day_count ≡ Some basis → (rows : List DerivedRow) × AreDerived source rows
   rows_by basis is =
       let there = numbered_there (IsDerivedRow source) (length source.adjusted - 1) 1 (λ k low high.
       let period : IsPeriod source.adjusted k = (low, omega (arith, high, long)) in
-      let found = finds_there (period_at source basis k) (basis_range source.day_count basis is).0
+      let found = finds_there (derived_period_at source basis k) (basis_range source.day_count basis is).0
       (in_order source.adjusted k rises period)
       (λ lacks. kept (period_fault NoDays k)
       (inr (inr (record {
@@ -171,12 +173,12 @@ module _ (source : DailySource) (rises : Rises source.adjusted) (long : 1 ≤ le
   rows_there (Some basis) e = rows_by basis e
 
 -- where no rule is broken there is a list of rates
-pub overnight_there : (a : Asked) → IsAsked a → Every KeepsBounds a.parts → OvernightKept a
+pub overnight_there : (a : OvernightAsked) → IsAsked a → Every KeepsBounds a.parts → OvernightKept a
     → (rows : List DerivedRow) × IsOvernight a rows
 overnight_there a h bounds kept =
     let part = asked_part a h in
     let float = h.floats.0 in
-    let source : DailySource = daily_source part.0 float.index a.days a.rates in
+    let source : DerivedSource = derived_source part.0 float.index a.days a.rates in
     let has : HasSource a source = has_source a h float h.floats.1 part.0 part.1 in
     let keeps = every_at KeepsBounds a.parts (a.number - 1) part.0 bounds part.1 in
     let long = keeps.adjusted in

@@ -12,18 +12,19 @@ use Rattle.irs_base.proofs.VisibleTexts.{row_digits, row_spells, spells_decimal,
 use Rattle.irs_base.specs.Dates.{date_at}
 use Rattle.irs_base.specs.Days.{IsDay}
 use Rattle.irs_base.specs.Decimals.{DecText, bare, minus, IsUnsigned, number_after, number_of}
-use Rattle.irs_base.specs.Fields.{is_space}
+use Rattle.irs_base.specs.Fields.{is_space_or_tab}
 use Rattle.irs_base.specs.Texts.{day_text, dec_text, digit_row, unsigned_dec}
 use Rattle.irs_terms.specs.Lawful.{IsLawfulTenor, IsRate}
 use Rattle.irs_terms.specs.declared.frequency.Frequency.{Frequency}
 use Rattle.irs_terms.specs.declared.frequency.Unit.{Unit as FrequencyUnit}
 use Rattle.irs_terms.specs.declared.frequency.Unit.TheVariants.{D, W, M, Y, T}
-use Rattle.irs_resets.specs.Tenors.{digit_at, first_digit, tenor_at, tens, three_digits, two_digits as pair_at, unit_at}
+use Rattle.irs_resets.specs.Tenors.{digit_at, first_digit, tenor_at, tens, three_digits, two_digit_number as pair_at}
+use Rattle.irs_resets.specs.Tenors.{unit_of_letter}
 use Rattle.irs_resets.specs.Tenors.{with_unit}
 use Rattle.irs_overnight.specs.Texts.{tenor_text, unit_text}
 
 -- a byte above the space is no white space
-pub no_space : (x : ℕ) → 33 ≤ x → is_space x ≡ false
+pub no_space : (x : ℕ) → 33 ≤ x → is_space_or_tab x ≡ false
 no_space x h = grind (arith, nat_tests)
 
 -- the text of a day in range is read back as the day
@@ -107,7 +108,7 @@ digit_is n h = grind (arith, nat_tests)
 leading_is : (n : ℕ) → 1 ≤ n → n < 10 → first_digit (48 + n) ≡ Some n
 leading_is n low h = grind (arith, nat_tests)
 
-unit_back : (u : FrequencyUnit) → (u ≡ T → ⊥) → (b : ℕ) × (unit_text u ≡ b ∷ []) × (unit_at b ≡ Some u) × (33 ≤ b)
+unit_back : (u : FrequencyUnit) → (u ≡ T → ⊥) → (b : ℕ) × (unit_text u ≡ b ∷ []) × (unit_of_letter b ≡ Some u) × (33 ≤ b)
 unit_back D h = (68, refl, refl, omega arith)
 unit_back W h = (87, refl, refl, omega arith)
 unit_back M h = (77, refl, refl, omega arith)
@@ -175,7 +176,7 @@ abbrev frequency : ℕ → FrequencyUnit → Frequency
 frequency n u = record { count = n; unit = u }
 
 tenor_by : (f : Frequency) (n b : ℕ) (ds : List ℕ) → IsLawfulTenor f → f.count ≡ n → IsShort n ds
-    → unit_at b ≡ Some f.unit → tenor_at (ds ++ b ∷ []) ≡ Some (Some f)
+    → unit_of_letter b ≡ Some f.unit → tenor_at (ds ++ b ∷ []) ≡ Some (Some f)
 tenor_by f n b ds h same short unit =
     let low = h.0.0 in
     let high = h.0.1 in

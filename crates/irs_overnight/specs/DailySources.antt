@@ -10,7 +10,7 @@ use Rattle.irs_overnight.specs.Sources.{RateLines, daily_lines}
 
 -- the adjusted boundaries of the calculation periods and their resets, the day count, the business days of reset dates,
 -- and the daily rates
-pub record DailySource : Type 0 where
+pub record DerivedSource : Type 0 where
   pub adjusted : List ℤ
   pub resets : List Reset
   pub day_count : DayCountCode
@@ -18,8 +18,8 @@ pub record DailySource : Type 0 where
   pub lines : RateLines
 
 -- what the daily rates of a stream of a schedule are compounded from
-abbrev pub daily_source : Part → List ℕ → DaySet → RateTable → DailySource
-daily_source part index days rates = record {
+abbrev pub derived_source : Part → List ℕ → DaySet → RateTable → DerivedSource
+derived_source part index days rates = record {
   adjusted = part.adjusted;
   resets = part.resets;
   day_count = part.day_count;

@@ -10,9 +10,9 @@ use Rattle.irs_base.specs.declared.places.Rule.{Rule}
 use Rattle.irs_base.specs.declared.places.Rule.TheVariants.{K40, K41, K42, K43, K44}
 use Rattle.irs_terms.specs.declared.results.Reset.{Reset}
 use Rattle.irs_resets.specs.ResetDates.{IsPeriod}
-use Rattle.irs_overnight.specs.DailyPeriods.{period_at}
+use Rattle.irs_overnight.specs.DailyPeriods.{derived_period_at}
 use Rattle.irs_overnight.specs.FoundRates.{PeriodFails}
-use Rattle.irs_overnight.specs.DailySources.{DailySource, fixing_at}
+use Rattle.irs_overnight.specs.DailySources.{DerivedSource, fixing_at}
 use Rattle.irs_overnight.specs.Sources.{basis_of}
 use Rattle.irs_overnight.specs.declared.periods.PeriodFault.{PeriodFault}
 use Rattle.irs_overnight.specs.declared.periods.PeriodFault.TheVariants.{NoDays, OutOfRange}
@@ -26,24 +26,24 @@ abbrev pub no_basis : Fault
 no_basis = fault_at K42 day_count_fraction 0
 
 -- K42 is broken
-abbrev pub BreaksBasis : DailySource → Fault → Type 0
+abbrev pub BreaksBasis : DerivedSource → Fault → Type 0
 BreaksBasis source f = (basis_of source.day_count ≡ None) × (f ≡ no_basis)
 
 -- the fixing date of the period isn't after that of the period before it
-pub record NotAfter (resets : List Reset) (number : ℕ) : Type 0 where
+pub record FixingNotAfter (resets : List Reset) (number : ℕ) : Type 0 where
   pub second : 2 ≤ number
   pub within : number ≤ length resets
   pub not_after : fixing_at resets number ≤ℤ fixing_at resets (number - 1)
 
 -- K41 at the period with this number
-abbrev pub not_after_at : ℕ → Fault
-not_after_at number = fault_at K41 reset_dates number
+abbrev pub fixing_not_after_at : ℕ → Fault
+fixing_not_after_at number = fault_at K41 reset_dates number
 
 -- K41 is broken at a period
-pub record BreaksFixing (source : DailySource) (f : Fault) : Type 0 where
+pub record BreaksFixing (source : DerivedSource) (f : Fault) : Type 0 where
   pub number : ℕ
-  pub not_after : NotAfter source.resets number
-  pub is : f ≡ not_after_at number
+  pub not_after : FixingNotAfter source.resets number
+  pub is : f ≡ fixing_not_after_at number
 
 -- what a period breaks by failing so: K43 or K44, with the number of the period
 abbrev pub period_fault : PeriodFault → ℕ → Fault
@@ -52,17 +52,17 @@ period_fault OutOfRange i = fault_at K44 calculation_period_amount i
 
 -- K43: the observations of a period lack a day; K44: its rates pass a limit. Where there is no basis no
 -- period is considered
-pub record BreaksPeriod (source : DailySource) (f : Fault) : Type 0 where
+pub record BreaksPeriod (source : DerivedSource) (f : Fault) : Type 0 where
   pub basis : ℕ
   pub is_basis : basis_of source.day_count ≡ Some basis
   pub number : ℕ
   pub period : IsPeriod source.adjusted number
   pub why : PeriodFault
-  pub fails : PeriodFails why (period_at source basis number)
+  pub fails : PeriodFails why (derived_period_at source basis number)
   pub is : f ≡ period_fault why number
 
 -- one of the rules K41 to K44 is broken
-abbrev pub BreaksDerived : DailySource → Fault → Type 0
+abbrev pub BreaksDerived : DerivedSource → Fault → Type 0
 BreaksDerived source f = BreaksBasis source f ⊎ (BreaksFixing source f ⊎ BreaksPeriod source f)
 
 -- K42 comes first, then K41, then the others

@@ -16,8 +16,8 @@ abbrev pub observed_on : ℤ → List ℤ → ℕ → ℤ
 observed_on q u k = if k == 0 then q else day_at u k
 
 -- o is the observation of the start at place k: its weight is the number of days to the next start
-abbrev pub IsObservation : RateLines → ℤ → List ℤ → ℤ → ℕ → Observation → Type 0
-IsObservation lines q u e k o =
+abbrev pub IsRateObservation : RateLines → ℤ → List ℤ → ℤ → ℕ → Observation → Type 0
+IsRateObservation lines q u e k o =
     o ≡ record {
       day = observed_on q u k;
       weight = next_start u e k -ℤ day_at u k;
@@ -26,17 +26,17 @@ IsObservation lines q u e k o =
     }
 
 -- one observation for each start
-pub record AreObserved (lines : RateLines) (q : ℤ) (u : List ℤ) (e : ℤ) (os : List Observation) : Type 0 where
+pub record AreRatesObserved (lines : RateLines) (q : ℤ) (u : List ℤ) (e : ℤ) (os : List Observation) : Type 0 where
   pub many : length os ≡ length u
-  pub each : EachNumbered (IsObservation lines q u e) 0 os
+  pub each : EachNumbered (IsRateObservation lines q u e) 0 os
 
 -- the observations of the period from s to e: the first on the last business day at or before s
-pub record AreObservations (lines : RateLines) (set : DaySet) (s e : ℤ) (os : List Observation) : Type 0 where
+pub record AreRateObservations (lines : RateLines) (set : DaySet) (s e : ℤ) (os : List Observation) : Type 0 where
   pub starts : List ℤ
   pub are_starts : AreStarts set s e starts
   pub first : ℤ
   pub previous : Prev set s first
-  pub observed : AreObserved lines first starts e os
+  pub observed : AreRatesObserved lines first starts e os
 
 -- this day where it has no rate, else what is found later
 abbrev pub absent_or : Option ℤ → ℤ → Option ℤ → Option ℤ

@@ -2,9 +2,9 @@
 use Rattle.std.specs.Prelude.{ℕ, IsTrue, List, Option, IfSome}
 use Rattle.irs_terms.specs.Lawful.{IsLawfulIndex, IsLawfulTenor, IsRate}
 use Rattle.irs_terms.specs.declared.frequency.Frequency.{Frequency}
-use Rattle.irs_resets.specs.FixingLines.{Spells}
+use Rattle.irs_resets.specs.FixingLines.{SpellsRate}
 use Rattle.irs_resets.specs.Words.{is_passed}
-use Rattle.irs_overnight.specs.Texts.{fields_of}
+use Rattle.irs_overnight.specs.Texts.{derived_row_fields}
 use Rattle.irs_overnight.specs.declared.derived.DerivedRow.{DerivedRow}
 use Rattle.irs_overnight.specs.declared.derived.Found.{Found}
 use Rattle.irs_overnight.specs.declared.derived.Found.TheVariants.{Rate, Missing}
@@ -16,7 +16,7 @@ pub record IsLawfulLine (index : List ℕ) (tenor : Option Frequency) : Type 0 w
 
 -- before its line feed the line of a rate spells that rate of the index, at the fixing date and the tenor. The line of
 -- a missing rate is passed over
-abbrev pub ReadsAs : DerivedRow → Found → Option Frequency → List ℕ → Type 0
-ReadsAs row (Rate x) tenor index =
-    IsRate x → Spells (fields_of row (Rate x) tenor index) index (record { date = row.fixing; tenor = tenor }) x
-ReadsAs row (Missing d) tenor index = IsTrue (is_passed (fields_of row (Missing d) tenor index))
+abbrev pub ReadsAsRow : DerivedRow → Found → Option Frequency → List ℕ → Type 0
+ReadsAsRow row (Rate x) tenor index =
+    IsRate x → SpellsRate (derived_row_fields row (Rate x) tenor index) index (record { date = row.fixing; tenor = tenor }) x
+ReadsAsRow row (Missing d) tenor index = IsTrue (is_passed (derived_row_fields row (Missing d) tenor index))

@@ -6,10 +6,10 @@ use Rattle.irs_terms.specs.declared.codes.DayCountCode.{DayCountCode}
 use Rattle.irs_terms.specs.declared.codes.DayCountCode.TheVariants.{OneOne, ActActIsda, Act365Fixed, Act360, Thirty360}
 use Rattle.irs_terms.specs.declared.codes.DayCountCode.TheVariants.{ThirtyE360, ThirtyE360Isda}
 use Rattle.irs_terms.specs.declared.frequency.Frequency.{Frequency}
-use Rattle.irs_terms.specs.declared.frequency.Unit.TheVariants.{D}
 use Rattle.irs_terms.specs.declared.stream.Stream.{Stream}
 use Rattle.irs_terms.specs.declared.stream_list.Swap.{Swap}
 use Rattle.irs_resets.specs.Rates.{RateTable, rate_at}
+use Rattle.irs_observed.specs.DailyRates.{one_day}
 
 -- the swap has a stream with that number, from 1, and it pays this floating rate, without calculationParameters
 pub record PaysFloating (swap : Swap) (number : ℕ) (float : FloatTerms) : Type 0 where
@@ -32,10 +32,6 @@ pub record RateLines : Type 0 where
 -- the rate of that day; a line that isn't there has none
 abbrev pub rate_by : RateLines → ℤ → Option ℤ
 rate_by lines d = rate_at lines.rates lines.index (record { date = d; tenor = lines.tenor })
-
--- 1D: the tenor of daily rates
-abbrev pub one_day : Frequency
-one_day = record { count = 1; unit = D }
 
 -- the days of the year by which simple interest is counted, of ACT/360 and ACT/365.FIXED
 abbrev pub basis_of : DayCountCode → Option ℕ

@@ -23,10 +23,10 @@ tenor_text None = codes "-"
 tenor_text (Some f) = decimal f.count ++ unit_text f.unit
 
 -- DATE RATE TENOR INDEX with 9 decimals, or `# missing PERIOD DATE`
-abbrev pub fields_of : DerivedRow → Found → Option Frequency → List ℕ → List ℕ
-fields_of row (Rate x) tenor index = day_text row.fixing ++ 32 ∷ dec_text x 9 ++ 32 ∷ tenor_text tenor ++ 32 ∷ index
-fields_of row (Missing d) tenor index = codes "# missing" ++ 32 ∷ decimal row.period ++ 32 ∷ day_text d
+abbrev pub derived_row_fields : DerivedRow → Found → Option Frequency → List ℕ → List ℕ
+derived_row_fields row (Rate x) tenor index = day_text row.fixing ++ 32 ∷ dec_text x 9 ++ 32 ∷ tenor_text tenor ++ 32 ∷ index
+derived_row_fields row (Missing d) tenor index = codes "# missing" ++ 32 ∷ decimal row.period ++ 32 ∷ day_text d
 
 -- the line, with its line feed
 unfoldable pub derived_text_of : DerivedRow → Option Frequency → List ℕ → List ℕ
-derived_text_of row tenor index = fields_of row row.found tenor index ++ codes "\n"
+derived_text_of row tenor index = derived_row_fields row row.found tenor index ++ codes "\n"

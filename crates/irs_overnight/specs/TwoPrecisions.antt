@@ -10,18 +10,18 @@ use Rattle.irs_observed.specs.DailyRates.{daily_rates}
 use Rattle.irs_observed.specs.Factors.{FactorPasses as PassesAt, Precision}
 use Rattle.irs_observed.specs.ObservationPeriods.{ObservedPeriod, observed_period}
 use Rattle.irs_observed.specs.Observations.{AreObservations as AreObserved}
-use Rattle.irs_observed.specs.ObservedRates.{Fraction, IsObservedRate, IsPrinted, days_of_year}
-use Rattle.irs_observed.specs.OvernightRates.{IsOvernightRate, OvernightSource, printed}
+use Rattle.irs_observed.specs.ObservedRates.{RateFraction, IsObservedRate, IsPrintedRate, days_of_year}
+use Rattle.irs_observed.specs.OvernightRates.{IsOvernightRate, OvernightSource, printed_rate}
 use Rattle.irs_observed.specs.RateLaws.{EachRate}
 use Rattle.irs_observed.specs.declared.method.DailyRateMethod.TheVariants.{Compounding}
 use Rattle.irs_observed.specs.declared.method.YearDays.{YearDays}
 use Rattle.irs_observed.specs.declared.observation.Observation.{Observation as Observed}
 use Rattle.irs_observed.specs.declared.overnight_rate.OvernightRate.TheVariants.{Known}
-use Rattle.irs_overnight.specs.DailySources.{DailySource}
+use Rattle.irs_overnight.specs.DailySources.{DerivedSource}
 use Rattle.irs_overnight.specs.DerivedRows.{IsDerivedRow}
-use Rattle.irs_overnight.specs.Factors.{Grows, one_factor}
-use Rattle.irs_overnight.specs.FoundRates.{DailyPeriod, FindsRate, daily_period}
-use Rattle.irs_overnight.specs.Observations.{AreObservations}
+use Rattle.irs_overnight.specs.Factors.{DerivedGrows, derived_one}
+use Rattle.irs_overnight.specs.FoundRates.{DailyPeriod, FindsRate, derived_period}
+use Rattle.irs_overnight.specs.Observations.{AreRateObservations}
 use Rattle.irs_overnight.specs.Sources.{basis_of, daily_lines}
 use Rattle.irs_overnight.specs.declared.derived.DerivedRow.{DerivedRow}
 use Rattle.irs_overnight.specs.declared.derived.Found.TheVariants.{Rate}
@@ -38,7 +38,7 @@ pub record CompoundedPeriod : Type 0 where
   pub end : ℤ
 
 -- it starts before it ends
-pub record HasDays (p : CompoundedPeriod) : Type 0 where
+pub record StartsBeforeItEnds (p : CompoundedPeriod) : Type 0 where
   pub first : IsDay p.start
   pub last : IsDay p.end
   pub order : p.start <ℤ p.end
@@ -49,7 +49,7 @@ with_parameters p = observed_period Absent p.days p.start p.end
 
 -- the period as rates are derived for it
 abbrev pub without_parameters : CompoundedPeriod → DailyPeriod
-without_parameters p = daily_period (days_of_year p.year) (daily_lines p.rates p.index) p.days p.start p.end
+without_parameters p = derived_period (days_of_year p.year) (daily_lines p.rates p.index) p.days p.start p.end
 
 -- factors of 18 decimals that aren't above 10 in size
 abbrev pub up_to_ten : Precision
@@ -63,22 +63,22 @@ pub record StaysLow (p : CompoundedPeriod) : Type 0 where
       → PassesAt up_to_ten (days_of_year p.year) (daily_rates p.rates p.index) os → ⊥
 
 -- x is the observed rate of the period, not rounded
-pub record IsObservedIn (p : CompoundedPeriod) (x : Fraction) : Type 0 where
+pub record IsObservedIn (p : CompoundedPeriod) (x : RateFraction) : Type 0 where
   pub observations : List Observed
   pub are_observations : AreObserved (with_parameters p) observations
   pub is_rate : IsObservedRate (Compounding p.year) (daily_rates p.rates p.index) observations x
 
 -- y is the fraction that is rounded to the derived rate of the period
-pub record IsDerivedIn (p : DailyPeriod) (y : Fraction) : Type 0 where
+pub record IsDerivedIn (p : DailyPeriod) (y : RateFraction) : Type 0 where
   pub observations : List Observation
-  pub are_observations : AreObservations p.lines p.days p.start p.end observations
+  pub are_observations : AreRateObservations p.lines p.days p.start p.end observations
   pub factor : ℤ
-  pub grows : Grows p.basis observations one_factor factor
-  pub numerator : y.numerator ≡ (factor -ℤ one_factor) *ℤ pos p.basis
-  pub denominator : y.denominator ≡ one_factor *ℤ (p.end -ℤ p.start)
+  pub grows : DerivedGrows p.basis observations derived_one factor
+  pub numerator : y.numerator ≡ (factor -ℤ derived_one) *ℤ pos p.basis
+  pub denominator : y.denominator ≡ derived_one *ℤ (p.end -ℤ p.start)
 
 -- the fractions differ by less than 2 * 10^-12
-abbrev pub AreNear : Fraction → Fraction → Type 0
+abbrev pub AreNear : RateFraction → RateFraction → Type 0
 AreNear x y =
     (unsigned_abs (x.numerator *ℤ y.denominator -ℤ y.numerator *ℤ x.denominator) * 10 ^ 12)
     < (2 * unsigned_abs (x.denominator *ℤ y.denominator))
@@ -86,19 +86,19 @@ AreNear x y =
 -- the observed rate and the derived rate of one period differ by less than 2 * 10^-12 before they are rounded
 abbrev pub AgreeUnrounded : CompoundedPeriod → Type 0
 AgreeUnrounded p =
-    HasDays p → StaysLow p → (x y : Fraction) → IsObservedIn p x → IsDerivedIn (without_parameters p) y → AreNear x y
+    StartsBeforeItEnds p → StaysLow p → (x y : RateFraction) → IsObservedIn p x → IsDerivedIn (without_parameters p) y → AreNear x y
 
 -- as they are printed they differ by at most 1 in the ninth decimal
 abbrev pub AgreeAsPrinted : CompoundedPeriod → Type 0
 AgreeAsPrinted p =
-    HasDays p → StaysLow p → (x : Fraction) (z r : ℤ) → IsObservedIn p x → IsPrinted x z
+    StartsBeforeItEnds p → StaysLow p → (x : RateFraction) (z r : ℤ) → IsObservedIn p x → IsPrintedRate x z
     → FindsRate (without_parameters p) (Rate r) → unsigned_abs (z -ℤ r) ≤ 1
 
 -- ---- over a stream
 
 -- One stream in both forms: with calculation parameters it has observed rates, and without them derived ones.
 -- Both are found from the same calculation periods, business days, daily rates and year.
-pub record IsOneStream (observed : OvernightSource) (derived : DailySource) (rates : RateTable) (year : YearDays)
+pub record IsOneStream (observed : OvernightSource) (derived : DerivedSource) (rates : RateTable) (year : YearDays)
     : Type 0 where
   pub method : observed.method ≡ Compounding year
   pub offset : observed.offset ≡ Absent
@@ -119,9 +119,9 @@ compounded_period source rates year i = record {
 }
 
 -- in each such period that has both rates they differ, as they are printed, by at most 1 in the ninth decimal
-abbrev pub AgreeInStream : OvernightSource → DailySource → RateTable → YearDays → Type 0
+abbrev pub AgreeInStream : OvernightSource → DerivedSource → RateTable → YearDays → Type 0
 AgreeInStream observed derived rates year =
-    IsOneStream observed derived rates year → (i : ℕ) (x : Fraction) (row : DerivedRow) (r : ℤ)
-    → HasDays (compounded_period observed rates year i) → StaysLow (compounded_period observed rates year i)
+    IsOneStream observed derived rates year → (i : ℕ) (x : RateFraction) (row : DerivedRow) (r : ℤ)
+    → StartsBeforeItEnds (compounded_period observed rates year i) → StaysLow (compounded_period observed rates year i)
     → IsOvernightRate observed rates i (Known x) → IsDerivedRow derived i row → row.found ≡ Rate r
-    → unsigned_abs (printed x -ℤ r) ≤ 1
+    → unsigned_abs (printed_rate x -ℤ r) ≤ 1

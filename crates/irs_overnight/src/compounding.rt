@@ -4,7 +4,8 @@
 ghost use Rattle.std.specs.Prelude.{◌≡◌, All, List, IfOk};
 ghost use Rattle.irs_base.specs.Faults.{IfBroken};
 ghost use Rattle.irs_base.specs.declared.places.Broken.{Broken as BrokenRule};
-ghost use Rattle.irs_overnight.specs.Overnight.{IsAsked, IsFirstDerived, IsOvernight, OvernightKept, ReadsBack, asked};
+ghost use Rattle.irs_overnight.specs.Overnight.{IsAsked, IsFirstDerived, IsOvernight, OvernightKept, RowsReadBack};
+ghost use Rattle.irs_overnight.specs.Overnight.{asked};
 ghost use Rattle.irs_overnight.specs.Private.FileLaw.{IsInRange};
 ghost use Rattle.irs_overnight.specs.declared.derived.DerivedRow.{DerivedRow as Row};
 
@@ -50,7 +51,7 @@ pub fn overnight<G: GoodDays>(
     requires { IsAsked (asked swap.now stream s.now (G.days days.now) daily.now) }
     ensures ok { let a = asked swap.now stream s.now (G.days days.now) daily.now in IfOk result (IsOvernight a) }
     // The rows print a fixing file that has exactly their rates.
-    ensures fixings { let a = asked swap.now stream s.now (G.days days.now) daily.now in IfOk result (ReadsBack a) }
+    ensures fixings { let a = asked swap.now stream s.now (G.days days.now) daily.now in IfOk result (RowsReadBack a) }
     ensures kept { let a = asked swap.now stream s.now (G.days days.now) daily.now in
         IfOk result (λ _. OvernightKept a) }
     ensures broken { let a = asked swap.now stream s.now (G.days days.now) daily.now in

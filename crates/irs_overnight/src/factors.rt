@@ -6,8 +6,11 @@ ghost use Rattle.irs_base.specs.Days.{all_days};
 ghost use Rattle.irs_base.specs.Limits.{most_rate};
 ghost use Rattle.irs_terms.specs.Lawful.{IsRate};
 ghost use Rattle.irs_overnight.specs.Private.Bounds.{IsSmall};
-ghost use Rattle.irs_overnight.specs.Factors.{FactorPasses, Grows, GrowsBy, IsCompounded, PassesLimit, most_factor};
-ghost use Rattle.irs_overnight.specs.Factors.{one_factor, year_of};
+ghost use Rattle.irs_overnight.specs.Factors.{DerivedFactorPasses, DerivedGrows, DerivedGrowsBy, IsDerivedRate};
+ghost use Rattle.irs_overnight.specs.Factors.{DerivedPassesLimit};
+ghost use Rattle.irs_overnight.specs.Factors.{most_factor};
+ghost use Rattle.irs_observed.specs.Factors.{unit_rate};
+ghost use Rattle.irs_overnight.specs.Factors.{derived_one};
 ghost use Rattle.irs_overnight.specs.FileLaw.{IsSmallFound};
 ghost use Rattle.irs_overnight.specs.FoundRates.{IsFound};
 ghost use Rattle.irs_overnight.specs.Observations.{first_absent};
@@ -36,7 +39,7 @@ fn product(a: i128, b: i128) -> i128
 // The rate 1 for a year of this number of days.
 fn year_of(basis: u16) -> i128
     requires range { (1 ≤ basis) × (basis ≤ 365) }
-    ensures value { result ≡ year_of basis }
+    ensures value { result ≡ unit_rate basis }
     ensures above { pos 0 <ℤ result }
     ensures size { unsigned_abs result ≤ 365 * 10 ^ 9 }
 {
@@ -79,7 +82,7 @@ fn next_factor(basis: u16, factor: i128, rate: i64, weight: i64) -> i128
     requires factor { unsigned_abs factor ≤ most_factor }
     requires rate { IsRate rate }
     requires weight { unsigned_abs weight < all_days }
-    ensures { Rounded Nearest (factor *ℤ (year_of basis +ℤ rate *ℤ weight)) (year_of basis) result }
+    ensures { Rounded Nearest (factor *ℤ (unit_rate basis +ℤ rate *ℤ weight)) (unit_rate basis) result }
 {
     let year = year_of(basis);
     let grown = grown_year(year, interest(rate, weight));
@@ -92,7 +95,7 @@ fn grown_by(basis: u16, factor: i128, o: Observation) -> i128
     requires factor { unsigned_abs factor ≤ most_factor }
     requires small { IsSmall o }
     requires known { IsSome o.rate }
-    ensures { GrowsBy basis o factor result }
+    ensures { DerivedGrowsBy basis o factor result }
 {
     let Some(rate) = o.rate else { unreachable!() };
     next_factor(basis, factor, rate, o.weight)
@@ -103,10 +106,10 @@ fn compounded(basis: u16, observations: &[Observation]) -> Option<i128>
     requires range { (1 ≤ basis) × (basis ≤ 365) }
     requires small { All IsSmall observations.now }
     requires known { first_absent observations.now ≡ None }
-    ensures some { IfSome result (λ f. Grows basis observations.now one_factor f) }
+    ensures some { IfSome result (λ f. DerivedGrows basis observations.now derived_one f) }
     ensures size { IfSome result (λ f. unsigned_abs f ≤ most_factor) }
-    ensures kept { IfSome result (λ _. FactorPasses basis observations.now → ⊥) }
-    ensures none { IfNone result (FactorPasses basis observations.now) }
+    ensures kept { IfSome result (λ _. DerivedFactorPasses basis observations.now → ⊥) }
+    ensures none { IfNone result (DerivedFactorPasses basis observations.now) }
 {
     let mut factor = ONE_FACTOR;
     for o in observations {
@@ -121,7 +124,7 @@ fn compounded(basis: u16, observations: &[Observation]) -> Option<i128>
 // What is earned on the factor 1.
 fn earned(factor: i128) -> i128
     requires { unsigned_abs factor ≤ most_factor }
-    ensures value { result ≡ factor -ℤ one_factor }
+    ensures value { result ≡ factor -ℤ derived_one }
     ensures size { unsigned_abs result ≤ 2 * 10 ^ 20 }
 {
     factor - ONE_FACTOR
@@ -142,7 +145,7 @@ fn rate_of(basis: u16, days: i64, factor: i128) -> i128
     requires range { (1 ≤ basis) × (basis ≤ 365) }
     requires days { (pos 0 <ℤ days) × (unsigned_abs days < all_days) }
     requires factor { unsigned_abs factor ≤ most_factor }
-    ensures { Rounded Nearest ((factor -ℤ one_factor) *ℤ pos basis) (pos (10 ^ 6) *ℤ days) result }
+    ensures { Rounded Nearest ((factor -ℤ derived_one) *ℤ pos basis) (pos (10 ^ 6) *ℤ days) result }
 {
     let growth = product(earned(factor), i128::from(basis));
     round(Direction::Nearest, growth, days_by_millions(days))
@@ -168,10 +171,10 @@ fn known_rate(basis: u16, days: i64, observations: &[Observation]) -> Option<i64
     requires days { (pos 0 <ℤ days) × (unsigned_abs days < all_days) }
     requires small { All IsSmall observations.now }
     requires known { first_absent observations.now ≡ None }
-    ensures some { IfSome result (IsCompounded basis days observations.now) }
+    ensures some { IfSome result (IsDerivedRate basis days observations.now) }
     ensures size { IfSome result IsRate }
-    ensures kept { IfSome result (λ _. PassesLimit basis days observations.now → ⊥) }
-    ensures none { IfNone result (PassesLimit basis days observations.now) }
+    ensures kept { IfSome result (λ _. DerivedPassesLimit basis days observations.now → ⊥) }
+    ensures none { IfNone result (DerivedPassesLimit basis days observations.now) }
 {
     let factor = compounded(basis, observations)?;
     small_rate(rate_of(basis, days, factor))
@@ -185,8 +188,8 @@ pub(crate) fn compounded_rate(basis: u16, days: i64, observations: &[Observation
     requires small { All IsSmall observations.now }
     ensures some { IfSome result (IsFound basis days observations.now) }
     ensures size { IfSome result IsSmallFound }
-    ensures kept { IfSome result (λ _. PassesLimit basis days observations.now → ⊥) }
-    ensures none { IfNone result (PassesLimit basis days observations.now) }
+    ensures kept { IfSome result (λ _. DerivedPassesLimit basis days observations.now → ⊥) }
+    ensures none { IfNone result (DerivedPassesLimit basis days observations.now) }
 {
     if let Some(day) = first_absent(observations) {
         return Some(Found::Missing(day));

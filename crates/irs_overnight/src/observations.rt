@@ -3,7 +3,8 @@ ghost use Rattle.std.specs.Prelude.{◌≡◌, ◌<◌, length, IfOk, IfSome, Al
 ghost use Rattle.irs_base.specs.Members.{day_at};
 ghost use Rattle.irs_terms.specs.Lawful.{IsRate};
 ghost use Rattle.irs_overnight.specs.Private.Bounds.{IsSmall};
-ghost use Rattle.irs_overnight.specs.Observations.{AreObservations, AreObserved, IsObservation, first_absent};
+ghost use Rattle.irs_overnight.specs.Observations.{AreRateObservations, AreRatesObserved, IsRateObservation};
+ghost use Rattle.irs_overnight.specs.Observations.{first_absent};
 ghost use Rattle.irs_overnight.specs.Observations.{next_start, observed_on};
 ghost use Rattle.irs_overnight.specs.Sources.{daily_lines, rate_by};
 ghost use Rattle.irs_overnight.specs.Starts.{LacksDays};
@@ -78,7 +79,7 @@ fn observation_at(
     index: &Text,
 ) -> Observation
     requires { place < length starts.now }
-    ensures is { IsObservation (daily_lines daily.now index.now) first starts.now end place result }
+    ensures is { IsRateObservation (daily_lines daily.now index.now) first starts.now end place result }
     ensures small { IsSmall result }
 {
     let day = observed_on(first, starts, place);
@@ -98,7 +99,7 @@ fn observed(
     daily: &Fixings,
     index: &Text,
 ) -> Result<Vec<Observation>, Memory>
-    ensures ok { IfOk result (λ v. AreObserved (daily_lines daily.now index.now) first starts.now end v.items) }
+    ensures ok { IfOk result (λ v. AreRatesObserved (daily_lines daily.now index.now) first starts.now end v.items) }
     ensures small { IfOk result (λ v. All IsSmall v.items) }
 {
     let mut all = Vec::new(alloc);
@@ -119,7 +120,7 @@ pub(crate) fn observations<G: GoodDays>(
 ) -> Result<Option<Vec<Observation>>, Memory>
     requires order { start <ℤ end }
     ensures some { IfOk result
-        (λ o. IfSome o (λ v. AreObservations (daily_lines daily.now index.now) (G.days days.now) start end v.items)) }
+        (λ o. IfSome o (λ v. AreRateObservations (daily_lines daily.now index.now) (G.days days.now) start end v.items)) }
     ensures small { IfOk result (λ o. IfSome o (λ v. All IsSmall v.items)) }
     ensures none { IfOk result (λ o. IfNone o (LacksDays (G.days days.now) start end)) }
     ensures unbroken { IfOk result (λ o. IfSome o (λ _. LacksDays (G.days days.now) start end → ⊥)) }

@@ -3,17 +3,17 @@ ghost use Rattle.std.specs.Prelude.{◌≡◌, ◌≤◌, All, Some, IfOk, IfSom
 ghost use Rattle.irs_base.specs.Faults.{IfBroken};
 ghost use Rattle.irs_base.specs.Order.{First};
 ghost use Rattle.irs_resets.specs.ResetDates.{IsPeriod};
-ghost use Rattle.irs_overnight.specs.DailyPeriods.{period_at};
+ghost use Rattle.irs_overnight.specs.DailyPeriods.{derived_period_at};
 ghost use Rattle.irs_overnight.specs.DerivedRows.{AreDerived, IsDerivedRow};
 ghost use Rattle.irs_overnight.specs.DerivedRules.{BreaksPeriod, derived_before, period_fault};
 ghost use Rattle.irs_overnight.specs.Private.Bounds.{IsSmall};
-ghost use Rattle.irs_overnight.specs.Factors.{PassesLimit};
+ghost use Rattle.irs_overnight.specs.Factors.{DerivedPassesLimit};
 ghost use Rattle.irs_overnight.specs.FileLaw.{IsSmallFound};
 ghost use Rattle.irs_overnight.specs.Private.FileLaw.{IsInRange};
 ghost use Rattle.irs_overnight.specs.FoundRates.{FindsRate, IsFound};
 ghost use Rattle.irs_overnight.specs.Private.PeriodTurns.{FirstWay, NoneFails};
 ghost use Rattle.irs_base.specs.Days.{IsDay};
-ghost use Rattle.irs_overnight.specs.DailySources.{daily_source, fixing_at};
+ghost use Rattle.irs_overnight.specs.DailySources.{derived_source, fixing_at};
 ghost use Rattle.irs_overnight.specs.Sources.{basis_of, daily_lines};
 ghost use Rattle.irs_overnight.specs.declared.periods.PeriodFault.{PeriodFault as WayToFail};
 
@@ -43,8 +43,8 @@ fn period_found(basis: u16, start: Day, end: Day, observations: &[Observation]) 
     requires small { All IsSmall observations.now }
     ensures some { IfSome result (IsFound basis (end -ℤ start) observations.now) }
     ensures size { IfSome result IsSmallFound }
-    ensures kept { IfSome result (λ _. PassesLimit basis (end -ℤ start) observations.now → ⊥) }
-    ensures none { IfNone result (PassesLimit basis (end -ℤ start) observations.now) }
+    ensures kept { IfSome result (λ _. DerivedPassesLimit basis (end -ℤ start) observations.now → ⊥) }
+    ensures none { IfNone result (DerivedPassesLimit basis (end -ℤ start) observations.now) }
 {
     compounded_rate(basis, days_between(start, end), observations)
 }
@@ -61,12 +61,12 @@ fn period_rate<G: GoodDays>(
 ) -> Result<Found, Stopped<PeriodFault>>
     requires order { start <ℤ end }
     requires range { (1 ≤ basis) × (basis ≤ 365) }
-    ensures ok { let p = daily_period basis (daily_lines daily.now index.now) (G.days days.now) start end in
+    ensures ok { let p = derived_period basis (daily_lines daily.now index.now) (G.days days.now) start end in
         IfOk result (FindsRate p) }
     ensures size { IfOk result IsSmallFound }
-    ensures kept { let p = daily_period basis (daily_lines daily.now index.now) (G.days days.now) start end in
+    ensures kept { let p = derived_period basis (daily_lines daily.now index.now) (G.days days.now) start end in
         IfOk result (λ _. NoneFails p) }
-    ensures broken { let p = daily_period basis (daily_lines daily.now index.now) (G.days days.now) start end in
+    ensures broken { let p = derived_period basis (daily_lines daily.now index.now) (G.days days.now) start end in
         IfBroken result (FirstWay p) }
 {
     let Some(observations) = observations(alloc, days, start, end, daily, index)? else {
@@ -123,13 +123,13 @@ fn period_row<G: GoodDays>(
     requires basis { basis_of part.now.day_count ≡ Some basis }
     requires range { (1 ≤ basis) × (basis ≤ 365) }
     requires period { IsPeriod part.now.adjusted number }
-    ensures ok { let source = daily_source part.now index.now (G.days days.now) daily.now in
+    ensures ok { let source = derived_source part.now index.now (G.days days.now) daily.now in
         IfOk result (IsDerivedRow source number) }
     ensures range { IfOk result IsInRange }
-    ensures kept { let source = daily_source part.now index.now (G.days days.now) daily.now in
-        IfOk result (λ _. NoneFails (period_at source basis number)) }
-    ensures broken { let source = daily_source part.now index.now (G.days days.now) daily.now in
-        IfBroken result (λ f. (why : WayToFail) × FirstWay (period_at source basis number) why
+    ensures kept { let source = derived_source part.now index.now (G.days days.now) daily.now in
+        IfOk result (λ _. NoneFails (derived_period_at source basis number)) }
+    ensures broken { let source = derived_source part.now index.now (G.days days.now) daily.now in
+        IfBroken result (λ f. (why : WayToFail) × FirstWay (derived_period_at source basis number) why
         × (f ≡ period_fault why number)) }
 {
     let adjusted = part.adjusted();
@@ -158,12 +158,12 @@ pub(crate) fn period_rows<G: GoodDays>(
     requires floating { IsTrue part.now.floating }
     requires basis { basis_of part.now.day_count ≡ Some basis }
     requires range { (1 ≤ basis) × (basis ≤ 365) }
-    ensures ok { let source = daily_source part.now index.now (G.days days.now) daily.now in
+    ensures ok { let source = derived_source part.now index.now (G.days days.now) daily.now in
         IfOk result (AreDerived source) }
     ensures range { IfOk result (All IsInRange) }
-    ensures kept { let source = daily_source part.now index.now (G.days days.now) daily.now in
+    ensures kept { let source = derived_source part.now index.now (G.days days.now) daily.now in
         IfOk result (λ _. (f : BrokenRule) → BreaksPeriod source f → ⊥) }
-    ensures broken { let source = daily_source part.now index.now (G.days days.now) daily.now in
+    ensures broken { let source = derived_source part.now index.now (G.days days.now) daily.now in
         IfBroken result (First derived_before (BreaksPeriod source)) }
 {
     let mut rows = Derived::new(alloc);
@@ -175,4 +175,4 @@ pub(crate) fn period_rows<G: GoodDays>(
 }
 
 ghost use Rattle.irs_base.specs.declared.places.Fault.{Fault as BrokenRule};
-ghost use Rattle.irs_overnight.specs.FoundRates.{daily_period};
+ghost use Rattle.irs_overnight.specs.FoundRates.{derived_period};

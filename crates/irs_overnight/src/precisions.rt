@@ -2,7 +2,7 @@
 ghost use Rattle.irs_resets.specs.Rates.{RateTable};
 ghost use Rattle.irs_observed.specs.OvernightRates.{OvernightSource};
 ghost use Rattle.irs_observed.specs.declared.method.YearDays.{YearDays};
-ghost use Rattle.irs_overnight.specs.DailySources.{DailySource};
+ghost use Rattle.irs_overnight.specs.DailySources.{DerivedSource};
 ghost use Rattle.irs_overnight.specs.TwoPrecisions.{AgreeAsPrinted, AgreeInStream, AgreeUnrounded, CompoundedPeriod};
 
 /// Laws. With `calculationParameters`, but without observation shift, lookback and lockout, the daily
@@ -14,6 +14,6 @@ ghost use Rattle.irs_overnight.specs.TwoPrecisions.{AgreeAsPrinted, AgreeInStrea
 pub fn precisions_agree()
     ensures unrounded { (p : CompoundedPeriod) → AgreeUnrounded p }
     ensures printed { (p : CompoundedPeriod) → AgreeAsPrinted p }
-    ensures stream { (observed : OvernightSource) (derived : DailySource) (rates : RateTable) (year : YearDays)
+    ensures stream { (observed : OvernightSource) (derived : DerivedSource) (rates : RateTable) (year : YearDays)
         → AgreeInStream observed derived rates year }
 {}

@@ -6,8 +6,9 @@ ghost use Rattle.irs_base.specs.Order.{First, IsFirst};
 ghost use Rattle.irs_base.specs.declared.places.Fault.{Fault as BrokenRule};
 ghost use Rattle.irs_overnight.specs.DerivedRows.{AreDerived};
 ghost use Rattle.irs_overnight.specs.Private.FileLaw.{IsInRange};
-ghost use Rattle.irs_overnight.specs.DerivedRules.{BreaksDerived, NotAfter, derived_before, no_basis, not_after_at};
-ghost use Rattle.irs_overnight.specs.DailySources.{daily_source};
+ghost use Rattle.irs_overnight.specs.DerivedRules.{BreaksDerived, FixingNotAfter, derived_before, no_basis};
+ghost use Rattle.irs_overnight.specs.DerivedRules.{fixing_not_after_at};
+ghost use Rattle.irs_overnight.specs.DailySources.{derived_source};
 ghost use Rattle.irs_overnight.specs.Sources.{basis_of};
 
 use crate::derived::Derived;
@@ -49,7 +50,7 @@ fn without_basis() -> Fault
 /// K41, the fixing date isn't after that of the period before it, at the period with that number,
 /// from 1.
 pub fn unrising(number: u32) -> Fault
-    ensures { result ≡ not_after_at number }
+    ensures { result ≡ fixing_not_after_at number }
 {
     Fault {
         rule: Rule::K41,
@@ -62,7 +63,7 @@ pub fn unrising(number: u32) -> Fault
 /// it.
 pub fn first_unrising(resets: &[Reset]) -> Option<u32>
     requires { length resets.now < 2 ^ 32 }
-    ensures { IsFirst nat_lt (NotAfter resets.now) result }
+    ensures { IsFirst nat_lt (FixingNotAfter resets.now) result }
 {
     for place in 1..resets.len() {
         if resets[place].fixing <= resets[place - 1].fixing {
@@ -82,12 +83,12 @@ pub(crate) fn derived_rows<G: GoodDays>(
     index: &Text,
 ) -> Result<Derived, Stopped<Fault>>
     requires floating { IsTrue part.now.floating }
-    ensures ok { let source = daily_source part.now index.now (G.days days.now) daily.now in
+    ensures ok { let source = derived_source part.now index.now (G.days days.now) daily.now in
         IfOk result (AreDerived source) }
     ensures range { IfOk result (All IsInRange) }
-    ensures kept { let source = daily_source part.now index.now (G.days days.now) daily.now in
+    ensures kept { let source = derived_source part.now index.now (G.days days.now) daily.now in
         IfOk result (λ _. (f : BrokenRule) → BreaksDerived source f → ⊥) }
-    ensures broken { let source = daily_source part.now index.now (G.days days.now) daily.now in
+    ensures broken { let source = derived_source part.now index.now (G.days days.now) daily.now in
         IfBroken result (First derived_before (BreaksDerived source)) }
 {
     let Some(basis) = basis_of(part.day_count()) else {

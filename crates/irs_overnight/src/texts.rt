@@ -4,8 +4,8 @@ ghost use Rattle.std.specs.Prelude.{◌≡◌, ◌+◌, ◌<◌, ◌≤◌, [], 
 ghost use Rattle.std.specs.Fmt.{decimal};
 ghost use Rattle.irs_base.specs.Limits.{most_index};
 ghost use Rattle.irs_base.specs.Texts.{day_text, dec_text};
-ghost use Rattle.irs_overnight.specs.Reading.{IsLawfulLine, ReadsAs};
-ghost use Rattle.irs_overnight.specs.Texts.{derived_text_of, fields_of, tenor_text, unit_text};
+ghost use Rattle.irs_overnight.specs.Reading.{IsLawfulLine, ReadsAsRow};
+ghost use Rattle.irs_overnight.specs.Texts.{derived_text_of, derived_row_fields, tenor_text, unit_text};
 
 use crate::derived::{Derived, DerivedRow, Found};
 use irs_base::{Day, Dec, Line, Text};
@@ -77,7 +77,7 @@ fn put_missing(line: &mut Line, period: u32, d: Day)
 fn put_fields(row: &DerivedRow, tenor: Option<Frequency>, index: &Text, line: &mut Line)
     requires empty { line.old ≡ [] }
     requires index { length index.now ≤ most_index }
-    ensures text { line.new ≡ fields_of row.now row.now.found tenor index.now }
+    ensures text { line.new ≡ derived_row_fields row.now row.now.found tenor index.now }
     ensures fits { length line.new < 512 }
 {
     match row.found {
@@ -95,7 +95,7 @@ pub fn derived_text(row: &DerivedRow, tenor: Option<Frequency>, index: &Text, li
     ensures text { line.new ≡ derived_text_of row.now tenor index.now }
     // For an index and a tenor as terms have them the line of a rate spells it. The line of a
     // missing rate is passed over.
-    ensures reads { IsLawfulLine index.now tenor → ReadsAs row.now row.now.found tenor index.now }
+    ensures reads { IsLawfulLine index.now tenor → ReadsAsRow row.now row.now.found tenor index.now }
 {
     // hands the prover the range of the fixing date
     let _number = row.fixing.number();

@@ -11,7 +11,7 @@ use Rattle.irs_calendar.specs.GoodDays.{DaySet}
 use Rattle.irs_roll.specs.Rolls.{OnGrid}
 use Rattle.irs_payments.specs.Private.Cuts.{AreCuts, EndsAt, cut_at}
 use Rattle.irs_payments.specs.Private.Dating.{ArePaid, IsCutPayment, date_place}
-use Rattle.irs_payments.specs.Grouping.{EndsPayment, IsRegularPay, anchor_by, pay_anchor}
+use Rattle.irs_payments.specs.Grouping.{EndsPayment, IsRegularPay, payment_anchor_by, pay_anchor}
 use Rattle.irs_payments.specs.PaymentDates.{IsPaymentDate}
 use Rattle.irs_payments.specs.Private.Places.{ArePlaces}
 use Rattle.irs_payments.proofs.CutLemmas.{no_cuts, pass_cut, take_cut}
@@ -28,7 +28,7 @@ use Rattle.irs_terms.proofs.FirstDays.{first_day_is_day}
 use Rattle.irs_base.specs.Listed.{RunsFromTo}
 
 anchor_by_day : (first : Option ℤ) (each : Bool) (one e : ℤ) → IfSome first IsDay → IsDay one → IsDay e
-    → IsDay (anchor_by first each one e)
+    → IsDay (payment_anchor_by first each one e)
 anchor_by_day (Some first) each one e given is_one is_e = given
 anchor_by_day None true one e given is_one is_e = is_one
 anchor_by_day None false one e given is_one is_e = is_e

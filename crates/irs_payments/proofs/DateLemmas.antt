@@ -10,7 +10,7 @@ use Rattle.irs_adjust.specs.declared.moved.NoDate.{NoDate}
 use Rattle.irs_adjust.specs.declared.moved.NoDate.TheVariants.{NoResult, OutOfRange}
 use Rattle.irs_payments.specs.Private.Cuts.{cut_at}
 use Rattle.irs_payments.specs.Private.Places.{ArePlaces}
-use Rattle.irs_payments.specs.PaymentDates.{LacksResult, LeavesRange}
+use Rattle.irs_payments.specs.PaymentDates.{PaymentLacksResult, PaymentLeavesRange}
 use Rattle.irs_payments.specs.Payments.{Covers}
 use Rattle.irs_payments.specs.Private.Dating.{date_place, IsCutPayment, NoneLacks, NoneLeaves, ArePaid, Dated}
 use Rattle.irs_payments.specs.Private.Dating.{LeavesAt, LeavesFirst, LacksAt, LacksFirst, Settles, IsOutcome}
@@ -31,19 +31,19 @@ covers_push a n m (z ∷ ys) y h first last less =
     (h.0, h.1, covers_push (z.last_period + 1) n m ys y h.2 first last less)
 
 none_leaves_more : (s : Stream) (set : DaySet) (a : List ℤ) (cuts : List ℕ) (j : ℕ) → NoneLeaves s set a cuts j
-    → (LeavesRange s.pay set (day_at a (date_place s cuts j)) → ⊥) → NoneLeaves s set a cuts (j + 1)
+    → (PaymentLeavesRange s.pay set (day_at a (date_place s cuts j)) → ⊥) → NoneLeaves s set a cuts (j + 1)
 none_leaves_more s set a cuts j below here m low high leaves = elim (cases_lt m j) [
   | inl less ↦ below m low less leaves
   | inr more ↦ let same : m ≡ j = omega arith in
-      here (subst (λ (k : ℕ). LeavesRange s.pay set (day_at a (date_place s cuts k))) same leaves)
+      here (subst (λ (k : ℕ). PaymentLeavesRange s.pay set (day_at a (date_place s cuts k))) same leaves)
 ]
 
 none_lacks_more : (s : Stream) (set : DaySet) (a : List ℤ) (cuts : List ℕ) (j : ℕ) → NoneLacks s set a cuts j
-    → (LacksResult s.pay set (day_at a (date_place s cuts j)) → ⊥) → NoneLacks s set a cuts (j + 1)
+    → (PaymentLacksResult s.pay set (day_at a (date_place s cuts j)) → ⊥) → NoneLacks s set a cuts (j + 1)
 none_lacks_more s set a cuts j below here m low high lacks = elim (cases_lt m j) [
   | inl less ↦ below m low less lacks
   | inr more ↦ let same : m ≡ j = omega arith in
-      here (subst (λ (k : ℕ). LacksResult s.pay set (day_at a (date_place s cuts k))) same lacks)
+      here (subst (λ (k : ℕ). PaymentLacksResult s.pay set (day_at a (date_place s cuts k))) same lacks)
 ]
 
 paid_more : (s : Stream) (set : DaySet) (b a : List ℤ) (cuts : List ℕ) (j : ℕ) (p : Payment) (old : List Payment)
@@ -143,8 +143,8 @@ none_dated s set b a cuts places = record {
 
 -- the outcome of a date that fails is the way in which it fails
 pub outcome_err : (s : Stream) (set : DaySet) (b a : List ℤ) (cuts : List ℕ) (j : ℕ) (e : NoDate)
-    → (e ≡ NoResult → LacksResult s.pay set (day_at a (date_place s cuts j)))
-    → (e ≡ OutOfRange → LeavesRange s.pay set (day_at a (date_place s cuts j))) → IsOutcome s set b a cuts j (Err e)
+    → (e ≡ NoResult → PaymentLacksResult s.pay set (day_at a (date_place s cuts j)))
+    → (e ≡ OutOfRange → PaymentLeavesRange s.pay set (day_at a (date_place s cuts j))) → IsOutcome s set b a cuts j (Err e)
 outcome_err s set b a cuts j NoResult lacks leaves = lacks refl
 outcome_err s set b a cuts j OutOfRange lacks leaves = leaves refl
 

@@ -22,7 +22,7 @@ use Rattle.irs_payments.specs.declared.exchanges.Transfer.{Transfer}
 use Rattle.irs_payments.specs.Transfers.{transfer}
 use Rattle.irs_base.specs.Faults.{fault_at}
 use Rattle.irs_payments.specs.Exchanges.{initial_of, change, changes, intermediate_of, last_value, final_of}
-use Rattle.irs_payments.specs.Exchanges.{transfers_of, IsExchange, AreExchanges, LacksDay, BreaksExchanges}
+use Rattle.irs_payments.specs.Exchanges.{transfers_of, IsExchange, AreExchanges, LacksTransferDay, BreaksExchanges}
 use Rattle.irs_adjust.proofs.FoundDays.{InRange, IsFound, decides_adjusts}
 use Rattle.irs_base.specs.Order.{First, comes_before}
 use Rattle.irs_base.specs.Private.Order.{IsDecided}
@@ -109,7 +109,7 @@ module _ (s : Stream) (set : DaySet) (lawful : IsLawfulStream s) (range : InRang
       decides_adjusts s.pay.adj.code set t.date day range
 
   -- so the date lacks one, or it doesn't
-  decides_lacks : (i : ℕ) (t : Transfer) → slice_get (transfers_of s) i ≡ Some t → IsDecided (LacksDay s set t)
+  decides_lacks : (i : ℕ) (t : Transfer) → slice_get (transfers_of s) i ≡ Some t → IsDecided (LacksTransferDay s set t)
   decides_lacks i t at = elim (date_found i t at) [
     | inl found ↦ inr (λ lacks. lacks found.0 found.1)
     | inr none ↦ inl none
@@ -117,7 +117,7 @@ module _ (s : Stream) (set : DaySet) (lawful : IsLawfulStream s) (range : InRang
 
   -- an exchange is the first without an adjusted day, or each has one
   pub exchanges_decided : FirstOrNone (BreaksExchanges s set)
-  exchanges_decided = decides_in K33 principal_exchanges (LacksDay s set) (transfers_of s) decides_lacks
+  exchanges_decided = decides_in K33 principal_exchanges (LacksTransferDay s set) (transfers_of s) decides_lacks
 
   -- where each has one there are the exchanges
   pub exchanges_there : ((f : Fault) → BreaksExchanges s set f → ⊥) → (xs : List Exchange) × AreExchanges s set xs

@@ -18,10 +18,11 @@ use Rattle.irs_terms.specs.declared.results.Exchange.{Exchange}
 use Rattle.irs_terms.specs.declared.step_list.Step.{Step}
 use Rattle.irs_terms.specs.declared.stream.Stream.{Stream}
 use Rattle.irs_calendar.specs.GoodDays.{DaySet}
-use Rattle.irs_payments.specs.Exchanges.{AreExchanges, BreaksExchanges, IsExchange, LacksDay, change, changes, final_of}
+use Rattle.irs_payments.specs.Exchanges.{AreExchanges, BreaksExchanges, IsExchange, LacksTransferDay, change, changes}
+use Rattle.irs_payments.specs.Exchanges.{final_of}
 use Rattle.irs_payments.specs.Exchanges.{initial_of, intermediate_of, transfers_of}
 use Rattle.irs_payments.specs.Private.Listing.{ListsUpTo}
-use Rattle.irs_payments.specs.Private.Transfers.{listed}
+use Rattle.irs_payments.specs.Private.Transfers.{listed_transfer}
 use Rattle.irs_payments.specs.declared.exchanges.Listing.{Listing}
 use Rattle.irs_payments.specs.declared.exchanges.Transfer.{Transfer}
 use Rattle.irs_payments.proofs.ExchangeLemmas.{IsSmall, few_transfers, small_transfers}
@@ -47,7 +48,7 @@ all_left [] n e = omega arith
 all_left (y ∷ ys) zero e = absurd (cc)
 all_left (y ∷ ys) (suc n) e = omega (arith, all_left ys n e)
 
-listed_alone : (o : Option Transfer) → listed o ≡ listed o ++ []
+listed_alone : (o : Option Transfer) → listed_transfer o ≡ listed_transfer o ++ []
 listed_alone None = refl
 listed_alone (Some t) = refl
 
@@ -75,8 +76,8 @@ module _ (s : Stream) (set : DaySet) where
       subst (λ (left : List Transfer). ListsUpTo s set left l) moved h
 
   -- nothing comes after the final one
-  pub last_left : (o : Option Transfer) (l : Listing) → listed o ≡ final_of s → ListsUpTo s set (final_of s) l
-      → ListsUpTo s set (listed o ++ []) l
+  pub last_left : (o : Option Transfer) (l : Listing) → listed_transfer o ≡ final_of s → ListsUpTo s set (final_of s) l
+      → ListsUpTo s set (listed_transfer o ++ []) l
   last_left o l same h =
       subst (λ (left : List Transfer). ListsUpTo s set left l) (sym same ∙ listed_alone o) h
 
@@ -87,7 +88,7 @@ module _ (s : Stream) (set : DaySet) where
 
   -- the next transfer is small
   pub small_next : IsLawfulStream s → (o : Option Transfer) (left : List Transfer) (l : Listing)
-      → ListsUpTo s set (listed o ++ left) l → IfSome o IsSmall
+      → ListsUpTo s set (listed_transfer o ++ left) l → IfSome o IsSmall
   small_next lawful None left l h = tt
   small_next lawful (Some t) left l h =
       let at = head_left (transfers_of s) l.number t left h.is_left in
@@ -114,21 +115,21 @@ module _ (s : Stream) (set : DaySet) where
     one_listed x list is pushes = record {
       within = omega (arith, slice_get_within (transfers_of s) l.number t at_next);
       is_left = rw add-one (tail_left (transfers_of s) l.number t left h.is_left);
-      dated = none_of_more (LacksDay s set) (transfers_of s) l.number t at_next
+      dated = none_of_more (LacksTransferDay s set) (transfers_of s) l.number t at_next
           (λ lacks. lacks x.adjusted is.adjusted) h.dated;
       listed = pushed x list is pushes;
     }
 
     -- the next one has none
-    pub one_lacks : LacksDay s set t
+    pub one_lacks : LacksTransferDay s set t
         → First comes_before (BreaksExchanges s set) (fault_at K33 principal_exchanges (l.number + 1))
     one_lacks lacks =
-        first_in K33 principal_exchanges (LacksDay s set) (transfers_of s) l.number t at_next lacks h.dated
+        first_in K33 principal_exchanges (LacksTransferDay s set) (transfers_of s) l.number t at_next lacks h.dated
 
   -- all are listed
   pub all_dated : (l : Listing) → ListsUpTo s set [] l → (f : Fault) → BreaksExchanges s set f → ⊥
   all_dated l h =
-      none_in K33 principal_exchanges (LacksDay s set) (transfers_of s) l.number
+      none_in K33 principal_exchanges (LacksTransferDay s set) (transfers_of s) l.number
       (all_left (transfers_of s) l.number h.is_left) h.dated
 
   -- where nothing is left, the list is that of the exchanges

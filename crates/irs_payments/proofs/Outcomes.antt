@@ -18,7 +18,7 @@ use Rattle.irs_payments.specs.Private.Dating.{paid_at}
 use Rattle.irs_payments.specs.Exchanges.{AreExchanges, BreaksExchanges}
 use Rattle.irs_payments.specs.Grouping.{BreaksGrouping}
 use Rattle.irs_payments.specs.Outcomes.{payments_of, principals_of, steps_of}
-use Rattle.irs_payments.specs.Payments.{ArePayments, BreaksDates, BreaksPayments}
+use Rattle.irs_payments.specs.Payments.{ArePayments, BreaksPaymentDate, BreaksPayments}
 use Rattle.irs_payments.specs.Steps.{BreaksSteps}
 use Rattle.irs_payments.proofs.ExchangeLemmas.{one_exchanges}
 use Rattle.irs_payments.proofs.ExchangesThere.{exchanges_decided, exchanges_there, one_exchanges_rule}
@@ -41,12 +41,12 @@ pub paid_meets : (s : Stream) (set : DaySet) (b a : List ℤ) (cuts : List ℕ)
     → ((f : Fault) → BreaksGrouping s b f → ⊥) → (r : Result (List Payment) (Stopped Fault))
     → Meets (paid_at s set b a cuts) r → Meets (payments_of s set b a) r
 paid_meets s set b a cuts run are long none (Ok ps) paid = (
-  none_of_both (BreaksGrouping s b) (BreaksDates s set b a) none
+  none_of_both (BreaksGrouping s b) (BreaksPaymentDate s set b a) none
       (payments_unbroken s set b a cuts run are paid.1 paid.0.in_range),
   payments_are s set b a cuts run are long ps paid.0,
 )
 paid_meets s set b a cuts run are long none (Err (OfBroken f)) fault =
-    first_right (BreaksGrouping s b) (BreaksDates s set b a) f none
+    first_right (BreaksGrouping s b) (BreaksPaymentDate s set b a) f none
     (payments_first s set b a cuts run are fault.0 f fault.1)
 paid_meets s set b a cuts run are long none (Err OfMemory) fault = tt
 

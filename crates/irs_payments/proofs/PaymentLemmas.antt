@@ -19,9 +19,9 @@ use Rattle.irs_base.specs.Order.{First, comes_before}
 use Rattle.irs_payments.specs.Grouping.{BreaksGrouping}
 use Rattle.irs_payments.specs.Private.Cuts.{days_at, EachPlace, EndsAt, IsCut, AreCuts, cut_at}
 use Rattle.irs_payments.specs.Private.Places.{ArePlaces}
-use Rattle.irs_payments.specs.PaymentDates.{IsPaymentDate, LacksResult, LeavesRange}
+use Rattle.irs_payments.specs.PaymentDates.{IsPaymentDate, PaymentLacksResult, PaymentLeavesRange}
 use Rattle.irs_payments.specs.Payments.{pay_place, CoversPeriods, IsPayment, ArePayments, Covers, PaysFrom, IsLacking}
-use Rattle.irs_payments.specs.Payments.{IsLeaving, BreaksDates}
+use Rattle.irs_payments.specs.Payments.{IsLeaving, BreaksPaymentDate}
 use Rattle.irs_payments.specs.Private.Dating.{date_place, IsCutPayment, NoneLacks, NoneLeaves, ArePaid, LacksFirst}
 use Rattle.irs_payments.specs.Private.Dating.{OnlyLeaves}
 use Rattle.irs_payments.specs.Private.Dating.{IsDateFault}
@@ -151,21 +151,21 @@ module _ (s : Stream) (set : DaySet) (b a : List ℤ) (run : RunsFromTo (first_d
       (places.within k l) at in
       sym h.starts.is ∙ ap (λ (m : ℕ). day_at a m) place
 
-  lacks_at : (j : ℕ) → IsLacking s set b a j → LacksResult s.pay set (day_at a (date_place s (0 ∷ later) j))
-  lacks_at j h = subst (λ (z : ℤ). LacksResult s.pay set z) (start_same j h.start h.pays) h.lacks
+  lacks_at : (j : ℕ) → IsLacking s set b a j → PaymentLacksResult s.pay set (day_at a (date_place s (0 ∷ later) j))
+  lacks_at j h = subst (λ (z : ℤ). PaymentLacksResult s.pay set z) (start_same j h.start h.pays) h.lacks
 
-  leaves_at : (j : ℕ) → IsLeaving s set b a j → LeavesRange s.pay set (day_at a (date_place s (0 ∷ later) j))
-  leaves_at j h = subst (λ (z : ℤ). LeavesRange s.pay set z) (start_same j h.start h.pays) h.leaves
+  leaves_at : (j : ℕ) → IsLeaving s set b a j → PaymentLeavesRange s.pay set (day_at a (date_place s (0 ∷ later) j))
+  leaves_at j h = subst (λ (z : ℤ). PaymentLeavesRange s.pay set z) (start_same j h.start h.pays) h.leaves
 
   no_fault : NoneLacks s set a (0 ∷ later) (length (0 ∷ later)) → NoneLeaves s set a (0 ∷ later) (length (0 ∷ later))
-      → (f : Fault) → BreaksDates s set b a f → ⊥
+      → (f : Fault) → BreaksPaymentDate s set b a f → ⊥
   no_fault lacks leaves f h = elim h.breaks [
     | inl k ↦ lacks h.number k.0.pays.from_one (pays_within h.number k.0.start k.0.pays) (lacks_at h.number k.0)
     | inr k ↦ leaves h.number k.0.pays.from_one (pays_within h.number k.0.start k.0.pays) (leaves_at h.number k.0)
   ]
 
   first_lacks : (n : ℕ) → LacksFirst s set a (0 ∷ later) n
-      → First comes_before (BreaksDates s set b a) (fault_at K33 payment_dates n)
+      → First comes_before (BreaksPaymentDate s set b a) (fault_at K33 payment_dates n)
   first_lacks n h = (
     record {
       number = n;
@@ -193,7 +193,7 @@ module _ (s : Stream) (set : DaySet) (b a : List ℤ) (run : RunsFromTo (first_d
   )
 
   first_leaves : (n : ℕ) → OnlyLeaves s set a (0 ∷ later) n
-      → First comes_before (BreaksDates s set b a) (fault_at K38 payment_dates n)
+      → First comes_before (BreaksPaymentDate s set b a) (fault_at K38 payment_dates n)
   first_leaves n h = (
     record {
       number = n;
@@ -220,9 +220,9 @@ module _ (s : Stream) (set : DaySet) (b a : List ℤ) (run : RunsFromTo (first_d
   )
 
   first_date_fault : (n : ℕ) (f : Fault) → IsDateFault s set a (0 ∷ later) n f
-      → First comes_before (BreaksDates s set b a) f
-  first_date_fault n f (inl h) = subst (First comes_before (BreaksDates s set b a)) (sym h.1) (first_lacks n h.0)
-  first_date_fault n f (inr h) = subst (First comes_before (BreaksDates s set b a)) (sym h.1) (first_leaves n h.0)
+      → First comes_before (BreaksPaymentDate s set b a) f
+  first_date_fault n f (inl h) = subst (First comes_before (BreaksPaymentDate s set b a)) (sym h.1) (first_lacks n h.0)
+  first_date_fault n f (inr h) = subst (First comes_before (BreaksPaymentDate s set b a)) (sym h.1) (first_leaves n h.0)
 
 -- the same from what the walk gives
 
@@ -248,7 +248,7 @@ payments_cover s set b a cuts term run h ps paid =
 pub payments_unbroken : (s : Stream) (set : DaySet) (b a : List ℤ) (cuts : List ℕ)
     → RunsFromTo (first_day_of s) s.termination.day b → AreCuts s b (length b) cuts
     → NoneLacks s set a cuts (length cuts) → NoneLeaves s set a cuts (length cuts) → (x : Fault)
-    → BreaksDates s set b a x → ⊥
+    → BreaksPaymentDate s set b a x → ⊥
 payments_unbroken s set b a cuts run h lacks leaves =
     no_fault s set b a run h.later h.rising h.sound h.complete
     (subst (λ (cs : List ℕ). NoneLacks s set a cs (length cs)) h.from_zero lacks)
@@ -257,7 +257,7 @@ payments_unbroken s set b a cuts run h lacks leaves =
 -- the first date that fails is the first rule broken
 pub payments_first : (s : Stream) (set : DaySet) (b a : List ℤ) (cuts : List ℕ)
     → RunsFromTo (first_day_of s) s.termination.day b → AreCuts s b (length b) cuts → (n : ℕ) (x : Fault)
-    → IsDateFault s set a cuts n x → First comes_before (BreaksDates s set b a) x
+    → IsDateFault s set a cuts n x → First comes_before (BreaksPaymentDate s set b a) x
 payments_first s set b a cuts run h n x fault =
     first_date_fault s set b a run h.later h.rising h.sound h.complete n x
     (subst (λ (cs : List ℕ). IsDateFault s set a cs n x) h.from_zero fault)
@@ -288,7 +288,7 @@ few_places b cuts h some =
 
 -- a date fault doesn't come before one of the grouping
 late_date : (s : Stream) (set : DaySet) (b a : List ℤ) (elem : ℕ) (f g : Fault) → f ≡ fault_at K35 elem 0
-    → BreaksDates s set b a g → comes_before g f ≡ false
+    → BreaksPaymentDate s set b a g → comes_before g f ≡ false
 late_date s set b a elem f g is d = elim d.breaks [
   | inl c ↦ told f g (fault_at K35 elem 0) (fault_at K33 payment_dates d.number) is c.1
       (not_before_turn K35 K33 elem payment_dates d.number 0 (omega arith))
@@ -298,7 +298,7 @@ late_date s set b a elem f g is d = elim d.breaks [
 
 -- K33 and K38 of payment dates don't come before K35
 pub dates_late : (s : Stream) (set : DaySet) (b a : List ℤ) (f g : Fault) → BreaksGrouping s b f
-    → BreaksDates s set b a g → comes_before g f ≡ false
+    → BreaksPaymentDate s set b a g → comes_before g f ≡ false
 dates_late s set b a f g (inl h) d = late_date s set b a first_payment_date f g h.1 d
 dates_late s set b a f g (inr h) d = late_date s set b a last_regular_payment_date f g h.1 d
 

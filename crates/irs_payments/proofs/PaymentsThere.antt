@@ -25,8 +25,8 @@ use Rattle.irs_payments.specs.Private.Cuts.{AreCuts}
 use Rattle.irs_payments.specs.Private.Dating.{NoneLacks, NoneLeaves, LacksFirst, LeavesFirst, date_place}
 use Rattle.irs_payments.proofs.DateLemmas.{lacks_first, leaves_first}
 use Rattle.irs_payments.specs.Grouping.{BreaksGrouping}
-use Rattle.irs_payments.specs.PaymentDates.{IsPaymentDate, LacksResult, LeavesRange}
-use Rattle.irs_payments.specs.Payments.{ArePayments, BreaksDates, BreaksPayments}
+use Rattle.irs_payments.specs.PaymentDates.{IsPaymentDate, PaymentLacksResult, PaymentLeavesRange}
+use Rattle.irs_payments.specs.Payments.{ArePayments, BreaksPaymentDate, BreaksPayments}
 use Rattle.irs_payments.proofs.CutsThere.{cuts_there, paid_there}
 use Rattle.irs_payments.proofs.FirstFaults.{FirstOrNone, first_of_both}
 use Rattle.irs_payments.proofs.GroupingLemmas.{grouping_decided}
@@ -40,20 +40,20 @@ abbrev DateOrFault : PayTerms → DaySet → ℤ → Type 0
 DateOrFault pay set start = DateOrFailure pay.offset pay.adj.code set start
 
 decides_lacks : (pay : PayTerms) (set : DaySet) (start : ℤ) → DateOrFault pay set start
-    → IsDecided (LacksResult pay set start)
+    → IsDecided (PaymentLacksResult pay set start)
 decides_lacks pay set start (inl date) = inr (date_not_lacking pay.offset pay.adj.code set start date.0 date.1)
 decides_lacks pay set start (inr (inl lacks)) = inl lacks
 decides_lacks pay set start (inr (inr leaves)) = inr (one_failure pay.offset pay.adj.code set start leaves)
 
 decides_leaves : (pay : PayTerms) (set : DaySet) (start : ℤ) → DateOrFault pay set start
-    → IsDecided (LeavesRange pay set start)
+    → IsDecided (PaymentLeavesRange pay set start)
 decides_leaves pay set start (inl date) = inr (date_in_range pay.offset pay.adj.code set start date.0 date.1)
 decides_leaves pay set start (inr (inl lacks)) =
     inr (λ leaves. one_failure pay.offset pay.adj.code set start leaves lacks)
 decides_leaves pay set start (inr (inr leaves)) = inl leaves
 
-date_there : (pay : PayTerms) (set : DaySet) (start : ℤ) → DateOrFault pay set start → (LacksResult pay set start → ⊥)
-    → (LeavesRange pay set start → ⊥) → (r : ℤ) × IsPaymentDate pay set start r
+date_there : (pay : PayTerms) (set : DaySet) (start : ℤ) → DateOrFault pay set start → (PaymentLacksResult pay set start → ⊥)
+    → (PaymentLeavesRange pay set start → ⊥) → (r : ℤ) × IsPaymentDate pay set start r
 date_there pay set start (inl date) lacks leaves = date
 date_there pay set start (inr (inl fault)) lacks leaves = absurd (lacks fault)
 date_there pay set start (inr (inr fault)) lacks leaves = absurd (leaves fault)
@@ -103,13 +103,13 @@ first_number P decided (suc (suc n)) = elim (first_number P decided (suc n)) [
 -- the first date that breaks a rule, or the payments, none of whose dates breaks one
 abbrev DatesFound : Stream → DaySet → List ℤ → List ℤ → Type 0
 DatesFound s set b a =
-    ((f : Fault) × First comes_before (BreaksDates s set b a) f) ⊎
-    (((ps : List Payment) × ArePayments s set b a ps) × ((f : Fault) → BreaksDates s set b a f → ⊥))
+    ((f : Fault) × First comes_before (BreaksPaymentDate s set b a) f) ⊎
+    (((ps : List Payment) × ArePayments s set b a ps) × ((f : Fault) → BreaksPaymentDate s set b a f → ⊥))
 
 module _ (s : Stream) (set : DaySet) (b a : List ℤ) (cuts : List ℕ)
     (run : RunsFromTo (first_day_of s) s.termination.day b) (are : AreCuts s b (length b) cuts)
     (long : length a ≡ length b) (each : (j : ℕ) → DateOrFault s.pay set (day_at a (date_place s cuts j))) where
-  lacking : FirstNumber (λ j. LacksResult s.pay set (day_at a (date_place s cuts j))) (length cuts)
+  lacking : FirstNumber (λ j. PaymentLacksResult s.pay set (day_at a (date_place s cuts j))) (length cuts)
       → DatesFound s set b a
   lacking h =
       let first : LacksFirst s set a cuts h.number =
@@ -121,7 +121,7 @@ module _ (s : Stream) (set : DaySet) (b a : List ℤ) (cuts : List ℕ)
       )
 
   leaving : NoneLacks s set a cuts (length cuts)
-      → FirstNumber (λ j. LeavesRange s.pay set (day_at a (date_place s cuts j))) (length cuts) → DatesFound s set b a
+      → FirstNumber (λ j. PaymentLeavesRange s.pay set (day_at a (date_place s cuts j))) (length cuts) → DatesFound s set b a
   leaving results h =
       let first : LeavesFirst s set a cuts (length cuts) h.number =
       leaves_first s set a cuts (length cuts) h.number
@@ -145,11 +145,11 @@ module _ (s : Stream) (set : DaySet) (b a : List ℤ) (cuts : List ℕ)
 
   dates_found : DatesFound s set b a
   dates_found =
-      elim (first_number (λ j. LacksResult s.pay set (day_at a (date_place s cuts j)))
+      elim (first_number (λ j. PaymentLacksResult s.pay set (day_at a (date_place s cuts j)))
       (λ j. decides_lacks s.pay set (day_at a (date_place s cuts j)) (each j)) (length cuts)) [
         | inl lacks ↦ lacking lacks
         | inr results ↦
-            elim (first_number (λ j. LeavesRange s.pay set (day_at a (date_place s cuts j)))
+            elim (first_number (λ j. PaymentLeavesRange s.pay set (day_at a (date_place s cuts j)))
             (λ j. decides_leaves s.pay set (day_at a (date_place s cuts j)) (each j)) (length cuts)) [
               | inl leaves ↦ leaving results leaves
               | inr range ↦ all_dated results range
@@ -176,13 +176,13 @@ module _ (s : Stream) (set : DaySet) (b a : List ℤ) (over : ArePayable s set b
       (λ j. date_or_failure s.pay.offset s.pay.adj.code set (day_at a (date_place s cuts.0 j))
       (day_at_day a (date_place s cuts.0 j) over.adjusted) over.range over.said)
 
-  dates_decided : FirstOrNone (BreaksDates s set b a)
+  dates_decided : FirstOrNone (BreaksPaymentDate s set b a)
   dates_decided = elim stream_dates [ inl first ↦ inl first | inr found ↦ inr found.1 ]
 
   -- a rule is the first that is broken, or none is broken
   pub payments_decided : FirstOrNone (BreaksPayments s set b a)
   payments_decided =
-      first_of_both (BreaksGrouping s b) (BreaksDates s set b a) (dates_late s set b a)
+      first_of_both (BreaksGrouping s b) (BreaksPaymentDate s set b a) (dates_late s set b a)
       (grouping_decided s b over.lawful over.days) dates_decided
 
   -- where none is broken there are payments

@@ -62,9 +62,9 @@ abbrev pub AreExchanges : Stream → DaySet → List Exchange → Type 0
 AreExchanges s set xs = Pairs (IsExchange s set) (transfers_of s) xs
 
 -- the date of the transfer has no adjusted day
-abbrev pub LacksDay : Stream → DaySet → Transfer → Type 0
-LacksDay s set t = (r : ℤ) → Adjusts s.pay.adj.code set t.date r → ⊥
+abbrev pub LacksTransferDay : Stream → DaySet → Transfer → Type 0
+LacksTransferDay s set t = (r : ℤ) → Adjusts s.pay.adj.code set t.date r → ⊥
 
 -- K33 of exchanges is broken: the date of one of them has no adjusted day
 abbrev pub BreaksExchanges : Stream → DaySet → Fault → Type 0
-BreaksExchanges s set f = BreaksIn K33 principal_exchanges (LacksDay s set) (transfers_of s) f
+BreaksExchanges s set f = BreaksIn K33 principal_exchanges (LacksTransferDay s set) (transfers_of s) f

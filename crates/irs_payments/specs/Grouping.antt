@@ -15,13 +15,13 @@ use Rattle.irs_base.specs.Members.{day_at}
 
 -- the first payment date if it is given; else boundary 1 if a payment is due for each period;
 -- else the first day
-abbrev pub anchor_by : Option ℤ → Bool → ℤ → ℤ → ℤ
-anchor_by (Some first) each one first_day = first
-anchor_by None each one first_day = if each then one else first_day
+abbrev pub payment_anchor_by : Option ℤ → Bool → ℤ → ℤ → ℤ
+payment_anchor_by (Some first) each one first_day = first
+payment_anchor_by None each one first_day = if each then one else first_day
 
 -- the payment anchor; it need not be a roll day
 abbrev pub pay_anchor : Stream → List ℤ → ℤ
-pay_anchor s boundaries = anchor_by s.pay.first (same_length s.pay.freq s.freq) (day_at boundaries 1) (first_day_of s)
+pay_anchor s boundaries = payment_anchor_by s.pay.first (same_length s.pay.freq s.freq) (day_at boundaries 1) (first_day_of s)
 
 -- the day is on the grid of the payment frequency and the stream's roll from the payment anchor. It is not before
 -- firstPaymentDate and not after lastRegularPaymentDate. The term has no grid

@@ -9,9 +9,9 @@ abbrev pub IsPaymentDate : PayTerms → DaySet → ℤ → ℤ → Type 0
 IsPaymentDate pay set start r = MovesAndAdjusts pay.offset pay.adj.code set start r
 
 -- no result of the Business offset or of the adjustment, as K33 has it
-abbrev pub LacksResult : PayTerms → DaySet → ℤ → Type 0
-LacksResult pay set start = MoveLacks pay.offset pay.adj.code set start
+abbrev pub PaymentLacksResult : PayTerms → DaySet → ℤ → Type 0
+PaymentLacksResult pay set start = MoveLacks pay.offset pay.adj.code set start
 
 -- the Calendar offset leaves the range of dates, as K38 has it
-abbrev pub LeavesRange : PayTerms → DaySet → ℤ → Type 0
-LeavesRange pay set start = MoveLeaves pay.offset set start
+abbrev pub PaymentLeavesRange : PayTerms → DaySet → ℤ → Type 0
+PaymentLeavesRange pay set start = MoveLeaves pay.offset set start

@@ -10,7 +10,7 @@ use Rattle.irs_terms.specs.declared.stream.Stream.{Stream}
 use Rattle.irs_calendar.specs.GoodDays.{DaySet}
 use Rattle.irs_base.specs.Faults.{fault_at}
 use Rattle.irs_payments.specs.Grouping.{PayList, BreaksGrouping}
-use Rattle.irs_payments.specs.PaymentDates.{IsPaymentDate, LacksResult, LeavesRange}
+use Rattle.irs_payments.specs.PaymentDates.{IsPaymentDate, PaymentLacksResult, PaymentLeavesRange}
 use Rattle.irs_base.specs.Members.{day_at, CoverNumbers, EachNumbered}
 
 -- the place among the payment boundaries of the unadjusted date of payment j: the payment period's
@@ -69,13 +69,13 @@ pub record PaysFrom (s : Stream) (boundaries adjusted : List ℤ) (j : ℕ) (sta
 pub record IsLacking (s : Stream) (set : DaySet) (boundaries adjusted : List ℤ) (j : ℕ) : Type 0 where
   pub start : ℤ
   pub pays : PaysFrom s boundaries adjusted j start
-  pub lacks : LacksResult s.pay set start
+  pub lacks : PaymentLacksResult s.pay set start
 
 -- the date of payment j leaves the range of dates
 pub record IsLeaving (s : Stream) (set : DaySet) (boundaries adjusted : List ℤ) (j : ℕ) : Type 0 where
   pub start : ℤ
   pub pays : PaysFrom s boundaries adjusted j start
-  pub leaves : LeavesRange s.pay set start
+  pub leaves : PaymentLeavesRange s.pay set start
 
 -- K33 of payment j is broken
 abbrev pub BreaksResult : Stream → DaySet → List ℤ → List ℤ → ℕ → Fault → Type 0
@@ -86,10 +86,10 @@ abbrev pub BreaksRange : Stream → DaySet → List ℤ → List ℤ → ℕ →
 BreaksRange s set boundaries adjusted j f = IsLeaving s set boundaries adjusted j × (f ≡ fault_at K38 payment_dates j)
 
 -- K33 or K38 of a payment date is broken; the index is the payment's number
-pub record BreaksDates (s : Stream) (set : DaySet) (boundaries adjusted : List ℤ) (f : Fault) : Type 0 where
+pub record BreaksPaymentDate (s : Stream) (set : DaySet) (boundaries adjusted : List ℤ) (f : Fault) : Type 0 where
   pub number : ℕ
   pub breaks : BreaksResult s set boundaries adjusted number f ⊎ BreaksRange s set boundaries adjusted number f
 
 -- the rules that the payments of a stream break: K35, K33 and K38
 abbrev pub BreaksPayments : Stream → DaySet → List ℤ → List ℤ → Fault → Type 0
-BreaksPayments s set boundaries adjusted f = BreaksGrouping s boundaries f ⊎ BreaksDates s set boundaries adjusted f
+BreaksPayments s set boundaries adjusted f = BreaksGrouping s boundaries f ⊎ BreaksPaymentDate s set boundaries adjusted f

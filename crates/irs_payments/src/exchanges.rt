@@ -14,10 +14,10 @@ ghost use Rattle.irs_base.specs.declared.rounding.Direction.TheVariants.{Nearest
 ghost use Rattle.irs_terms.specs.Lawful.{IsLawfulStream, IsLawfulValues, IsNotional};
 ghost use Rattle.irs_terms.specs.declared.results.Exchange.{Exchange};
 ghost use Rattle.irs_payments.specs.Exchanges.{initial_of, change, intermediate_of, last_value, final_of};
-ghost use Rattle.irs_payments.specs.Exchanges.{BreaksExchanges, IsExchange, LacksDay};
+ghost use Rattle.irs_payments.specs.Exchanges.{BreaksExchanges, IsExchange, LacksTransferDay};
 ghost use Rattle.irs_payments.specs.Private.Listing.{ListsUpTo, listing_to};
 ghost use Rattle.irs_payments.specs.Outcomes.{principals_of};
-ghost use Rattle.irs_payments.specs.Private.Transfers.{listed};
+ghost use Rattle.irs_payments.specs.Private.Transfers.{listed_transfer};
 ghost use Rattle.irs_payments.specs.declared.exchanges.Transfer.{Transfer};
 
 use crate::PayErr;
@@ -50,7 +50,7 @@ pub struct Listing {
 // The initial exchange.
 fn initial(s: &Stream) -> Option<Transfer>
     requires { IsLawfulStream s.now }
-    ensures { listed result ≡ initial_of s.now }
+    ensures { listed_transfer result ≡ initial_of s.now }
 {
     if s.exchanges.initial {
         Some(Transfer {
@@ -66,7 +66,7 @@ fn initial(s: &Stream) -> Option<Transfer>
 fn change(before: i128, step: &Step) -> Option<Transfer>
     requires before { IsNotional before }
     requires value { IsNotional step.now.value }
-    ensures { listed result ≡ change before step.now }
+    ensures { listed_transfer result ≡ change before step.now }
 {
     if step.value != before {
         Some(Transfer {
@@ -95,7 +95,7 @@ fn last_notional(notional: &StepValues) -> i128
 // The final exchange.
 fn last(s: &Stream) -> Option<Transfer>
     requires { IsLawfulStream s.now }
-    ensures { listed result ≡ final_of s.now }
+    ensures { listed_transfer result ≡ final_of s.now }
 {
     if s.exchanges.last {
         Some(Transfer {
@@ -140,7 +140,7 @@ fn rounded_amount(amount: i128, places: u8) -> Dec
 fn exchange<G: GoodDays>(s: &Stream, days: &G, transfer: Transfer) -> Option<Exchange>
     requires { unsigned_abs transfer.amount ≤ most_notional }
     ensures some { IfSome result (IsExchange s.now (G.days days.now) transfer) }
-    ensures none { IfNone result (LacksDay s.now (G.days days.now) transfer) }
+    ensures none { IfNone result (LacksTransferDay s.now (G.days days.now) transfer) }
 {
     let adjusted = adjust_by(s.pay.adj.code, days, transfer.date)?;
     Some(Exchange {
@@ -170,7 +170,7 @@ fn add<G: GoodDays>(
 ) -> Result<Listing, Fault>
     requires few { listing.number ≤ most_exchanges }
     requires small { IfSome transfer (λ t. unsigned_abs t.amount ≤ most_notional) }
-    ensures { (left : List Transfer) → ListsUpTo s.now (G.days days.now) (listed transfer ++ left) listing →
+    ensures { (left : List Transfer) → ListsUpTo s.now (G.days days.now) (listed_transfer transfer ++ left) listing →
         MeetsExactly (listing_to s.now (G.days days.now) left) result }
 {
     let Some(transfer) = transfer else {

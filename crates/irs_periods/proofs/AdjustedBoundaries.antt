@@ -5,7 +5,8 @@ use Rattle.irs_base.specs.Days.{IsDay}
 use Rattle.irs_base.specs.DayLists.{AreDays}
 use Rattle.irs_terms.specs.declared.stream.Stream.{Stream}
 use Rattle.irs_calendar.specs.GoodDays.{DaySet}
-use Rattle.irs_periods.specs.Adjusting.{BoundaryDays, last_of, code_at, days_at, AdjustsAt, AdjustedList, NoResult}
+use Rattle.irs_periods.specs.Adjusting.{BoundaryDays, last_of, code_at, boundary_days_at, AdjustsAt, AdjustedList}
+use Rattle.irs_periods.specs.Adjusting.{NoResult}
 use Rattle.irs_periods.proofs.AdjustedLemmas.{adjusted_exists}
 use Rattle.irs_adjust.proofs.FoundDays.{InRange, IsFound, decides_adjusts, adjusts_day}
 use Rattle.irs_base.specs.Members.{day_at}
@@ -29,7 +30,7 @@ chosen_range false s t first second = second
 module _ (s : Stream) (sets : BoundaryDays) (b : List ℤ) (days : AreDays b) (start : InRange sets.start)
     (last : InRange sets.end) (middle : InRange sets.middle) where
   -- the business days of each boundary lie in the range of dates
-  pub days_range : (end i : ℕ) → InRange (days_at sets end i)
+  pub days_range : (end i : ℕ) → InRange (boundary_days_at sets end i)
   days_range end i =
       let rest = chosen_range (i == end) sets.end sets.middle last middle in
       chosen_range (i == 0) sets.start (if i == end then sets.end else sets.middle) start rest
@@ -43,12 +44,12 @@ module _ (s : Stream) (sets : BoundaryDays) (b : List ℤ) (days : AreDays b) (s
   pub adjusted_there : ((i : ℕ) → NoResult s sets b i → ⊥) → (a : List ℤ) × AdjustedList s sets b a
   adjusted_there meets = adjusted_exists s sets b (λ i within.
       found_or_missed i within (meets i)
-      (decides_adjusts (code_at s (last_of b) i) (days_at sets (last_of b) i) (day_at b i)
+      (decides_adjusts (code_at s (last_of b) i) (boundary_days_at sets (last_of b) i) (day_at b i)
       (day_of_days b i days within) (days_range (last_of b) i)))
 
   -- the adjusted boundaries are days in range
   pub adjusted_days : (a : List ℤ) → AdjustedList s sets b a → AreDays a
   adjusted_days a h = days_of_each a (λ i within.
       let same : i < length b = omega (arith, within, h.same_length) in
-      adjusts_day (code_at s (last_of b) i) (days_at sets (last_of b) i) (day_at b i) (day_at a i)
+      adjusts_day (code_at s (last_of b) i) (boundary_days_at sets (last_of b) i) (day_at b i) (day_at a i)
       (day_of_days b i days same) (days_range (last_of b) i) (h.each i same))

@@ -16,7 +16,7 @@ use Rattle.irs_adjust.proofs.FoundDays.{InRange, IsFound, decides_adjusts, decid
 use Rattle.irs_periods.specs.Adjusting.{AdjustedList, AdjustsAt, BoundaryDays, BreaksAdjusted, DoesNotRise}
 use Rattle.irs_periods.specs.Adjusting.{MissesResult, NoResult, NotAfter, code_at}
 use Rattle.irs_periods.specs.Private.Adjusting.{FirstNoResult, FirstNotAfter}
-use Rattle.irs_periods.specs.Adjusting.{days_at, last_of, no_result_at, not_after_at}
+use Rattle.irs_periods.specs.Adjusting.{boundary_days_at, last_of, no_result_at, not_after_at}
 use Rattle.irs_periods.proofs.AdjustedBoundaries.{day_of_days, days_range, adjusted_there}
 use Rattle.irs_periods.proofs.AdjustedLemmas.{one_adjusted, rising_of}
 use Rattle.irs_periods.proofs.FirstAmong.{Among, first_among}
@@ -107,7 +107,7 @@ module _ (s : Stream) (sets : BoundaryDays) (b : List ℤ) (days : AreDays b) (s
 
   decides_no_result : (i : ℕ) → i < length b → IsDecided (NoResult s sets b i)
   decides_no_result i within = result_or_none i within
-      (decides_adjusts (code_at s (last_of b) i) (days_at sets (last_of b) i) (day_at b i) (day_of_days b i days within)
+      (decides_adjusts (code_at s (last_of b) i) (boundary_days_at sets (last_of b) i) (day_at b i) (day_of_days b i days within)
       (days_range s sets b days start last middle (last_of b) i))
 
   -- the fault of a boundary that has no adjusted day

@@ -11,7 +11,8 @@ use Rattle.irs_terms.specs.declared.results.Span.{Span}
 use Rattle.irs_adjust.proofs.CodeLaws.{one_adjusts}
 use Rattle.irs_terms.specs.FirstDay.{first_day_of}
 use Rattle.irs_periods.specs.Boundaries.{Boundaries}
-use Rattle.irs_periods.specs.Adjusting.{BoundaryDays, AdjustedList, AdjustsAt, NotAfter, code_at, days_at, last_of}
+use Rattle.irs_periods.specs.Adjusting.{BoundaryDays, AdjustedList, AdjustsAt, NotAfter, code_at, boundary_days_at}
+use Rattle.irs_periods.specs.Adjusting.{last_of}
 use Rattle.irs_periods.proofs.GridDays.{cases_ltz}
 use Rattle.irs_terms.specs.TermDates.{termination_of}
 use Rattle.irs_base.specs.Members.{day_at}
@@ -29,7 +30,7 @@ pub one_adjusted : (s : Stream) (sets : BoundaryDays) (b x y : List ℤ) → Adj
 one_adjusted s sets b x y p q =
     same_days x y (p.same_length ∙ sym q.same_length) (λ i l.
     let within : i < length b = omega (arith, l, p.same_length) in
-    one_adjusts (code_at s (last_of b) i) (days_at sets (last_of b) i) (day_at b i) (day_at x i) (day_at y i)
+    one_adjusts (code_at s (last_of b) i) (boundary_days_at sets (last_of b) i) (day_at b i) (day_at x i) (day_at y i)
     (p.each i within) (q.each i within))
 
 -- a list of days, one for each place

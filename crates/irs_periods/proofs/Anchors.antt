@@ -16,9 +16,9 @@ use Rattle.irs_terms.specs.declared.frequency.Unit.TheVariants.{D, W, M, Y, T}
 use Rattle.irs_terms.specs.declared.stream.Stream.{Stream}
 use Rattle.irs_roll.specs.Grids.{IsMultiple, OnMonths, OnRollDay}
 use Rattle.irs_roll.specs.Rolls.{Fits, FitsBy, FitsWeek, IsRollDay, OnGrid, OnGridBy}
-use Rattle.irs_periods.specs.Spans.{anchor_by, anchor_of, is_term, stub_anchor}
+use Rattle.irs_periods.specs.Spans.{period_anchor_by, anchor_of, is_term, stub_anchor}
 use Rattle.irs_terms.specs.FirstDay.{first_day_of}
-use Rattle.irs_terms.specs.Suiting.{IsTerm}
+use Rattle.irs_terms.specs.Suiting.{IsWholeTerm}
 use Rattle.irs_terms.specs.TermDates.{termination_of}
 use Rattle.irs_base.specs.Private.Order.{IsDecided}
 use Rattle.irs_roll.proofs.GridsDecided.{decides_on_grid}
@@ -54,7 +54,7 @@ own_grid_by Y count roll a timed fits = own_month (IsRollDay roll) (12 * count) 
 own_grid_by T count roll a timed fits = absurd (timed refl)
 
 -- an anchor that the roll fits is on its own grid
-pub own_grid : (freq : Frequency) (roll : RollCode) (a : ℤ) → (IsTerm freq → ⊥) → Fits roll freq a
+pub own_grid : (freq : Frequency) (roll : RollCode) (a : ℤ) → (IsWholeTerm freq → ⊥) → Fits roll freq a
     → OnGrid freq roll a a
 own_grid freq roll a timed fits = own_grid_by freq.unit freq.count roll a timed fits
 
@@ -113,7 +113,7 @@ stub_anchor_day (Some ShortFinal) e t first last = first
 stub_anchor_day (Some LongFinal) e t first last = first
 
 anchor_by_day : (term : Bool) (f l : Option ℤ) (stub : Option StubKind) (e t : ℤ) → IfSome f IsDay → IsDay e → IsDay t
-    → IsDay (anchor_by term f l stub e t)
+    → IsDay (period_anchor_by term f l stub e t)
 anchor_by_day true f l stub e t given first last = first
 anchor_by_day false None None stub e t given first last = stub_anchor_day stub e t first last
 anchor_by_day false None (Some l) stub e t given first last = first

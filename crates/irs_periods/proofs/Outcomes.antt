@@ -6,7 +6,7 @@ use Rattle.irs_base.specs.Outcomes.{Determined}
 use Rattle.irs_base.proofs.Outcomes.{unless_broken_determined}
 use Rattle.irs_terms.specs.Lawful.{IsLawfulStream}
 use Rattle.irs_terms.specs.FirstDay.{first_day_of}
-use Rattle.irs_terms.specs.Suiting.{IsTerm}
+use Rattle.irs_terms.specs.Suiting.{IsWholeTerm}
 use Rattle.irs_terms.specs.TermDates.{DatesInOrder, termination_of}
 use Rattle.irs_terms.specs.declared.results.Span.{Span}
 use Rattle.irs_terms.specs.declared.stream.Stream.{Stream}
@@ -57,7 +57,7 @@ pub span_answers : (s : Stream) (span : Span) → IsRegularSpan s span → (regu
 span_answers s span is = (span_unbroken s span is.regular is.kept, is)
 
 -- where the frequency is the term there aren't too many periods
-pub term_answers : (s : Stream) (span : Span) → IsTerm s.freq → DatesInOrder s
+pub term_answers : (s : Stream) (span : Span) → IsWholeTerm s.freq → DatesInOrder s
     → (boundaries_of s span).Answers (first_day_of s ∷ termination_of s ∷ [])
 term_answers s span term dates =
     let b = first_day_of s ∷ termination_of s ∷ [] in

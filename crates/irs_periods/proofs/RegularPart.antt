@@ -18,7 +18,7 @@ use Rattle.irs_periods.proofs.GridDays.{no_earlier, number_order}
 use Rattle.irs_periods.proofs.GridSpans.{span_days}
 use Rattle.irs_periods.proofs.SpanOrder.{InTerm, given_in_term}
 use Rattle.irs_periods.proofs.Assembled.{assembled, same_boundaries}
-use Rattle.irs_terms.specs.Suiting.{IsTerm}
+use Rattle.irs_terms.specs.Suiting.{IsWholeTerm}
 use Rattle.irs_terms.specs.TermDates.{DatesInOrder, termination_of}
 
 -- a unit that isn't the term is a unit of time
@@ -31,7 +31,7 @@ timed_unit T h = absurd (h refl)
 
 module _ (f : ℤ → ℤ) (rises : (j k : ℤ) → j <ℤ k → f j <ℤ f k) (on : ℤ → Type 0) (nth_is_on : (k : ℤ)
     → on (f k)) (misses_none : (d : ℤ) → on d → (k : ℤ)
-    × (f k ≡ d)) (s : Stream) (span : Span) (dates : DatesInOrder s) (timed : IsTerm s.freq
+    × (f k ≡ d)) (s : Stream) (span : Span) (dates : DatesInOrder s) (timed : IsWholeTerm s.freq
     → ⊥) (regular : Regular s span) (kept : SpanKept s span) (zeroth : f (pos 0) ≡ span.anchor) (same : (d : ℤ)
     → on d ↔ OnGrid s.freq s.roll span.anchor d) where
   in_term : InTerm (OnGrid s.freq s.roll span.anchor) (first_day_of s) (termination_of s) span.first span.last

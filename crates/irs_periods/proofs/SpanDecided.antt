@@ -6,7 +6,7 @@ use Rattle.irs_base.specs.Private.Order.{IsDecided}
 use Rattle.irs_base.specs.declared.places.Fault.{Fault}
 use Rattle.irs_base.proofs.FaultOrder.{fault_order, one_fault}
 use Rattle.irs_terms.specs.Lawful.{IsLawfulStream}
-use Rattle.irs_terms.specs.Suiting.{IsTerm}
+use Rattle.irs_terms.specs.Suiting.{IsWholeTerm}
 use Rattle.irs_terms.specs.TermDates.{DatesInOrder}
 use Rattle.irs_terms.specs.declared.results.Span.{Span}
 use Rattle.irs_terms.specs.declared.stream.Stream.{Stream}
@@ -55,7 +55,7 @@ abbrev SpanDecided : Stream → Type 0
 SpanDecided s = ((f : Fault) × First comes_before (BreaksSpan s) f) ⊎ ((f : Fault) → BreaksSpan s f → ⊥)
 
 module _ (s : Stream) (lawful : IsLawfulStream s) (dates : DatesInOrder s) where
-  by_last : (IsTerm s.freq → ⊥) → Fits s.roll s.freq (anchor_of s) → (span : Span) → Regular s span
+  by_last : (IsWholeTerm s.freq → ⊥) → Fits s.roll s.freq (anchor_of s) → (span : Span) → Regular s span
       → IsDecided (OnGrid s.freq s.roll span.anchor span.last) → SpanDecided s
   by_last timed fits span regular (inl on) = inr (span_unbroken s span regular (record {
     fits = λ _. subst (Fits s.roll s.freq) (sym regular.anchored) fits;
@@ -67,7 +67,7 @@ module _ (s : Stream) (lawful : IsLawfulStream s) (dates : DatesInOrder s) where
         first_off_grid s (λ h. h.misfits fits) (record { timed = timed; span = span; regular = regular; off = off }),
       )
 
-  by_anchor : (IsTerm s.freq → ⊥) → IsDecided (Fits s.roll s.freq (anchor_of s)) → SpanDecided s
+  by_anchor : (IsWholeTerm s.freq → ⊥) → IsDecided (Fits s.roll s.freq (anchor_of s)) → SpanDecided s
   by_anchor timed (inr misfits) = inl (roll_misfits s, first_misfit s (record { timed = timed; misfits = misfits }))
   by_anchor timed (inl fits) =
       let found = regular_there s lawful dates (λ h. h.misfits fits) in

@@ -20,7 +20,7 @@ use Rattle.irs_periods.proofs.Anchors.{anchor_day, decides_fits, decides_term, o
 use Rattle.irs_periods.proofs.Ranges.{first_between, last_between, after_between, before_between}
 use Rattle.irs_terms.specs.FirstDay.{first_day_of}
 use Rattle.irs_periods.proofs.TermOrder.{begins_before_end}
-use Rattle.irs_terms.specs.Suiting.{IsTerm}
+use Rattle.irs_terms.specs.Suiting.{IsWholeTerm}
 use Rattle.irs_terms.specs.TermDates.{DatesInOrder, termination_of, given_or}
 use Rattle.irs_base.specs.Private.Order.{IsDecided}
 use Rattle.irs_roll.proofs.GridsDecided.{decides_on_grid}
@@ -124,7 +124,7 @@ pub last_is_day : (s : Stream) (span : Span) → IsLawfulStream s → LiesInTerm
 last_is_day s span lawful part =
     term_day s lawful span.last (omega (arith, signed_arith, part.before, part.order)) part.after
 
-whole_term : (s : Stream) (span : Span) → DatesInOrder s → IsTerm s.freq → Regular s span → LiesInTerm s span
+whole_term : (s : Stream) (span : Span) → DatesInOrder s → IsWholeTerm s.freq → Regular s span → LiesInTerm s span
 whole_term s span dates term regular =
     let spans : (span.first ≡ first_day_of s) × (span.last ≡ termination_of s) = rw term at regular.spans in
     record {
@@ -133,7 +133,7 @@ whole_term s span dates term regular =
       after = omega (arith, signed_arith, spans.1);
     }
 
-part_of_term : (s : Stream) (span : Span) → DatesInOrder s → (IsTerm s.freq → ⊥)
+part_of_term : (s : Stream) (span : Span) → DatesInOrder s → (IsWholeTerm s.freq → ⊥)
     → OnGrid s.freq s.roll span.anchor span.anchor → Regular s span
     → InTerm (OnGrid s.freq s.roll span.anchor) (first_day_of s) (termination_of s) span.first span.last
 part_of_term s span dates timed own regular =
@@ -149,7 +149,7 @@ part_of_term s span dates timed own regular =
 
 -- the span's first day is a boundary
 pub first_is_boundary : (s : Stream) (span : Span) → DatesInOrder s → Regular s span
-    → ((IsTerm s.freq → ⊥) → Fits s.roll s.freq span.anchor) → IsBoundary s span span.first
+    → ((IsWholeTerm s.freq → ⊥) → Fits s.roll s.freq span.anchor) → IsBoundary s span span.first
 first_is_boundary s span dates regular fits = elim (decides_term s.freq.unit) [
   | inl term ↦ let spans : (span.first ≡ first_day_of s) × (span.last ≡ termination_of s) = rw term at regular.spans in
       inl spans.0
@@ -160,7 +160,7 @@ first_is_boundary s span dates regular fits = elim (decides_term s.freq.unit) [
 
 -- the regular span lies in the term
 pub lies_in_term : (s : Stream) (span : Span) → DatesInOrder s → Regular s span
-    → ((IsTerm s.freq → ⊥) → Fits s.roll s.freq span.anchor) → LiesInTerm s span
+    → ((IsWholeTerm s.freq → ⊥) → Fits s.roll s.freq span.anchor) → LiesInTerm s span
 lies_in_term s span dates regular fits = elim (decides_term s.freq.unit) [
   | inl term ↦ whole_term s span dates term regular
   | inr timed ↦
@@ -180,7 +180,7 @@ last_is_boundary s span dates regular kept = elim (decides_term s.freq.unit) [
 ]
 
 -- where K30 isn't broken the roll fits the anchor
-pub anchor_fits : (s : Stream) → IsLawfulStream s → (RollMisfits s → ⊥) → (IsTerm s.freq → ⊥)
+pub anchor_fits : (s : Stream) → IsLawfulStream s → (RollMisfits s → ⊥) → (IsWholeTerm s.freq → ⊥)
     → Fits s.roll s.freq (anchor_of s)
 anchor_fits s lawful kept timed =
     elim (decides_fits s.freq s.roll (anchor_of s) lawful.freq lawful.roll (anchor_day s lawful)) [
@@ -189,7 +189,7 @@ anchor_fits s lawful kept timed =
     ]
 
 module _ (s : Stream) (lawful : IsLawfulStream s) (dates : DatesInOrder s) where
-  timed_span : (RollMisfits s → ⊥) → (IsTerm s.freq → ⊥) → (span : Span) × Regular s span
+  timed_span : (RollMisfits s → ⊥) → (IsWholeTerm s.freq → ⊥) → (span : Span) × Regular s span
   timed_span kept timed =
       let unit = timed_unit s.freq.unit timed in
       let a : ℤ = anchor_of s in
@@ -224,7 +224,7 @@ module _ (s : Stream) (lawful : IsLawfulStream s) (dates : DatesInOrder s) where
   -- where neither K30 nor K31 is broken, a regular span is kept
   pub regular_kept : ((f : Fault) → BreaksSpan s f → ⊥) → (span : Span) → Regular s span → SpanKept s span
   regular_kept kept span regular =
-      let fits : (IsTerm s.freq → ⊥) → Fits s.roll s.freq span.anchor =
+      let fits : (IsWholeTerm s.freq → ⊥) → Fits s.roll s.freq span.anchor =
       λ timed. subst (Fits s.roll s.freq) (sym regular.anchored) (anchor_fits s lawful (no_misfit kept) timed) in
       let part = lies_in_term s span dates regular fits in
       let is_anchor : IsDay span.anchor = subst IsDay (sym regular.anchored) (anchor_day s lawful) in

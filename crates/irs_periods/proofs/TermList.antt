@@ -6,19 +6,19 @@ use Rattle.irs_terms.specs.declared.results.Span.{Span}
 use Rattle.irs_roll.specs.Rolls.{OnGrid}
 use Rattle.irs_terms.specs.FirstDay.{first_day_of}
 use Rattle.irs_periods.specs.Boundaries.{Boundaries, IsBoundary}
-use Rattle.irs_terms.specs.Suiting.{IsTerm}
+use Rattle.irs_terms.specs.Suiting.{IsWholeTerm}
 use Rattle.irs_terms.specs.TermDates.{termination_of}
 
-no_grid : (s : Stream) (a d : ℤ) → IsTerm s.freq → OnGrid s.freq s.roll a d → ⊥
+no_grid : (s : Stream) (a d : ℤ) → IsWholeTerm s.freq → OnGrid s.freq s.roll a d → ⊥
 no_grid s a d term on = rw term at on
 
-stands : (s : Stream) (span : Span) (d : ℤ) → IsTerm s.freq → IsBoundary s span d
+stands : (s : Stream) (span : Span) (d : ℤ) → IsWholeTerm s.freq → IsBoundary s span d
     → Member d (first_day_of s ∷ termination_of s ∷ [])
 stands s span d term b =
     ⊎_elim (λ e. inl e) (λ n. ⊎_elim (λ t. inr (inl t)) (λ on. absurd (no_grid s span.anchor d term on.2)) n) b
 
 -- with frequency T the first day and the termination date are the boundaries
-pub term_list : (s : Stream) (span : Span) → IsTerm s.freq → first_day_of s <ℤ termination_of s
+pub term_list : (s : Stream) (span : Span) → IsWholeTerm s.freq → first_day_of s <ℤ termination_of s
     → Boundaries s span (first_day_of s ∷ termination_of s ∷ [])
 term_list s span term ends = record {
   rising = ((ends, tt), (tt, tt));

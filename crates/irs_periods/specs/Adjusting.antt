@@ -20,8 +20,8 @@ pub record BoundaryDays : Type 0 where
   pub middle : DaySet
 
 -- the same of three sets of business days, `days` being what each says
-abbrev pub days_by : {G : Type 0} → (G → DaySet) → G → G → G → BoundaryDays
-days_by days start end middle = record { start = days start; end = days end; middle = days middle }
+abbrev pub boundary_days_by : {G : Type 0} → (G → DaySet) → G → G → G → BoundaryDays
+boundary_days_by days start end middle = record { start = days start; end = days end; middle = days middle }
 
 -- the number of the last boundary
 abbrev pub last_of : List ℤ → ℕ
@@ -34,12 +34,12 @@ code_at s last i =
     if i == 0 then (first_date_of s).adj.code else (if i == last then s.termination.adj.code else s.period_adj.code)
 
 -- the business days of boundary i: those of the first, of the last, or of the others
-abbrev pub days_at : BoundaryDays → ℕ → ℕ → DaySet
-days_at sets last i = if i == 0 then sets.start else (if i == last then sets.end else sets.middle)
+abbrev pub boundary_days_at : BoundaryDays → ℕ → ℕ → DaySet
+boundary_days_at sets last i = if i == 0 then sets.start else (if i == last then sets.end else sets.middle)
 
 -- r is the boundary d, with the number i, adjusted
 abbrev pub AdjustsAt : Stream → BoundaryDays → ℕ → ℕ → ℤ → ℤ → Type 0
-AdjustsAt s sets last i d r = Adjusts (code_at s last i) (days_at sets last i) d r
+AdjustsAt s sets last i d r = Adjusts (code_at s last i) (boundary_days_at sets last i) d r
 
 -- a is as long as b, and each day of a is the boundary at its place adjusted
 pub record AdjustedList (s : Stream) (sets : BoundaryDays) (b a : List ℤ) : Type 0 where

@@ -11,7 +11,7 @@ use Rattle.irs_terms.specs.declared.stream.Stream.{Stream}
 use Rattle.irs_terms.specs.declared.results.Span.{Span}
 use Rattle.irs_roll.specs.Rolls.{Fits, OnGrid}
 use Rattle.irs_periods.specs.Spans.{anchor_of, Regular}
-use Rattle.irs_terms.specs.Suiting.{IsTerm}
+use Rattle.irs_terms.specs.Suiting.{IsWholeTerm}
 use Rattle.irs_terms.specs.TermDates.{first_day_element}
 
 -- the element of the anchor by the stub type alone, `start` being that of the first day
@@ -43,12 +43,12 @@ last_element s = last_element_by s.last_regular
 
 -- K30: the frequency isn't the term, and the roll doesn't fit the anchor
 pub record RollMisfits (s : Stream) : Type 0 where
-  pub timed : IsTerm s.freq → ⊥
+  pub timed : IsWholeTerm s.freq → ⊥
   pub misfits : Fits s.roll s.freq (anchor_of s) → ⊥
 
 -- K31: the frequency isn't the term, and the last day of the regular span isn't on the grid
 pub record LastOffGrid (s : Stream) : Type 0 where
-  pub timed : IsTerm s.freq → ⊥
+  pub timed : IsWholeTerm s.freq → ⊥
   pub span : Span
   pub regular : Regular s span
   pub off : OnGrid s.freq s.roll span.anchor span.last → ⊥
@@ -67,5 +67,5 @@ BreaksSpan s f = (RollMisfits s × (f ≡ roll_misfits s)) ⊎ (LastOffGrid s ×
 
 -- neither is broken: unless the frequency is the term, the roll fits the anchor, and the last day is on the grid
 pub record SpanKept (s : Stream) (span : Span) : Type 0 where
-  pub fits : (IsTerm s.freq → ⊥) → Fits s.roll s.freq span.anchor
-  pub on_last : (IsTerm s.freq → ⊥) → OnGrid s.freq s.roll span.anchor span.last
+  pub fits : (IsWholeTerm s.freq → ⊥) → Fits s.roll s.freq span.anchor
+  pub on_last : (IsWholeTerm s.freq → ⊥) → OnGrid s.freq s.roll span.anchor span.last

@@ -39,13 +39,13 @@ abbrev pub given_anchor_of : Stream → ℤ
 given_anchor_of s = given_anchor s.first_regular s.last_regular s.stub (first_day_of s) (termination_of s)
 
 -- for the term the anchor is the first day
-abbrev pub anchor_by : Bool → Option ℤ → Option ℤ → Option StubKind → ℤ → ℤ → ℤ
-anchor_by true first last stub e t = e
-anchor_by false first last stub e t = given_anchor first last stub e t
+abbrev pub period_anchor_by : Bool → Option ℤ → Option ℤ → Option StubKind → ℤ → ℤ → ℤ
+period_anchor_by true first last stub e t = e
+period_anchor_by false first last stub e t = given_anchor first last stub e t
 
 -- the anchor of a stream's grid
 abbrev pub anchor_of : Stream → ℤ
-anchor_of s = anchor_by (is_term s.freq.unit) s.first_regular s.last_regular s.stub (first_day_of s) (termination_of s)
+anchor_of s = period_anchor_by (is_term s.freq.unit) s.first_regular s.last_regular s.stub (first_day_of s) (termination_of s)
 
 -- the span's first and last day by the stub type alone
 abbrev pub StubSpan : Option StubKind → (ℤ → Type 0) → ℤ → ℤ → ℤ → ℤ → Type 0

@@ -12,7 +12,7 @@ ghost use Rattle.irs_terms.specs.declared.results.Span.{Span};
 ghost use Rattle.irs_periods.specs.Adjusting.{AdjustedList, AdjustsAt};
 ghost use Rattle.irs_periods.specs.Private.Adjusting.{FirstLaterNoResult, FirstNoResult, FirstNotAfter, EachHasResult};
 ghost use Rattle.irs_periods.specs.Private.Adjusting.{EachLaterHasResult};
-ghost use Rattle.irs_periods.specs.Adjusting.{MissesResult, NotAfter, days_by, no_result_at, not_after_at};
+ghost use Rattle.irs_periods.specs.Adjusting.{MissesResult, NotAfter, boundary_days_by, no_result_at, not_after_at};
 ghost use Rattle.irs_periods.specs.Boundaries.{Boundaries};
 ghost use Rattle.irs_periods.specs.Outcomes.{adjusted_of};
 
@@ -43,10 +43,10 @@ pub fn adjusted<G: GoodDays>(
 ) -> Result<DayList, PerErr>
     requires dates { DatesInOrder s.now }
     requires listed { (span : Span) × Boundaries s.now span unadjusted.now }
-    ensures meets { let sets = days_by G.days start.now end.now middle.now in
+    ensures meets { let sets = boundary_days_by G.days start.now end.now middle.now in
         Meets (adjusted_of s.now sets unadjusted.now) result }
     // Running out of memory doesn't hide K33.
-    ensures memory { let sets = days_by G.days start.now end.now middle.now in
+    ensures memory { let sets = boundary_days_by G.days start.now end.now middle.now in
         IfMemory result ((f : Fault) → MissesResult s.now sets unadjusted.now f → ⊥) }
 {
     let days = unadjusted.as_slice();
@@ -71,7 +71,7 @@ pub fn adjusted_is_determined<G: GoodDays>(
     end: &G,
     middle: &G,
 )
-    ensures { let sets = days_by G.days start.now end.now middle.now in
+    ensures { let sets = boundary_days_by G.days start.now end.now middle.now in
         Determined (adjusted_of s.now sets unadjusted.now) }
 {
     // hands the prover the range of the business days and of the boundaries
@@ -89,8 +89,8 @@ fn adjust_at<G: GoodDays>(
     i: usize,
     d: Day,
 ) -> Option<Day>
-    ensures some { IfSome result (AdjustsAt s.now (days_by G.days start.now end.now middle.now) last i d) }
-    ensures none { let Adjusts = AdjustsAt s.now (days_by G.days start.now end.now middle.now) last i d in
+    ensures some { IfSome result (AdjustsAt s.now (boundary_days_by G.days start.now end.now middle.now) last i d) }
+    ensures none { let Adjusts = AdjustsAt s.now (boundary_days_by G.days start.now end.now middle.now) last i d in
         IfNone result ((r : ℤ) → Adjusts r → ⊥) }
 {
     if i == 0 {
@@ -112,8 +112,8 @@ fn first_without<G: GoodDays>(
     middle: &G,
 ) -> Option<usize>
     requires { 2 ≤ length days.now }
-    ensures some { IfSome result (FirstNoResult s.now (days_by G.days start.now end.now middle.now) days.now) }
-    ensures none { IfNone result (EachHasResult s.now (days_by G.days start.now end.now middle.now) days.now) }
+    ensures some { IfSome result (FirstNoResult s.now (boundary_days_by G.days start.now end.now middle.now) days.now) }
+    ensures none { IfNone result (EachHasResult s.now (boundary_days_by G.days start.now end.now middle.now) days.now) }
 {
     let later = later_without(s, days, start, end, middle);
     if let Some(_first) = adjust_at(s, start, end, middle, days.len() - 1, 0, days[0]) {
@@ -135,8 +135,8 @@ fn later_without<G: GoodDays>(
     middle: &G,
 ) -> Option<usize>
     requires { 2 ≤ length days.now }
-    ensures some { IfSome result (FirstLaterNoResult s.now (days_by G.days start.now end.now middle.now) days.now) }
-    ensures none { IfNone result (EachLaterHasResult s.now (days_by G.days start.now end.now middle.now) days.now) }
+    ensures some { IfSome result (FirstLaterNoResult s.now (boundary_days_by G.days start.now end.now middle.now) days.now) }
+    ensures none { IfNone result (EachLaterHasResult s.now (boundary_days_by G.days start.now end.now middle.now) days.now) }
 {
     let last = days.len() - 1;
     let Some(_last) = adjust_at(s, start, end, middle, last, last, days[last]) else {
@@ -160,7 +160,7 @@ fn adjust_each<G: GoodDays>(
     middle: &G,
 ) -> Option<DayList>
     requires { 0 < length days.now }
-    ensures { IfSome result (AdjustedList s.now (days_by G.days start.now end.now middle.now) days.now) }
+    ensures { IfSome result (AdjustedList s.now (boundary_days_by G.days start.now end.now middle.now) days.now) }
 {
     let last = days.len() - 1;
     let mut list = DayList::new(alloc);

@@ -9,7 +9,7 @@ ghost use Rattle.irs_base.specs.Days.{IsDay, all_days};
 ghost use Rattle.irs_base.specs.Limits.{most_periods};
 ghost use Rattle.irs_base.specs.Outcomes.{Determined, IfMemory, Meets};
 ghost use Rattle.irs_terms.specs.Lawful.{IsLawfulStream};
-ghost use Rattle.irs_terms.specs.Suiting.{FrequencySuits, IsTerm};
+ghost use Rattle.irs_terms.specs.Suiting.{FrequencySuits, IsWholeTerm};
 ghost use Rattle.irs_terms.specs.FirstDay.{first_day_of};
 ghost use Rattle.irs_terms.specs.TermDates.{DatesInOrder, termination_of};
 ghost use Rattle.irs_roll.specs.Rolls.{OnGrid};
@@ -41,7 +41,7 @@ pub fn boundaries<G: Grid>(
 ) -> Result<DayList, PerErr>
     requires lawful { IsLawfulStream s.now }
     requires dates { DatesInOrder s.now }
-    requires timed { ¬ (IsTerm s.now.freq) }
+    requires timed { ¬ (IsWholeTerm s.now.freq) }
     requires span { Regular s.now span.now }
     requires kept { SpanKept s.now span.now }
     requires first { G.at grid.now (pos 0) ≡ span.now.anchor }
@@ -81,7 +81,7 @@ fn list_days<G: Grid>(
 fn regular_part<G: Grid>(s: &Stream, span: &Span, grid: &G) -> (i64, u32)
     requires lawful { IsLawfulStream s.now }
     requires dates { DatesInOrder s.now }
-    requires timed { ¬ (IsTerm s.now.freq) }
+    requires timed { ¬ (IsWholeTerm s.now.freq) }
     requires span { Regular s.now span.now }
     requires kept { SpanKept s.now span.now }
     requires first { G.at grid.now (pos 0) ≡ span.now.anchor }

@@ -25,7 +25,7 @@ ghost use Rattle.irs_periods.specs.Private.Spans.{GivenSpanOf};
 ghost use Rattle.irs_periods.specs.Spans.{stub_anchor};
 ghost use Rattle.irs_periods.specs.SpanRules.{anchor_element, last_element, last_off_grid};
 ghost use Rattle.irs_periods.specs.SpanRules.{roll_misfits};
-ghost use Rattle.irs_terms.specs.Suiting.{IsTerm, FrequencySuits};
+ghost use Rattle.irs_terms.specs.Suiting.{IsWholeTerm, FrequencySuits};
 ghost use Rattle.irs_terms.specs.TermDates.{DatesInOrder, first_day_element, termination_of};
 
 use crate::nearest::{Way, long_end, short_end};
@@ -60,7 +60,7 @@ pub fn regular_span_is_determined(s: &Stream)
 /// Whether the frequency is the whole term.
 pub fn is_whole_term(freq: Frequency) -> bool
     ensures test { result ≡ is_term freq.unit }
-    ensures exact { IsTrue result ↔ IsTerm freq }
+    ensures exact { IsTrue result ↔ IsWholeTerm freq }
 {
     match freq.unit {
         Unit::T => true,

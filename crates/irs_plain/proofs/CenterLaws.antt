@@ -7,7 +7,7 @@ use Rattle.irs_base.proofs.EveryLemmas.{every_both}
 use Rattle.irs_base.proofs.VisibleTexts.{spells_decimal}
 use Rattle.irs_base.specs.Decimals.{AreDigits}
 use Rattle.irs_base.specs.Members.{Every}
-use Rattle.irs_plain.specs.Centers.{count_text, name_after, names_text, other_name, other_names, more_text}
+use Rattle.irs_plain.specs.Centers.{count_text, name_after, names_text, other_name, names_after_first, more_text}
 use Rattle.irs_plain.specs.Visible.{IsVisible, dots, most_shown, shown_front}
 use Rattle.irs_plain.proofs.VisibleLaws.{bytes_visible}
 
@@ -41,10 +41,10 @@ name_visible before name h =
     (every_both IsVisible shown end (bytes_visible (take most_shown name))
     (every_both IsVisible (dots name) [] (dots_by (nat_lt most_shown (length name))) tt))
 
-others_visible : (names : List (List ℕ)) → Every IsVisible (other_names names)
+others_visible : (names : List (List ℕ)) → Every IsVisible (names_after_first names)
 others_visible [] = tt
 others_visible (name ∷ names) =
-    every_both IsVisible (other_name name) (other_names names)
+    every_both IsVisible (other_name name) (names_after_first names)
     (name_visible (codes ", ") name (all_seen (codes ", ") refl)) (others_visible names)
 
 -- ---- how many more there are
@@ -72,7 +72,7 @@ pub list_visible : (names : List (List ℕ)) (more : ℕ) → more < 2 ^ 64 → 
 list_visible [] more small = all_seen (codes "; the calendar files have no centre") refl
 list_visible (name ∷ names) more small =
     let intro = codes "; the calendar files have " in
-    let others = other_names names in
+    let others = names_after_first names in
     every_both IsVisible (name_after intro name) (others ++ more_text more)
     (name_visible intro name (all_seen intro refl))
     (every_both IsVisible others (more_text more) (others_visible names) (more_by (more == 0) more small))

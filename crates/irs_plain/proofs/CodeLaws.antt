@@ -21,11 +21,11 @@ use Rattle.irs_terms.specs.declared.codes.StubKind.TheVariants as stub
 use Rattle.irs_terms.specs.declared.codes.Treatment.TheVariants as treatment
 use Rattle.irs_terms.specs.declared.frequency.Unit.TheVariants as unit
 use Rattle.irs_terms.specs.declared.parameters.CalculationMethod.TheVariants as method
-use Rattle.irs_elements.specs.Codes.{among, day_roll_at, either, named_roll_at}
+use Rattle.irs_elements.specs.Codes.{among, day_roll_at, first_there, named_roll_at}
 use Rattle.irs_elements.specs.Leaves.{has_value}
 use Rattle.irs_elements.specs.declared.table.Leaf.{Leaf as LeafKind}
 use Rattle.irs_elements.specs.declared.table.Leaf.TheVariants as leaf
-use Rattle.irs_plain.specs.Values.{codes_of, rolls, value_words}
+use Rattle.irs_plain.specs.Values.{leaf_codes, rolls, value_words}
 
 first_or : {A : Type 0} (b : Bool) (a : A) (o : Option A) → is_some (if b then Some a else o) ≡ (b || is_some o)
 first_or true a o = refl
@@ -38,12 +38,12 @@ among_any [] s = refl
 among_any (row ∷ rows) s =
     first_or (bytes_eq s row.0) row.1 (among rows s) ∙ ap (λ (b : Bool). bytes_eq s row.0 || b) (among_any rows s)
 
-either_some : {A : Type 0} (a b : Option A) → is_some (either a b) ≡ (is_some a || is_some b)
+either_some : {A : Type 0} (a b : Option A) → is_some (first_there a b) ≡ (is_some a || is_some b)
 either_some None b = refl
 either_some (Some x) b = refl
 
 -- the same for each kind of codes
-pub listed_codes : (kind : LeafKind) (names : List (List ℕ)) → codes_of kind ≡ Some names → (s : List ℕ)
+pub listed_codes : (kind : LeafKind) (names : List (List ℕ)) → leaf_codes kind ≡ Some names → (s : List ℕ)
     → has_value kind s ≡ list_any (bytes_eq s) names
 listed_codes leaf.Date names is s = absurd (cc is)
 listed_codes leaf.Multiplier names is s = absurd (cc is)

@@ -7,13 +7,13 @@ use Rattle.irs_base.specs.Rules.{rule_number}
 use Rattle.irs_base.specs.declared.places.Rule.{Rule}
 use Rattle.irs_base.specs.declared.places.Rule.TheVariants as rule
 use Rattle.irs_plain.specs.Lookup.{row_of_rule, row_of_shape, text_at}
-use Rattle.irs_plain.specs.Rules.{codes_of, rows}
+use Rattle.irs_plain.specs.Rules.{rule_codes, rows}
 use Rattle.std.proofs.Common.{◌≡◌, ◌++◌, [], codes, decimal, refl, arith}
 use Rattle.std.proofs.lemmas.Fmt.{decimal_digit}
 
 -- the row of a rule has its name
-pub rules_named : (r : Rule) → text_at codes_of (row_of_rule r) [] ≡ codes "K" ++ decimal (rule_number r)
-unfolding codes_of rows
+pub rules_named : (r : Rule) → text_at rule_codes (row_of_rule r) [] ≡ codes "K" ++ decimal (rule_number r)
+unfolding rule_codes rows
 rules_named rule.K1 = rw (decimal_digit 1 (omega arith)) refl
 rules_named rule.K2 = rw (decimal_digit 2 (omega arith)) refl
 rules_named rule.K3 = rw (decimal_digit 3 (omega arith)) refl
@@ -56,8 +56,8 @@ rules_named rule.K48 = rw (of_two_digits 48 (omega arith) (omega arith)) refl
 rules_named rule.K49 = rw (of_two_digits 49 (omega arith) (omega arith)) refl
 
 -- the row of a fault of cash flows has its name
-pub shapes_named : (k : ShapeKind) → text_at codes_of (row_of_shape k) [] ≡ shape_name k
-unfolding codes_of rows
+pub shapes_named : (k : ShapeKind) → text_at rule_codes (row_of_shape k) [] ≡ shape_name k
+unfolding rule_codes rows
 shapes_named shape.NotJson = refl
 shapes_named shape.Missing = refl
 shapes_named shape.Kind = refl

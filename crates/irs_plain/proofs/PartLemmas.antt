@@ -3,7 +3,7 @@ use Rattle.std.proofs.Common.{◌≡◌, ℕ, zero, suc, List, [], ◌∷◌, �
 use Rattle.std.proofs.Common.{append_assoc}
 use Rattle.std.proofs.lemmas.List.{append-nil}
 use Rattle.irs_base.specs.Members.{Every}
-use Rattle.irs_plain.specs.Parts.{joined}
+use Rattle.irs_plain.specs.Parts.{joined_texts}
 use Rattle.irs_plain.specs.Private.Parts.{part_text, said_by}
 use Rattle.irs_plain.specs.declared.parts.Part.{Part}
 
@@ -27,7 +27,7 @@ said_front [] rest h = empty_said rest h
 said_front (p ∷ ps) rest h = ap (λ (t : List ℕ). part_text p ++ t) (said_front ps rest h)
 
 -- texts and then one more
-pub joined_last : (texts : List (List ℕ)) (last : List ℕ) → joined (texts ++ last ∷ []) ≡ joined texts ++ last
+pub joined_last : (texts : List (List ℕ)) (last : List ℕ) → joined_texts (texts ++ last ∷ []) ≡ joined_texts texts ++ last
 joined_last [] last = append-nil last
 joined_last (text ∷ texts) last =
-    ap (λ (t : List ℕ). text ++ t) (joined_last texts last) ∙ sym (append_assoc text (joined texts) last)
+    ap (λ (t : List ℕ). text ++ t) (joined_last texts last) ∙ sym (append_assoc text (joined_texts texts) last)

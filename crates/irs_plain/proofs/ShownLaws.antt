@@ -8,12 +8,12 @@ use Rattle.std.proofs.lemmas.Str.{inside_one}
 use Rattle.irs_base.proofs.EveryLemmas.{every_both}
 use Rattle.irs_base.specs.Members.{Every}
 use Rattle.std.specs.Str.{chars}
-use Rattle.irs_plain.specs.Shown.{hex_digit, is_control, shown, shown_char, turns_text, two_digits, IsPrinted}
+use Rattle.irs_plain.specs.Shown.{hex_digit, is_control, shown, shown_char, turns_text, two_hex_digits, IsPrinted}
 
 digit_printed : (n : ℕ) → n < 16 → IsPrinted (hex_digit n)
 digit_printed n small = grind arith
 
-digits_printed : (n : ℕ) → Every IsPrinted (two_digits n)
+digits_printed : (n : ℕ) → Every IsPrinted (two_hex_digits n)
 digits_printed n = (digit_printed (n / 16 % 16) (grind arith), (digit_printed (n % 16) (grind arith), tt))
 
 -- a byte from 128 on is no control by itself
@@ -42,23 +42,23 @@ encoded_printed c free = every_by (encode_utf8 c) (λ k less. byte_printed c k f
 letter_printed : (b : ℕ) → 32 ≤ b → b < 127 → IsPrinted b
 letter_printed b least less = (least, λ is. omega (arith, less, is))
 
-control_printed : (c : ℕ) → Every IsPrinted (codes "\\x" ++ two_digits c)
+control_printed : (c : ℕ) → Every IsPrinted (codes "\\x" ++ two_hex_digits c)
 control_printed c =
     (letter_printed 92 (omega arith) (omega arith), (letter_printed 120 (omega arith) (omega arith), digits_printed c))
 
-turn_printed : (c : ℕ) → Every IsPrinted (codes "\\u" ++ two_digits (c / 256) ++ two_digits c)
+turn_printed : (c : ℕ) → Every IsPrinted (codes "\\u" ++ two_hex_digits (c / 256) ++ two_hex_digits c)
 turn_printed c =
-    let digits = every_both IsPrinted (two_digits (c / 256)) (two_digits c) (digits_printed (c / 256)) (digits_printed c) in
+    let digits = every_both IsPrinted (two_hex_digits (c / 256)) (two_hex_digits c) (digits_printed (c / 256)) (digits_printed c) in
     (letter_printed 92 (omega arith) (omega arith), (letter_printed 117 (omega arith) (omega arith), digits))
 
 plain_printed : (turns : Bool) (c : ℕ) → is_control c ≡ false
-    → Every IsPrinted (if turns then codes "\\u" ++ two_digits (c / 256) ++ two_digits c else encode_utf8 c)
+    → Every IsPrinted (if turns then codes "\\u" ++ two_hex_digits (c / 256) ++ two_hex_digits c else encode_utf8 c)
 plain_printed true c free = turn_printed c
 plain_printed false c free = encoded_printed c free
 
 char_by : (control : Bool) (c : ℕ) → is_control c ≡ control
-    → Every IsPrinted (if control then codes "\\x" ++ two_digits c
-    else (if turns_text c then codes "\\u" ++ two_digits (c / 256) ++ two_digits c else encode_utf8 c))
+    → Every IsPrinted (if control then codes "\\x" ++ two_hex_digits c
+    else (if turns_text c then codes "\\u" ++ two_hex_digits (c / 256) ++ two_hex_digits c else encode_utf8 c))
 char_by true c is = control_printed c
 char_by false c free = plain_printed (turns_text c) c free
 

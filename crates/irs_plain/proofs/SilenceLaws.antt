@@ -13,7 +13,7 @@ use Rattle.irs_cli.specs.declared.causes.RunCause.{RunCause}
 use Rattle.irs_cli.specs.declared.causes.RunCause.TheVariants as cause
 use Rattle.irs_resets.specs.declared.fixings.FixErr.TheVariants as fixing
 use Rattle.irs_plain.specs.Notes.{is_silent_reply, noted}
-use Rattle.irs_plain.specs.Parts.{joined}
+use Rattle.irs_plain.specs.Parts.{joined_texts}
 use Rattle.irs_plain.specs.Sentences.{is_silent, refused_by, replied, sentence_of}
 use Rattle.irs_plain.specs.Usage.{commands, usage_of}
 use Rattle.irs_plain.specs.Words.{command, word_at}
@@ -39,22 +39,22 @@ not_empty [] h is = h
 not_empty (x ∷ xs) h is = cc is
 
 -- one of two sentences
-either_byte : (b : Bool) (one two : List (List ℕ)) → HasByte (joined one) → HasByte (joined two)
-    → HasByte (joined (if b then one else two))
+either_byte : (b : Bool) (one two : List (List ℕ)) → HasByte (joined_texts one) → HasByte (joined_texts two)
+    → HasByte (joined_texts (if b then one else two))
 either_byte true one two h k = h
 either_byte false one two h k = k
 
 -- ---- words that are no listed command
 
-helped_byte : (usage : List ℕ) → HasByte (joined (helped usage))
+helped_byte : (usage : List ℕ) → HasByte (joined_texts (helped usage))
 helped_byte [] = tt
 helped_byte (b ∷ bs) = tt
 
-unknown_byte : (typed meant : List ℕ) → HasByte (joined (unknown typed meant))
+unknown_byte : (typed meant : List ℕ) → HasByte (joined_texts (unknown typed meant))
 unknown_byte typed [] = tt
 unknown_byte typed (b ∷ bs) = tt
 
-misfit_byte : (words : List (List ℕ)) (usage : List ℕ) → HasByte (joined (misfit words usage))
+misfit_byte : (words : List (List ℕ)) (usage : List ℕ) → HasByte (joined_texts (misfit words usage))
 misfit_byte words usage =
     let parameter = field_at usage (length words) in
     let many = codes "too many words for the command: " ∷ usage ∷ most_told usage ∷ [] in
@@ -64,11 +64,11 @@ misfit_byte words usage =
     (either_byte (is_lacking parameter) (lacking (command words) parameter) (if long then many else other)
     (byte_after (command words) _ tt) (either_byte long many other tt tt))
 
-unlisted_as_byte : (words : List (List ℕ)) (usage : List ℕ) → HasByte (joined (unlisted_as words usage))
+unlisted_as_byte : (words : List (List ℕ)) (usage : List ℕ) → HasByte (joined_texts (unlisted_as words usage))
 unlisted_as_byte words [] = unknown_byte (command words) (nearest commands (command words))
 unlisted_as_byte words (b ∷ bs) = misfit_byte words (b ∷ bs)
 
-unlisted_byte : (words : List (List ℕ)) → HasByte (joined (unlisted words))
+unlisted_byte : (words : List (List ℕ)) → HasByte (joined_texts (unlisted words))
 unlisted_byte words =
     either_byte (is_help_command (command words)) (helped (usage_of (word_at words 1)))
     (unlisted_as words (usage_of (command words))) (helped_byte (usage_of (word_at words 1)))
@@ -76,7 +76,7 @@ unlisted_byte words =
 
 -- ---- a reply
 
-refused_byte : (words : List (List ℕ)) (r : Refusal) → HasByte (joined (refused_by words r))
+refused_byte : (words : List (List ℕ)) (r : Refusal) → HasByte (joined_texts (refused_by words r))
 refused_byte words (refusal.Unreadable u) = tt
 refused_byte words (refusal.Rule b) = tt
 refused_byte words (refusal.Calendars (calendar.Syntax file line)) = tt
@@ -92,7 +92,7 @@ refused_byte words (refusal.Flows flowing.Memory) = tt
 refused_byte words refusal.Memory = tt
 
 replied_byte : (words : List (List ℕ)) (c : Cause) (n : Note) → is_silent_reply c n ≡ false
-    → HasByte (joined (replied words c) ++ joined (noted c n))
+    → HasByte (joined_texts (replied words c) ++ joined_texts (noted c n))
 replied_byte words reply.Done Nothing h = absurd (cc h)
 replied_byte words reply.Done (Unfixed u) h = tt
 replied_byte words reply.Done (Spot s) h = absurd (cc h)
@@ -101,13 +101,13 @@ replied_byte words (reply.Uncompared unfixed) n h = tt
 replied_byte words (reply.NotAgreed d) n h = tt
 replied_byte words reply.Breaks n h = tt
 replied_byte words (reply.Refused r) n h =
-    byte_before (joined (refused_by words r)) (joined (noted (reply.Refused r) n)) (refused_byte words r)
+    byte_before (joined_texts (refused_by words r)) (joined_texts (noted (reply.Refused r) n)) (refused_byte words r)
 
 -- ---- what a run comes to
 
 spoken : (words : List (List ℕ)) (c : RunCause) → is_silent c ≡ false → HasByte (sentence_of words c)
 spoken words (cause.Replied c n) h = replied_byte words c n h
-spoken words cause.BadWords h = byte_before (joined (unlisted words)) [] (unlisted_byte words)
+spoken words cause.BadWords h = byte_before (joined_texts (unlisted words)) [] (unlisted_byte words)
 spoken words (cause.NoFile place) h = tt
 spoken words cause.PutFailed h = tt
 spoken words cause.NoMemory h = tt

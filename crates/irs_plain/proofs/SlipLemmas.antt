@@ -5,7 +5,7 @@ use Rattle.std.specs.Str.{bytes_eq}
 use Rattle.std.proofs.lemmas.Slice.Eq.{bytes_eq-Decides}
 use Rattle.std.proofs.lemmas.Bool.Decides.{Decides-eqb}
 use Rattle.irs_base.proofs.Orders.{both_true}
-use Rattle.irs_plain.specs.Slips.{Exchanges, IsSlip, Lacks, Replaces, is_exchanged, is_slip, is_slip_here}
+use Rattle.irs_plain.specs.Slips.{Exchanges, IsSlip, LacksOneLetter, Replaces, is_exchanged, is_slip, is_slip_here}
 
 -- equal texts are found equal
 same : (xs : List ℕ) → bytes_eq xs xs ≡ true
@@ -116,7 +116,7 @@ found typed meant (inr (inr (inr s))) =
 -- ---- nothing else is found
 
 -- what lacks a letter lacks it after one more letter of both
-lacks_after : (t : ℕ) (text other : List ℕ) → Lacks text other → Lacks (t ∷ text) (t ∷ other)
+lacks_after : (t : ℕ) (text other : List ℕ) → LacksOneLetter text other → LacksOneLetter (t ∷ text) (t ∷ other)
 lacks_after t text other s = record {
   front = t ∷ s.front;
   letter = s.letter;
@@ -149,7 +149,7 @@ slip_after t typed meant (inr (inr (inr s))) = inr (inr (inr (record {
 })))
 
 -- a text lacks its first letter
-lacks_one : (letter : ℕ) (rest others : List ℕ) → rest ≡ others → Lacks rest (letter ∷ others)
+lacks_one : (letter : ℕ) (rest others : List ℕ) → rest ≡ others → LacksOneLetter rest (letter ∷ others)
 lacks_one letter rest others e = record {
   front = [];
   letter = letter;

@@ -1,6 +1,6 @@
 -- The code's lists are those of the specification.
 use Rattle.irs_plain.specs.Rules.{rows, texts_after, texts_before}
-use Rattle.irs_plain.specs.Usage.{commands, parameters}
+use Rattle.irs_plain.specs.Usage.{commands, parameter_lines}
 use Rattle.irs_plain.specs.declared.help.TheConstants.{COMMANDS}
 use Rattle.irs_plain.specs.declared.usage.TheConstants.{PARAMETERS}
 use Rattle.irs_plain.specs.declared.table.TheConstants.{AFTER, BEFORE}
@@ -22,6 +22,6 @@ unfolding commands
 commands_are = refl
 
 -- the code's parameters are those of the specification
-pub parameters_are : map (λ n. n.now) PARAMETERS ≡ parameters
-unfolding parameters
+pub parameters_are : map (λ n. n.now) PARAMETERS ≡ parameter_lines
+unfolding parameter_lines
 parameters_are = refl

@@ -11,5 +11,5 @@ abbrev pub front : ℕ → List ℕ → List ℕ
 front end text = take (length_before end text) text
 
 -- the text after the first byte that is `end`
-abbrev pub behind : ℕ → List ℕ → List ℕ
-behind end text = drop (length_before end text + 1) text
+abbrev pub after_byte : ℕ → List ℕ → List ℕ
+after_byte end text = drop (length_before end text + 1) text

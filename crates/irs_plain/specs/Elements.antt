@@ -8,9 +8,9 @@ abbrev pub is_adjustments : List ℕ → Bool
 is_adjustments path = bytes_eq (front 47 path) (codes "dateAdjustments")
 
 -- the last name of a path; `last` begins with the last name so far
-abbrev pub last_name : List ℕ → List ℕ → List ℕ
-last_name last [] = last
-last_name last (b ∷ bs) = if b == 47 then last_name bs bs else last_name last bs
+abbrev pub last_name_after : List ℕ → List ℕ → List ℕ
+last_name_after last [] = last
+last_name_after last (b ∷ bs) = if b == 47 then last_name_after bs bs else last_name_after last bs
 
 -- where the name of the holder begins, once another name comes; `dateAdjustments` is no holder
 abbrev pub next_holder : List ℕ → List ℕ → List ℕ
@@ -46,4 +46,4 @@ words_of name =
 
 -- the words of the last name of a path
 abbrev pub name_words : List ℕ → List ℕ
-name_words path = words_of (last_name path path)
+name_words path = words_of (last_name_after path path)

@@ -69,5 +69,5 @@ abbrev pub before : ℕ → List ℕ
 before row = text_at texts_before row []
 
 -- what is said after the element at fault, by its row
-abbrev pub after : ℕ → List ℕ
-after row = text_at texts_after row (codes " breaks this rule")
+abbrev pub words_after : ℕ → List ℕ
+words_after row = text_at texts_after row (codes " breaks this rule")

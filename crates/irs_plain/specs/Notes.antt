@@ -28,6 +28,7 @@ use Rattle.irs_plain.specs.Values.{value_words}
 use Rattle.irs_plain.specs.Visible.{dots, shown_front}
 use Rattle.std.specs.Prelude.{ℕ, ◌&&◌, Bool, true, false, List, [], ◌∷◌, ◌++◌, Option, Some, None, codes}
 use Rattle.std.specs.Prelude.{decimal, if◌then◌else◌}
+use Rattle.irs_base.specs.Elements.{name_or_empty}
 
 -- ---- payments without an amount
 
@@ -150,11 +151,6 @@ abbrev pub day_in : Option Misfit → List ℕ
 day_in None = []
 day_in (Some m) = day_text m.day
 
--- the name or the text, empty where there is none
-abbrev pub name_in : Option (List ℕ) → List ℕ
-name_in None = []
-name_in (Some name) = name
-
 -- what comes before the number of a line, where there is one
 abbrev pub line_words : Option ℕ → List ℕ
 line_words None = []
@@ -169,11 +165,11 @@ line_number (Some line) = decimal line
 -- with the day of this text, and the line
 abbrev pub spot_on : Spot → List ℕ → List (List ℕ)
 spot_on s day =
-    member_words s.member ∷ shown_front (name_in s.member) ∷ dots (name_in s.member)
+    member_words s.member ∷ shown_front (name_or_empty s.member) ∷ dots (name_or_empty s.member)
     ∷ shape_words s.shape
-    ∷ text_words s.text ∷ shown_front (name_in s.text) ∷ dots (name_in s.text)
+    ∷ text_words s.text ∷ shown_front (name_or_empty s.text) ∷ dots (name_or_empty s.text)
     ∷ value_intro s.kind ∷ value_in s.kind
-    ∷ center_words s.center ∷ shown_front (name_in s.center) ∷ dots (name_in s.center)
+    ∷ center_words s.center ∷ shown_front (name_or_empty s.center) ∷ dots (name_or_empty s.center)
     ∷ roll_intro s.misfit ∷ roll_in s.misfit ∷ day_intro s.misfit ∷ day
     ∷ line_words s.line ∷ line_number s.line ∷ []
 
@@ -206,11 +202,11 @@ added (OfRule s) = spot_added s
 added (OfText f) = front_texts f
 
 -- what is said where there is no sentence before it
-abbrev pub alone : Note → List (List ℕ)
-alone Nothing = []
-alone (OfPayments u) = unfixed_texts u
-alone (OfRule s) = []
-alone (OfText f) = []
+abbrev pub note_alone : Note → List (List ℕ)
+note_alone Nothing = []
+note_alone (OfPayments u) = unfixed_texts u
+note_alone (OfRule s) = []
+note_alone (OfText f) = []
 
 -- no payment lacks an amount
 abbrev pub is_fixed : Note → Bool
@@ -233,7 +229,7 @@ is_silent_reply c n = is_done c && is_fixed n
 
 -- what a note says after a reply
 abbrev pub noted : Cause → Note → List (List ℕ)
-noted c n = if is_done c then alone n else added n
+noted c n = if is_done c then note_alone n else added n
 
 -- what is said after the sentence on what a run comes to
 abbrev pub note_of : RunCause → List (List ℕ)

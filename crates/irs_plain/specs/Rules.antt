@@ -66,8 +66,8 @@ rows =
     ∷ []
 
 -- the rules and kinds of fault, as the program prints them
-unfoldable pub codes_of : List (List ℕ)
-codes_of = map (λ (r : Row). codes r.rule) rows
+unfoldable pub rule_codes : List (List ℕ)
+rule_codes = map (λ (r : Row). codes r.rule) rows
 
 -- what is said before the element, for each line of the table
 unfoldable pub texts_before : List (List ℕ)

@@ -27,9 +27,9 @@ use Rattle.irs_cli.specs.declared.commands.Role.TheVariants as role
 use Rattle.irs_resets.specs.declared.fixings.FixErr.{FixErr}
 use Rattle.irs_resets.specs.declared.fixings.FixErr.TheVariants as fixing
 use Rattle.irs_plain.specs.Elements.{holder, name_words, possessive}
-use Rattle.irs_plain.specs.Lookup.{after, before, row_of_rule, row_of_shape}
+use Rattle.irs_plain.specs.Lookup.{words_after, before, row_of_rule, row_of_shape}
 use Rattle.irs_plain.specs.Notes.{is_silent_reply, note_of}
-use Rattle.irs_plain.specs.Parts.{joined}
+use Rattle.irs_plain.specs.Parts.{joined_texts}
 use Rattle.irs_plain.specs.Words.{word_at}
 use Rattle.irs_plain.specs.WrongWords.{is_help, unlisted}
 use Rattle.std.specs.Prelude.{ℕ, ◌-◌, ◌==◌, ◌||◌, ◌&&◌, nat_eq, Bool, false, not, List, [], ◌∷◌, ◌++◌, Option, Some, None, codes}
@@ -60,7 +60,7 @@ is_unread row = (row == row_of_rule K1) || (row == row_of_shape NotJson)
 abbrev pub after_in : List ℕ → ℕ → List ℕ
 after_in file row =
     if ends_with nat_eq file (codes ".xml") && is_unread row then codes " isn't XML that this program reads"
-    else after row
+    else words_after row
 
 -- what a row of the table says of an element of a text in the file of this name, after three opening texts
 abbrev pub about : List ℕ → List ℕ → List ℕ → List ℕ → ℕ → ℕ → List ℕ → ℕ → List (List ℕ)
@@ -73,8 +73,8 @@ about one two three file row stream path index =
     ∷ []
 
 -- a rule is broken
-abbrev pub refused : List (List ℕ) → Broken → List (List ℕ)
-refused words b =
+abbrev pub rule_sentence : List (List ℕ) → Broken → List (List ℕ)
+rule_sentence words b =
     about (codes "K") (decimal (rule_number b.rule)) (codes ": ") (file_name words role.Document 0)
     (row_of_rule b.rule) b.place.stream (path_of b.place.elem) (index_told b.rule b.place.index)
 
@@ -120,17 +120,17 @@ no_memory = codes "there wasn't enough memory" ∷ []
 -- ---- a file at fault
 
 -- a line of the calendar file with that number is at fault
-abbrev pub bad_calendar : List (List ℕ) → ℕ → ℕ → List ℕ → List (List ℕ)
-bad_calendar words file line fault =
+abbrev pub calendar_sentence : List (List ℕ) → ℕ → ℕ → List ℕ → List (List ℕ)
+calendar_sentence words file line fault =
     codes "calendar file " ∷ decimal file ∷ codes " (" ∷ file_name words role.Calendar (file - 1) ∷ codes "), line "
     ∷ decimal line ∷ codes ": " ∷ fault ∷ []
 
 -- a calendar file is at fault
 abbrev pub bad_calendars : List (List ℕ) → CalErr → List (List ℕ)
-bad_calendars words (calendar.Syntax file line) = bad_calendar words file line (codes "this line isn't allowed here")
-bad_calendars words (calendar.Repeat file line) = bad_calendar words file line (codes "this centre is there already")
+bad_calendars words (calendar.Syntax file line) = calendar_sentence words file line (codes "this line isn't allowed here")
+bad_calendars words (calendar.Repeat file line) = calendar_sentence words file line (codes "this centre is there already")
 bad_calendars words (calendar.TooMany file line) =
-    bad_calendar words file line (codes "a centre has at most 20,000 holidays")
+    calendar_sentence words file line (codes "a centre has at most 20,000 holidays")
 bad_calendars words calendar.Memory = no_memory
 
 -- a line of the fixing file is at fault
@@ -139,10 +139,10 @@ bad_fixing words line fault =
     codes "fixing file (" ∷ file_name words role.Fixings 0 ∷ codes "), line " ∷ decimal line ∷ codes ": " ∷ fault ∷ []
 
 -- the fixing file is at fault
-abbrev pub bad_fixings : List (List ℕ) → FixErr → List (List ℕ)
-bad_fixings words (fixing.Syntax line) = bad_fixing words line (codes "this line isn't DATE RATE TENOR INDEX")
-bad_fixings words (fixing.Repeat line) = bad_fixing words line (codes "this date, tenor and index are there already")
-bad_fixings words fixing.Memory = no_memory
+abbrev pub fixings_sentence : List (List ℕ) → FixErr → List (List ℕ)
+fixings_sentence words (fixing.Syntax line) = bad_fixing words line (codes "this line isn't DATE RATE TENOR INDEX")
+fixings_sentence words (fixing.Repeat line) = bad_fixing words line (codes "this date, tenor and index are there already")
+fixings_sentence words fixing.Memory = no_memory
 
 -- the cash flows are out of shape
 abbrev pub bad_shape : List (List ℕ) → ShapeKind → Place → List (List ℕ)
@@ -151,18 +151,18 @@ bad_shape words kind place =
     (row_of_shape kind) place.stream (path_of place.elem) place.index
 
 -- the cash flows are at fault
-abbrev pub bad_flows : List (List ℕ) → FlowErr → List (List ℕ)
-bad_flows words (flowing.Shape kind place) = bad_shape words kind place
-bad_flows words flowing.Memory = no_memory
+abbrev pub flows_sentence : List (List ℕ) → FlowErr → List (List ℕ)
+flows_sentence words (flowing.Shape kind place) = bad_shape words kind place
+flows_sentence words flowing.Memory = no_memory
 
 -- a task isn't carried out
 abbrev pub refused_by : List (List ℕ) → Refusal → List (List ℕ)
 refused_by words (refusal.Unreadable u) = no_document words u
-refused_by words (refusal.Rule b) = refused words b
+refused_by words (refusal.Rule b) = rule_sentence words b
 refused_by words (refusal.Calendars e) = bad_calendars words e
-refused_by words (refusal.Fixings e) = bad_fixings words e
+refused_by words (refusal.Fixings e) = fixings_sentence words e
 refused_by words (refusal.UnreadableFlows u) = no_flows words u
-refused_by words (refusal.Flows e) = bad_flows words e
+refused_by words (refusal.Flows e) = flows_sentence words e
 refused_by words refusal.Memory = no_memory
 
 -- ---- cash flows that depart from the schedule
@@ -238,13 +238,13 @@ abbrev pub help_hint : List ℕ → List ℕ
 help_hint name = if is_help name then codes " (irs --help explains the commands)" else []
 
 -- the file of this name couldn't be read
-abbrev pub unreadable : List ℕ → List (List ℕ)
-unreadable name = codes "couldn't be read: " ∷ name ∷ help_hint name ∷ []
+abbrev pub unreadable_sentence : List ℕ → List (List ℕ)
+unreadable_sentence name = codes "couldn't be read: " ∷ name ∷ help_hint name ∷ []
 
 -- which word isn't text, where its place is known
-abbrev pub no_text : Option ℕ → List (List ℕ)
-no_text None = codes "a word of the command line isn't text" ∷ []
-no_text (Some place) = codes "word " ∷ decimal place ∷ codes " isn't text" ∷ []
+abbrev pub no_text_sentence : Option ℕ → List (List ℕ)
+no_text_sentence None = codes "a word of the command line isn't text" ∷ []
+no_text_sentence (Some place) = codes "word " ∷ decimal place ∷ codes " isn't text" ∷ []
 
 -- ---- what a run comes to
 
@@ -259,15 +259,15 @@ is_silent (cause.TooLong place) = false
 is_silent (cause.NotText place) = false
 
 -- the texts of the sentence without its note; none where there is nothing to say but a note
-abbrev pub told : List (List ℕ) → RunCause → List (List ℕ)
-told words (cause.Replied c n) = replied words c
-told words cause.BadWords = unlisted words
-told words (cause.NoFile place) = unreadable (word_at words place)
-told words cause.PutFailed = codes "the text couldn't be written to standard output" ∷ []
-told words cause.NoMemory = no_memory
-told words (cause.TooLong place) = word_at words place ∷ codes " has more than 4,194,304 bytes" ∷ []
-told words (cause.NotText place) = no_text place
+abbrev pub told_texts : List (List ℕ) → RunCause → List (List ℕ)
+told_texts words (cause.Replied c n) = replied words c
+told_texts words cause.BadWords = unlisted words
+told_texts words (cause.NoFile place) = unreadable_sentence (word_at words place)
+told_texts words cause.PutFailed = codes "the text couldn't be written to standard output" ∷ []
+told_texts words cause.NoMemory = no_memory
+told_texts words (cause.TooLong place) = word_at words place ∷ codes " has more than 4,194,304 bytes" ∷ []
+told_texts words (cause.NotText place) = no_text_sentence place
 
 -- the sentence with its note; empty where there is nothing to say
 abbrev pub sentence_of : List (List ℕ) → RunCause → List ℕ
-sentence_of words c = joined (told words c) ++ joined (note_of c)
+sentence_of words c = joined_texts (told_texts words c) ++ joined_texts (note_of c)

@@ -11,8 +11,8 @@ abbrev pub hex_digit : ℕ → ℕ
 hex_digit n = if nat_lt n 10 then 48 + n else 87 + n
 
 -- the two lowest digits of a number in base 16
-abbrev pub two_digits : ℕ → List ℕ
-two_digits n = hex_digit (n / 16 % 16) ∷ hex_digit (n % 16) ∷ []
+abbrev pub two_hex_digits : ℕ → List ℕ
+two_hex_digits n = hex_digit (n / 16 % 16) ∷ hex_digit (n % 16) ∷ []
 
 -- U+0000 to U+001F and U+007F to U+009F: the controls of the two sets C0 and C1, and DEL
 abbrev pub is_control : ℕ → Bool
@@ -28,8 +28,8 @@ turns_text c =
 -- a character as it is shown: \x and two digits for a control, \u and four for one that turns the text
 abbrev pub shown_char : ℕ → List ℕ
 shown_char c =
-    if is_control c then codes "\\x" ++ two_digits c
-    else (if turns_text c then codes "\\u" ++ two_digits (c / 256) ++ two_digits c else encode_utf8 c)
+    if is_control c then codes "\\x" ++ two_hex_digits c
+    else (if turns_text c then codes "\\u" ++ two_hex_digits (c / 256) ++ two_hex_digits c else encode_utf8 c)
 
 -- a text as it is shown
 abbrev pub shown : List ℕ → List ℕ

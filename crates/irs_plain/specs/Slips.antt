@@ -4,7 +4,7 @@ use Rattle.std.specs.Prelude.{◌≡◌, ◌⊎◌, ℕ, ◌==◌, ◌||◌, ◌
 use Rattle.std.specs.Str.{bytes_eq}
 
 -- a text lacks one letter of another
-pub record Lacks (text other : List ℕ) : Type 0 where
+pub record LacksOneLetter (text other : List ℕ) : Type 0 where
   pub front : List ℕ
   pub letter : ℕ
   pub rest : List ℕ
@@ -33,7 +33,7 @@ pub record Exchanges (text other : List ℕ) : Type 0 where
 
 -- one slip is between what was typed and what was meant
 abbrev pub IsSlip : List ℕ → List ℕ → Type 0
-IsSlip typed meant = Lacks typed meant ⊎ (Lacks meant typed ⊎ (Replaces typed meant ⊎ Exchanges typed meant))
+IsSlip typed meant = LacksOneLetter typed meant ⊎ (LacksOneLetter meant typed ⊎ (Replaces typed meant ⊎ Exchanges typed meant))
 
 -- ---- the test for it
 

@@ -23,8 +23,8 @@ commands =
     ∷ []
 
 -- a line a parameter: its name in the lines above, and what it has to be
-unfoldable pub parameters : List (List ℕ)
-parameters =
+unfoldable pub parameter_lines : List (List ℕ)
+parameter_lines =
     codes "DOC a file"
     ∷ codes "FIX a file or -"
     ∷ codes "FLOWS a file"
@@ -41,10 +41,10 @@ parameters =
     ∷ []
 
 -- the line with this name, empty where there is none
-abbrev pub line_of : List (List ℕ) → List ℕ → List ℕ
-line_of [] name = []
-line_of (line ∷ lines) name = if bytes_eq (front 32 line) name then line else line_of lines name
+abbrev pub usage_line : List (List ℕ) → List ℕ → List ℕ
+usage_line [] name = []
+usage_line (line ∷ lines) name = if bytes_eq (front 32 line) name then line else usage_line lines name
 
 -- how the command with this name is called, empty where it isn't listed
 abbrev pub usage_of : List ℕ → List ℕ
-usage_of name = line_of commands name
+usage_of name = usage_line commands name

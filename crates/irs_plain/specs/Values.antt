@@ -13,37 +13,37 @@ use Rattle.std.specs.Prelude.{ℕ, List, [], ◌∷◌, ◌++◌, Option, Some, 
 
 -- the texts that a leaf of codes may have, in the order of the codes' table; none for a leaf that has a grammar.
 -- The law `codes_are_listed` says that these are all that have a value
-abbrev pub codes_of : LeafKind → Option (List (List ℕ))
-codes_of Date = None
-codes_of Multiplier = None
-codes_of OffsetDays = None
-codes_of ObservationDays = None
-codes_of Precision = None
-codes_of Whole = None
-codes_of Notional = None
-codes_of Rate = None
-codes_of Amount = None
-codes_of Fraction = None
-codes_of Truth = Some (codes "true" ∷ codes "1" ∷ codes "false" ∷ codes "0" ∷ [])
-codes_of CenterName = None
-codes_of IndexName = None
-codes_of CurrencyName = None
-codes_of Convention = Some (codes "FOLLOWING" ∷ codes "MODFOLLOWING" ∷ codes "PRECEDING" ∷ codes "MODPRECEDING"
+abbrev pub leaf_codes : LeafKind → Option (List (List ℕ))
+leaf_codes Date = None
+leaf_codes Multiplier = None
+leaf_codes OffsetDays = None
+leaf_codes ObservationDays = None
+leaf_codes Precision = None
+leaf_codes Whole = None
+leaf_codes Notional = None
+leaf_codes Rate = None
+leaf_codes Amount = None
+leaf_codes Fraction = None
+leaf_codes Truth = Some (codes "true" ∷ codes "1" ∷ codes "false" ∷ codes "0" ∷ [])
+leaf_codes CenterName = None
+leaf_codes IndexName = None
+leaf_codes CurrencyName = None
+leaf_codes Convention = Some (codes "FOLLOWING" ∷ codes "MODFOLLOWING" ∷ codes "PRECEDING" ∷ codes "MODPRECEDING"
     ∷ codes "NEAREST" ∷ codes "NONE" ∷ [])
-codes_of PeriodUnit = Some (codes "D" ∷ codes "W" ∷ codes "M" ∷ codes "Y" ∷ codes "T" ∷ [])
-codes_of TenorUnit = Some (codes "D" ∷ codes "W" ∷ codes "M" ∷ codes "Y" ∷ [])
-codes_of OffsetUnit = Some (codes "D" ∷ [])
-codes_of DayType = Some (codes "Business" ∷ codes "Calendar" ∷ [])
-codes_of StubType = Some (codes "ShortInitial" ∷ codes "LongInitial" ∷ codes "ShortFinal" ∷ codes "LongFinal" ∷ [])
-codes_of Roll = None
-codes_of PayRelative = Some (codes "CalculationPeriodStartDate" ∷ codes "CalculationPeriodEndDate" ∷ [])
-codes_of ResetRelative = Some (codes "CalculationPeriodStartDate" ∷ codes "CalculationPeriodEndDate" ∷ [])
-codes_of DayCount = Some (codes "1/1" ∷ codes "ACT/ACT.ISDA" ∷ codes "ACT/365.FIXED" ∷ codes "ACT/360"
+leaf_codes PeriodUnit = Some (codes "D" ∷ codes "W" ∷ codes "M" ∷ codes "Y" ∷ codes "T" ∷ [])
+leaf_codes TenorUnit = Some (codes "D" ∷ codes "W" ∷ codes "M" ∷ codes "Y" ∷ [])
+leaf_codes OffsetUnit = Some (codes "D" ∷ [])
+leaf_codes DayType = Some (codes "Business" ∷ codes "Calendar" ∷ [])
+leaf_codes StubType = Some (codes "ShortInitial" ∷ codes "LongInitial" ∷ codes "ShortFinal" ∷ codes "LongFinal" ∷ [])
+leaf_codes Roll = None
+leaf_codes PayRelative = Some (codes "CalculationPeriodStartDate" ∷ codes "CalculationPeriodEndDate" ∷ [])
+leaf_codes ResetRelative = Some (codes "CalculationPeriodStartDate" ∷ codes "CalculationPeriodEndDate" ∷ [])
+leaf_codes DayCount = Some (codes "1/1" ∷ codes "ACT/ACT.ISDA" ∷ codes "ACT/365.FIXED" ∷ codes "ACT/360"
     ∷ codes "30/360" ∷ codes "30E/360" ∷ codes "30E/360.ISDA" ∷ [])
-codes_of Compounding = Some (codes "None" ∷ codes "Straight" ∷ codes "Flat" ∷ codes "SpreadExclusive" ∷ [])
-codes_of CalculationMethod = Some (codes "Compounding" ∷ codes "Averaging" ∷ [])
-codes_of Treatment = Some (codes "NegativeInterestRateMethod" ∷ codes "ZeroInterestRateMethod" ∷ [])
-codes_of Direction = Some (codes "Up" ∷ codes "Down" ∷ codes "Nearest" ∷ [])
+leaf_codes Compounding = Some (codes "None" ∷ codes "Straight" ∷ codes "Flat" ∷ codes "SpreadExclusive" ∷ [])
+leaf_codes CalculationMethod = Some (codes "Compounding" ∷ codes "Averaging" ∷ [])
+leaf_codes Treatment = Some (codes "NegativeInterestRateMethod" ∷ codes "ZeroInterestRateMethod" ∷ [])
+leaf_codes Direction = Some (codes "Up" ∷ codes "Down" ∷ codes "Nearest" ∷ [])
 
 -- the rolls that have a name
 abbrev pub rolls : List (List ℕ)
@@ -51,16 +51,16 @@ rolls = codes "EOM" ∷ codes "IMM" ∷ codes "NONE" ∷ codes "MON" ∷ codes "
     ∷ codes "FRI" ∷ codes "SAT" ∷ codes "SUN" ∷ []
 
 -- texts with a comma between them
-abbrev pub listed : List (List ℕ) → List ℕ
-listed [] = []
-listed (x ∷ []) = x
-listed (x ∷ y ∷ ys) = x ++ codes ", " ++ listed (y ∷ ys)
+abbrev pub comma_list : List (List ℕ) → List ℕ
+comma_list [] = []
+comma_list (x ∷ []) = x
+comma_list (x ∷ y ∷ ys) = x ++ codes ", " ++ comma_list (y ∷ ys)
 
 -- the only one of some texts, or `one of` them
 abbrev pub one_of : List (List ℕ) → List ℕ
 one_of [] = []
 one_of (x ∷ []) = x
-one_of (x ∷ y ∷ ys) = codes "one of " ++ listed (x ∷ y ∷ ys)
+one_of (x ∷ y ∷ ys) = codes "one of " ++ comma_list (x ∷ y ∷ ys)
 
 -- ---- grammars
 
@@ -108,4 +108,4 @@ words_by (Some names) grammar = one_of names
 
 -- what a leaf of this kind has to be
 abbrev pub value_words : LeafKind → List ℕ
-value_words kind = words_by (codes_of kind) (grammar_of kind)
+value_words kind = words_by (leaf_codes kind) (grammar_of kind)

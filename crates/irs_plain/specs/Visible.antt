@@ -1,16 +1,16 @@
 -- A name from a document as a sentence shows it: one line of visible ASCII.
-use Rattle.irs_plain.specs.Shown.{two_digits}
+use Rattle.irs_plain.specs.Shown.{two_hex_digits}
 use Rattle.std.specs.List.{flat_map}
 use Rattle.std.specs.Prelude.{ℕ, ◌≤◌, ◌==◌, ◌&&◌, Bool, nat_lt, nat_le, not, List, [], ◌∷◌, ◌++◌, codes, length, take}
 use Rattle.std.specs.Prelude.{if◌then◌else◌}
 
 -- a byte that is shown as it is: a space to ~, but no backslash
-abbrev pub is_plain : ℕ → Bool
-is_plain b = nat_le 32 b && nat_le b 126 && not (b == 92)
+abbrev pub is_shown_as_it_is : ℕ → Bool
+is_shown_as_it_is b = nat_le 32 b && nat_le b 126 && not (b == 92)
 
 -- a byte as it is shown: itself, or \x and two digits in base 16
 abbrev pub shown_byte : ℕ → List ℕ
-shown_byte b = if is_plain b then b ∷ [] else codes "\\x" ++ two_digits b
+shown_byte b = if is_shown_as_it_is b then b ∷ [] else codes "\\x" ++ two_hex_digits b
 
 -- bytes as they are shown
 abbrev pub shown_bytes : List ℕ → List ℕ

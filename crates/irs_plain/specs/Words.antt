@@ -3,8 +3,8 @@ use Rattle.std.specs.Prelude.{ℕ, List, [], Option, Some, None, map, slice_get,
 use Rattle.std.specs.declared.alloc.Global.{Global}
 
 -- the texts of words
-abbrev pub texts : List (String Global) → List (List ℕ)
-texts words = map string_bytes words
+abbrev pub word_texts : List (String Global) → List (List ℕ)
+word_texts words = map string_bytes words
 
 -- a word that may be absent
 abbrev pub word_or_none : Option (List ℕ) → List ℕ

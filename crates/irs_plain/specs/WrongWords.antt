@@ -1,8 +1,8 @@
 -- What is said of words that are no listed command, as parts that are joined.
 use Rattle.irs_base.specs.Limits.{most_files}
-use Rattle.irs_plain.specs.Cuts.{behind, front}
+use Rattle.irs_plain.specs.Cuts.{after_byte, front}
 use Rattle.irs_plain.specs.Slips.{is_slip}
-use Rattle.irs_plain.specs.Usage.{commands, line_of, parameters, usage_of}
+use Rattle.irs_plain.specs.Usage.{commands, usage_line, parameter_lines, usage_of}
 use Rattle.irs_plain.specs.Words.{command, word_at}
 use Rattle.std.specs.Prelude.{ℕ, ◌+◌, ◌-◌, ◌==◌, ◌||◌, Bool, false, not, nat_eq, nat_lt, length, List, [], ◌∷◌, codes, if◌then◌else◌}
 use Rattle.std.specs.List.{ends_with}
@@ -17,9 +17,9 @@ field_at (b ∷ bs) place =
     if place == 0 then front 32 (b ∷ bs) else (if b == 32 then field_at bs (place - 1) else field_at bs place)
 
 -- how many fields a line has
-abbrev pub fields : List ℕ → ℕ
-fields [] = 1
-fields (b ∷ bs) = if b == 32 then fields bs + 1 else fields bs
+abbrev pub field_count : List ℕ → ℕ
+field_count [] = 1
+field_count (b ∷ bs) = if b == 32 then field_count bs + 1 else field_count bs
 
 -- the command takes calendars after its other words
 abbrev pub takes_calendars : List ℕ → Bool
@@ -27,7 +27,7 @@ takes_calendars usage = ends_with nat_eq usage (codes " CAL..")
 
 -- the most words that the command takes, its name among them
 abbrev pub most_words : List ℕ → ℕ
-most_words usage = if takes_calendars usage then fields usage - 1 + most_files else fields usage
+most_words usage = if takes_calendars usage then field_count usage - 1 + most_files else field_count usage
 
 -- ---- words for help other than `--help` alone
 
@@ -65,7 +65,7 @@ is_lacking (b ∷ bs) = not (bytes_eq (b ∷ bs) (codes "CAL.."))
 
 -- what a parameter has to be, by its name
 abbrev pub needs_of : List ℕ → List ℕ
-needs_of name = behind 32 (line_of parameters name)
+needs_of name = after_byte 32 (usage_line parameter_lines name)
 
 -- what is said where the word of this parameter is lacking
 abbrev pub lacking : List ℕ → List ℕ → List (List ℕ)

@@ -1,8 +1,9 @@
 //! The centres that the calendar files have, as a sentence lists them after a centre that is in none.
 ghost use Rattle.irs_base.specs.Members.{Every};
 ghost use Rattle.irs_outside.specs.Outside.{Grew, GrewByFront, Rose};
-ghost use Rattle.irs_plain.specs.Centers.{centers_text, count_text, listed_text, more_text, name_after, names_text};
-ghost use Rattle.irs_plain.specs.Centers.{other_name, other_names};
+ghost use Rattle.irs_plain.specs.Centers.{centers_text, count_text, listed_centers_text, more_text, name_after};
+ghost use Rattle.irs_plain.specs.Centers.{names_text};
+ghost use Rattle.irs_plain.specs.Centers.{other_name, names_after_first};
 ghost use Rattle.irs_plain.specs.Private.Parts.{said_by};
 ghost use Rattle.irs_plain.specs.Visible.{IsVisible};
 ghost use Rattle.std.specs.Prelude.{◌≡◌, ℕ, ◌<◌, ◌^◌, List, ◌∷◌, ◌++◌, OnOk, OnErr};
@@ -33,9 +34,9 @@ pub(crate) fn put_centers<S: Sink>(out: &mut S, list: &Option<Listed>) -> Result
 
 // Writes a list.
 fn put_listed<S: Sink>(out: &mut S, list: &Listed) -> Result<(), PutFailed>
-    ensures ok { OnOk result (Grew (S.written out.old) (S.written out.new) (listed_text list.now)) }
+    ensures ok { OnOk result (Grew (S.written out.old) (S.written out.new) (listed_centers_text list.now)) }
     ensures quiet { OnOk result (S.faults out.new ≡ S.faults out.old) }
-    ensures err { OnErr result (GrewByFront (S.written out.old) (S.written out.new) (listed_text list.now)) }
+    ensures err { OnErr result (GrewByFront (S.written out.old) (S.written out.new) (listed_centers_text list.now)) }
     ensures rose { OnErr result (Rose (S.faults out.old) (S.faults out.new)) }
 {
     match list {
@@ -76,10 +77,10 @@ fn put_from<S: Sink>(
 
 // Writes the other names, and how many more there are.
 fn put_rest<S: Sink>(out: &mut S, others: &[Text], more: usize) -> Result<(), PutFailed>
-    ensures ok { OnOk result (Grew (S.written out.old) (S.written out.new) (other_names others.now ++ more_text more)) }
+    ensures ok { OnOk result (Grew (S.written out.old) (S.written out.new) (names_after_first others.now ++ more_text more)) }
     ensures quiet { OnOk result (S.faults out.new ≡ S.faults out.old) }
     ensures err { OnErr result
-        (GrewByFront (S.written out.old) (S.written out.new) (other_names others.now ++ more_text more)) }
+        (GrewByFront (S.written out.old) (S.written out.new) (names_after_first others.now ++ more_text more)) }
     ensures rose { OnErr result (Rose (S.faults out.old) (S.faults out.new)) }
 {
     put_others(out, others)?;
@@ -88,9 +89,9 @@ fn put_rest<S: Sink>(out: &mut S, others: &[Text], more: usize) -> Result<(), Pu
 
 // Writes the names after the first.
 fn put_others<S: Sink>(out: &mut S, names: &[Text]) -> Result<(), PutFailed>
-    ensures ok { OnOk result (Grew (S.written out.old) (S.written out.new) (other_names names.now)) }
+    ensures ok { OnOk result (Grew (S.written out.old) (S.written out.new) (names_after_first names.now)) }
     ensures quiet { OnOk result (S.faults out.new ≡ S.faults out.old) }
-    ensures err { OnErr result (GrewByFront (S.written out.old) (S.written out.new) (other_names names.now)) }
+    ensures err { OnErr result (GrewByFront (S.written out.old) (S.written out.new) (names_after_first names.now)) }
     ensures rose { OnErr result (Rose (S.faults out.old) (S.faults out.new)) }
 {
     for name in names {

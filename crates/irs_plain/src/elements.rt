@@ -5,7 +5,7 @@
 //! alone.
 ghost use Rattle.irs_plain.specs.Elements.{ends_in_s as ends_in_s_of, holder as holder_of};
 ghost use Rattle.irs_plain.specs.Elements.{holder_from as holder_from_of, is_adjustments as is_adjustments_of};
-ghost use Rattle.irs_plain.specs.Elements.{last_name as last_name_of, name_words as name_words_of};
+ghost use Rattle.irs_plain.specs.Elements.{last_name_after as last_name_of, name_words as name_words_of};
 ghost use Rattle.irs_plain.specs.Elements.{next_holder as next_holder_of, possessive as possessive_of};
 ghost use Rattle.std.specs.Prelude.{◌≡◌};
 

@@ -2,12 +2,13 @@
 //! first of them lacks. Or it is where in its text a document breaks a rule, or how a text begins that isn't JSON.
 ghost use Rattle.irs_base.specs.Texts.{day_text};
 ghost use Rattle.irs_outside.specs.Outside.{Grew, GrewByFront, Rose};
-ghost use Rattle.irs_plain.specs.Notes.{added as added_of, alone as alone_of, center_words as center_words_of};
+ghost use Rattle.irs_plain.specs.Notes.{added as added_of, note_alone as alone_of, center_words as center_words_of};
 ghost use Rattle.irs_plain.specs.Notes.{day_intro as day_intro_of};
 ghost use Rattle.irs_plain.specs.Notes.{front_texts, front_words as front_words_of, is_fixed as is_fixed_of};
 ghost use Rattle.irs_plain.specs.Notes.{is_done as is_done_of, is_silent_reply as is_silent_reply_of};
 ghost use Rattle.irs_plain.specs.Notes.{line_number as line_number_of, line_words as line_words_of};
-ghost use Rattle.irs_plain.specs.Notes.{member_words as member_words_of, name_in as name_in_of, note_of, noted};
+ghost use Rattle.irs_base.specs.Elements.{name_or_empty as name_in_of};
+ghost use Rattle.irs_plain.specs.Notes.{member_words as member_words_of, note_of, noted};
 ghost use Rattle.irs_plain.specs.Notes.{roll_code as roll_code_of, roll_in as roll_in_of, roll_intro as roll_intro_of};
 ghost use Rattle.irs_plain.specs.Notes.{shape_of as shape_of_value, shape_words as shape_words_of, spot_added};
 ghost use Rattle.irs_plain.specs.Notes.{spot_on, spot_texts, tenor_count as tenor_count_of, tenor_gap as tenor_gap_of};
@@ -15,7 +16,7 @@ ghost use Rattle.irs_plain.specs.Notes.{tenor_letter as tenor_letter_of, text_wo
 ghost use Rattle.irs_plain.specs.Notes.{unfixed_on, unfixed_texts, unit_letter as unit_letter_of};
 ghost use Rattle.irs_plain.specs.Notes.{value_in as value_in_of, value_intro as value_intro_of};
 ghost use Rattle.irs_plain.specs.Notes.{weekday_name as weekday_name_of};
-ghost use Rattle.irs_plain.specs.Parts.{joined};
+ghost use Rattle.irs_plain.specs.Parts.{joined_texts};
 ghost use Rattle.irs_plain.specs.Private.Parts.{part_text, said_by};
 ghost use Rattle.std.specs.Prelude.{◌≡◌, ◌∷◌, OnOk, OnErr};
 
@@ -77,7 +78,7 @@ fn tenor_letter<'a>(tenor: Option<Frequency>) -> &'a [u8]
 // How many payments have no amount, and the fixing that the first of them lacks, on the day of this text; `joint`
 // comes before that.
 fn unfixed_parts<'a>(joint: &'a [u8], unfixed: &'a Unfixed, day: &'a [u8]) -> [Part<'a>; 17]
-    ensures { said_by result ≡ joined (joint.now ∷ unfixed_on unfixed.now day.now) }
+    ensures { said_by result ≡ joined_texts (joint.now ∷ unfixed_on unfixed.now day.now) }
 {
     let index = unfixed.index.as_slice();
     let tenor = unfixed.tenor;
@@ -105,10 +106,10 @@ fn unfixed_parts<'a>(joint: &'a [u8], unfixed: &'a Unfixed, day: &'a [u8]) -> [P
 // Writes that, after `joint`.
 fn put_unfixed<S: Sink>(out: &mut S, joint: &[u8], unfixed: &Unfixed) -> Result<(), PutFailed>
     ensures ok { OnOk result
-        (Grew (S.written out.old) (S.written out.new) (joined (joint.now ∷ unfixed_texts unfixed.now))) }
+        (Grew (S.written out.old) (S.written out.new) (joined_texts (joint.now ∷ unfixed_texts unfixed.now))) }
     ensures quiet { OnOk result (S.faults out.new ≡ S.faults out.old) }
     ensures err { OnErr result
-        (GrewByFront (S.written out.old) (S.written out.new) (joined (joint.now ∷ unfixed_texts unfixed.now))) }
+        (GrewByFront (S.written out.old) (S.written out.new) (joined_texts (joint.now ∷ unfixed_texts unfixed.now))) }
     ensures rose { OnErr result (Rose (S.faults out.old) (S.faults out.new)) }
 {
     let day = day_digits(unfixed.day);
@@ -290,7 +291,7 @@ fn line_number<'a>(line: Option<u32>) -> Part<'a>
 // The parts of a spot: the member, the kind of the value, the text and what it has to be. Then come the centre,
 // the roll with the day of this text, and the line.
 fn spot_parts<'a>(spot: &'a Spot, day: &'a [u8]) -> [Part<'a>; 18]
-    ensures { said_by result ≡ joined (spot_on spot.now day.now) }
+    ensures { said_by result ≡ joined_texts (spot_on spot.now day.now) }
 {
     let member = name_in(&spot.member);
     let text = name_in(&spot.text);
@@ -319,9 +320,9 @@ fn spot_parts<'a>(spot: &'a Spot, day: &'a [u8]) -> [Part<'a>; 18]
 
 // Writes that, and then the centres that the calendar files have.
 fn put_spot<S: Sink>(out: &mut S, spot: &Spot) -> Result<(), PutFailed>
-    ensures ok { OnOk result (Grew (S.written out.old) (S.written out.new) (joined (spot_added spot.now))) }
+    ensures ok { OnOk result (Grew (S.written out.old) (S.written out.new) (joined_texts (spot_added spot.now))) }
     ensures quiet { OnOk result (S.faults out.new ≡ S.faults out.old) }
-    ensures err { OnErr result (GrewByFront (S.written out.old) (S.written out.new) (joined (spot_added spot.now))) }
+    ensures err { OnErr result (GrewByFront (S.written out.old) (S.written out.new) (joined_texts (spot_added spot.now))) }
     ensures rose { OnErr result (Rose (S.faults out.old) (S.faults out.new)) }
 {
     put_where(out, spot)?;
@@ -330,9 +331,9 @@ fn put_spot<S: Sink>(out: &mut S, spot: &Spot) -> Result<(), PutFailed>
 
 // Writes the former.
 fn put_where<S: Sink>(out: &mut S, spot: &Spot) -> Result<(), PutFailed>
-    ensures ok { OnOk result (Grew (S.written out.old) (S.written out.new) (joined (spot_texts spot.now))) }
+    ensures ok { OnOk result (Grew (S.written out.old) (S.written out.new) (joined_texts (spot_texts spot.now))) }
     ensures quiet { OnOk result (S.faults out.new ≡ S.faults out.old) }
-    ensures err { OnErr result (GrewByFront (S.written out.old) (S.written out.new) (joined (spot_texts spot.now))) }
+    ensures err { OnErr result (GrewByFront (S.written out.old) (S.written out.new) (joined_texts (spot_texts spot.now))) }
     ensures rose { OnErr result (Rose (S.faults out.old) (S.faults out.new)) }
 {
     match spot.misfit {
@@ -344,10 +345,10 @@ fn put_where<S: Sink>(out: &mut S, spot: &Spot) -> Result<(), PutFailed>
 // The same with a day.
 fn put_dated<S: Sink>(out: &mut S, spot: &Spot, day: Day) -> Result<(), PutFailed>
     ensures ok { OnOk result
-        (Grew (S.written out.old) (S.written out.new) (joined (spot_on spot.now (day_text day)))) }
+        (Grew (S.written out.old) (S.written out.new) (joined_texts (spot_on spot.now (day_text day)))) }
     ensures quiet { OnOk result (S.faults out.new ≡ S.faults out.old) }
     ensures err { OnErr result
-        (GrewByFront (S.written out.old) (S.written out.new) (joined (spot_on spot.now (day_text day)))) }
+        (GrewByFront (S.written out.old) (S.written out.new) (joined_texts (spot_on spot.now (day_text day)))) }
     ensures rose { OnErr result (Rose (S.faults out.old) (S.faults out.new)) }
 {
     let day = day_digits(day);
@@ -368,16 +369,16 @@ fn front_words<'a>(front: Front) -> &'a [u8]
 
 // The same as parts.
 fn front_parts<'a>(front: Front) -> [Part<'a>; 1]
-    ensures { said_by result ≡ joined (front_texts front) }
+    ensures { said_by result ≡ joined_texts (front_texts front) }
 {
     [Part::Text(front_words(front))]
 }
 
 // Writes that.
 fn put_front<S: Sink>(out: &mut S, front: Front) -> Result<(), PutFailed>
-    ensures ok { OnOk result (Grew (S.written out.old) (S.written out.new) (joined (front_texts front))) }
+    ensures ok { OnOk result (Grew (S.written out.old) (S.written out.new) (joined_texts (front_texts front))) }
     ensures quiet { OnOk result (S.faults out.new ≡ S.faults out.old) }
-    ensures err { OnErr result (GrewByFront (S.written out.old) (S.written out.new) (joined (front_texts front))) }
+    ensures err { OnErr result (GrewByFront (S.written out.old) (S.written out.new) (joined_texts (front_texts front))) }
     ensures rose { OnErr result (Rose (S.faults out.old) (S.faults out.new)) }
 {
     put_parts(out, &front_parts(front))
@@ -419,9 +420,9 @@ fn is_fixed(note: &Note) -> bool
 
 /// Writes what is said after the sentence on what a run comes to.
 pub(crate) fn put_note<S: Sink>(out: &mut S, cause: &RunCause) -> Result<(), PutFailed>
-    ensures ok { OnOk result (Grew (S.written out.old) (S.written out.new) (joined (note_of cause.now))) }
+    ensures ok { OnOk result (Grew (S.written out.old) (S.written out.new) (joined_texts (note_of cause.now))) }
     ensures quiet { OnOk result (S.faults out.new ≡ S.faults out.old) }
-    ensures err { OnErr result (GrewByFront (S.written out.old) (S.written out.new) (joined (note_of cause.now))) }
+    ensures err { OnErr result (GrewByFront (S.written out.old) (S.written out.new) (joined_texts (note_of cause.now))) }
     ensures rose { OnErr result (Rose (S.faults out.old) (S.faults out.new)) }
 {
     match cause {
@@ -437,9 +438,9 @@ pub(crate) fn put_note<S: Sink>(out: &mut S, cause: &RunCause) -> Result<(), Put
 
 // Writes what a note says after a reply.
 fn put_noted<S: Sink>(out: &mut S, cause: Cause, note: &Note) -> Result<(), PutFailed>
-    ensures ok { OnOk result (Grew (S.written out.old) (S.written out.new) (joined (noted cause note.now))) }
+    ensures ok { OnOk result (Grew (S.written out.old) (S.written out.new) (joined_texts (noted cause note.now))) }
     ensures quiet { OnOk result (S.faults out.new ≡ S.faults out.old) }
-    ensures err { OnErr result (GrewByFront (S.written out.old) (S.written out.new) (joined (noted cause note.now))) }
+    ensures err { OnErr result (GrewByFront (S.written out.old) (S.written out.new) (joined_texts (noted cause note.now))) }
     ensures rose { OnErr result (Rose (S.faults out.old) (S.faults out.new)) }
 {
     if is_done(cause) {
@@ -451,9 +452,9 @@ fn put_noted<S: Sink>(out: &mut S, cause: Cause, note: &Note) -> Result<(), PutF
 
 // Writes what a note adds to a sentence.
 fn put_added<S: Sink>(out: &mut S, note: &Note) -> Result<(), PutFailed>
-    ensures ok { OnOk result (Grew (S.written out.old) (S.written out.new) (joined (added_of note.now))) }
+    ensures ok { OnOk result (Grew (S.written out.old) (S.written out.new) (joined_texts (added_of note.now))) }
     ensures quiet { OnOk result (S.faults out.new ≡ S.faults out.old) }
-    ensures err { OnErr result (GrewByFront (S.written out.old) (S.written out.new) (joined (added_of note.now))) }
+    ensures err { OnErr result (GrewByFront (S.written out.old) (S.written out.new) (joined_texts (added_of note.now))) }
     ensures rose { OnErr result (Rose (S.faults out.old) (S.faults out.new)) }
 {
     match note {
@@ -466,9 +467,9 @@ fn put_added<S: Sink>(out: &mut S, note: &Note) -> Result<(), PutFailed>
 
 // Writes what a note says where there is no sentence before it.
 fn put_alone<S: Sink>(out: &mut S, note: &Note) -> Result<(), PutFailed>
-    ensures ok { OnOk result (Grew (S.written out.old) (S.written out.new) (joined (alone_of note.now))) }
+    ensures ok { OnOk result (Grew (S.written out.old) (S.written out.new) (joined_texts (alone_of note.now))) }
     ensures quiet { OnOk result (S.faults out.new ≡ S.faults out.old) }
-    ensures err { OnErr result (GrewByFront (S.written out.old) (S.written out.new) (joined (alone_of note.now))) }
+    ensures err { OnErr result (GrewByFront (S.written out.old) (S.written out.new) (joined_texts (alone_of note.now))) }
     ensures rose { OnErr result (Rose (S.faults out.old) (S.faults out.new)) }
 {
     match note {

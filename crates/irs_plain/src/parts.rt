@@ -1,7 +1,7 @@
 //! A sentence as parts that are written one after the other: texts, numbers in decimal digits, and names from a
 //! document as they are shown. No memory is taken.
 ghost use Rattle.irs_outside.specs.Outside.{Grew, GrewByFront, Rose};
-ghost use Rattle.irs_plain.specs.Parts.{joined};
+ghost use Rattle.irs_plain.specs.Parts.{joined_texts};
 ghost use Rattle.irs_plain.specs.Private.Parts.{most_parts, part_text, said, said_by};
 ghost use Rattle.std.specs.Prelude.{◌≡◌, ◌≤◌, [], ◌∷◌, length, decimal, OnOk, OnErr};
 
@@ -43,14 +43,14 @@ pub(crate) fn of_parts<'a>(first: &[Part<'a>]) -> Sentence<'a>
 
 /// A sentence of three texts.
 pub(crate) fn short<'a>(first: &'a [u8], second: &'a [u8], third: &'a [u8]) -> Sentence<'a>
-    ensures { said result ≡ joined (first.now ∷ second.now ∷ third.now ∷ []) }
+    ensures { said result ≡ joined_texts (first.now ∷ second.now ∷ third.now ∷ []) }
 {
     of_three(Part::Text(first), Part::Text(second), Part::Text(third))
 }
 
 /// A sentence of three parts.
 pub(crate) fn of_three<'a>(first: Part<'a>, second: Part<'a>, third: Part<'a>) -> Sentence<'a>
-    ensures { said result ≡ joined (part_text first.entry ∷ part_text second.entry ∷ part_text third.entry ∷ []) }
+    ensures { said result ≡ joined_texts (part_text first.entry ∷ part_text second.entry ∷ part_text third.entry ∷ []) }
 {
     of_parts(&[first, second, third])
 }
@@ -63,7 +63,7 @@ pub(crate) fn of_five<'a>(
     fourth: &'a [u8],
     fifth: &'a [u8],
 ) -> Sentence<'a>
-    ensures { said result ≡ joined (first.now ∷ second.now ∷ third.now ∷ fourth.now ∷ fifth.now ∷ []) }
+    ensures { said result ≡ joined_texts (first.now ∷ second.now ∷ third.now ∷ fourth.now ∷ fifth.now ∷ []) }
 {
     of_parts(&[
         Part::Text(first),

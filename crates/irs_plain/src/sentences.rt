@@ -3,26 +3,28 @@ ghost use Rattle.irs_outside.specs.Outside.{Grew, GrewByFront, Rose};
 ghost use Rattle.irs_audit.specs.RowNames.{field_name, row_name};
 ghost use Rattle.irs_base.specs.Paths.{path_of};
 ghost use Rattle.irs_cli.specs.declared.causes.RunCause.{RunCause as RunCauseSpec};
-ghost use Rattle.irs_plain.specs.Parts.{joined};
+ghost use Rattle.irs_plain.specs.Parts.{joined_texts};
 ghost use Rattle.irs_plain.specs.Private.Parts.{part_text, said};
 ghost use Rattle.irs_plain.specs.Sentences.{about as about_of, after_in as after_in_of};
-ghost use Rattle.irs_plain.specs.Sentences.{bad_calendar as bad_calendar_of, bad_calendars as bad_calendars_of};
-ghost use Rattle.irs_plain.specs.Sentences.{bad_fixing as bad_fixing_of, bad_fixings as bad_fixings_of};
-ghost use Rattle.irs_plain.specs.Sentences.{bad_flows as bad_flows_of, bad_shape as bad_shape_of, some_break as some_break_of};
+ghost use Rattle.irs_plain.specs.Sentences.{calendar_sentence as bad_calendar_of, bad_calendars as bad_calendars_of};
+ghost use Rattle.irs_plain.specs.Sentences.{bad_fixing as bad_fixing_of, fixings_sentence as bad_fixings_of};
+ghost use Rattle.irs_plain.specs.Sentences.{flows_sentence as bad_flows_of, bad_shape as bad_shape_of};
+ghost use Rattle.irs_plain.specs.Sentences.{some_break as some_break_of};
 ghost use Rattle.irs_plain.specs.Sentences.{column_stopped as column_stopped_of};
 ghost use Rattle.irs_plain.specs.Sentences.{departs as departs_of, ending as ending_of, help_hint as help_hint_of};
 ghost use Rattle.irs_plain.specs.Sentences.{is_of_field as is_of_field_of, is_silent as is_silent_of, is_unread as is_unread_of};
 ghost use Rattle.irs_plain.specs.Sentences.{line_stopped as line_stopped_of, no_document as no_document_of};
 ghost use Rattle.irs_plain.specs.Sentences.{no_flows as no_flows_of, unread_as as unread_as_of};
-ghost use Rattle.irs_plain.specs.Sentences.{no_memory as no_memory_of, no_text as no_text_of, of_field as of_field_of};
+ghost use Rattle.irs_plain.specs.Sentences.{no_memory as no_memory_of, no_text_sentence as no_text_of};
+ghost use Rattle.irs_plain.specs.Sentences.{of_field as of_field_of};
 ghost use Rattle.irs_plain.specs.Sentences.{index_told as index_told_of, not_agreed as not_agreed_of};
 ghost use Rattle.irs_plain.specs.Sentences.{number_unless_stream as number_unless_stream_of};
-ghost use Rattle.irs_plain.specs.Sentences.{number_unless_zero as number_unless_zero_of, refused as refused_of};
+ghost use Rattle.irs_plain.specs.Sentences.{number_unless_zero as number_unless_zero_of, rule_sentence as refused_of};
 ghost use Rattle.irs_plain.specs.Sentences.{refused_by as refused_by_of, replied as replied_of, sentence_of};
-ghost use Rattle.irs_plain.specs.Sentences.{stream_words as stream_words_of, told, uncompared as uncompared_of};
+ghost use Rattle.irs_plain.specs.Sentences.{stream_words as stream_words_of, told_texts, uncompared as uncompared_of};
 ghost use Rattle.irs_plain.specs.Sentences.{unless_stream as unless_stream_of, unless_zero as unless_zero_of};
-ghost use Rattle.irs_plain.specs.Sentences.{unreadable as unreadable_of, verb as verb_of};
-ghost use Rattle.irs_plain.specs.Words.{texts};
+ghost use Rattle.irs_plain.specs.Sentences.{unreadable_sentence as unreadable_of, verb as verb_of};
+ghost use Rattle.irs_plain.specs.Words.{word_texts};
 ghost use Rattle.std.specs.Prelude.{◌≡◌, ℕ, List, [], true, OnOk, OnErr};
 
 use crate::cuts::is;
@@ -111,7 +113,7 @@ fn about<'a>(
     index: u32,
 ) -> Sentence<'a>
     ensures { said result
-        ≡ joined (about_of opening.entry.first.now (part_text opening.entry.second) opening.entry.third.now
+        ≡ joined_texts (about_of opening.entry.first.now (part_text opening.entry.second) opening.entry.third.now
         opening.entry.file.now row stream path.now index) }
 {
     Sentence {
@@ -135,7 +137,7 @@ fn about<'a>(
 
 // A rule is broken.
 fn refused(words: &[String], broken: Broken) -> Sentence<'_>
-    ensures { said result ≡ joined (refused_of (texts words.now) broken) }
+    ensures { said result ≡ joined_texts (refused_of (word_texts words.now) broken) }
 {
     let rule = broken.rule;
     let place = broken.place;
@@ -182,7 +184,7 @@ fn column_stopped<'a>(unread: Unread) -> Part<'a>
 // reading stopped.
 fn unread_as<'a>(opening: Opening<'a>, row: usize, unread: Unread) -> Sentence<'a>
     ensures { said result
-        ≡ joined (unread_as_of opening.entry.first.now (part_text opening.entry.second) opening.entry.third.now
+        ≡ joined_texts (unread_as_of opening.entry.first.now (part_text opening.entry.second) opening.entry.third.now
         opening.entry.file.now row unread) }
 {
     of_parts(&[
@@ -202,7 +204,7 @@ fn unread_as<'a>(opening: Opening<'a>, row: usize, unread: Unread) -> Sentence<'
 
 // The document has no reading.
 fn no_document(words: &[String], unread: Unread) -> Sentence<'_>
-    ensures { said result ≡ joined (no_document_of (texts words.now) unread) }
+    ensures { said result ≡ joined_texts (no_document_of (word_texts words.now) unread) }
 {
     let opening = Opening {
         first: b"K",
@@ -215,7 +217,7 @@ fn no_document(words: &[String], unread: Unread) -> Sentence<'_>
 
 // The cash flows have no reading.
 fn no_flows(words: &[String], unread: Unread) -> Sentence<'_>
-    ensures { said result ≡ joined (no_flows_of (texts words.now) unread) }
+    ensures { said result ≡ joined_texts (no_flows_of (word_texts words.now) unread) }
 {
     let name = file_name(words, Role::Flows, 0);
     let opening = Opening {
@@ -231,7 +233,7 @@ fn no_flows(words: &[String], unread: Unread) -> Sentence<'_>
 
 // A line of the calendar file with that number is at fault.
 fn bad_calendar<'a>(words: &'a [String], file: u32, line: u32, fault: &'a [u8]) -> Sentence<'a>
-    ensures { said result ≡ joined (bad_calendar_of (texts words.now) file line fault.now) }
+    ensures { said result ≡ joined_texts (bad_calendar_of (word_texts words.now) file line fault.now) }
 {
     of_parts(&[
         Part::Text(b"calendar file "),
@@ -247,7 +249,7 @@ fn bad_calendar<'a>(words: &'a [String], file: u32, line: u32, fault: &'a [u8]) 
 
 // A calendar file is at fault.
 fn bad_calendars(words: &[String], e: CalErr) -> Sentence<'_>
-    ensures { said result ≡ joined (bad_calendars_of (texts words.now) e) }
+    ensures { said result ≡ joined_texts (bad_calendars_of (word_texts words.now) e) }
 {
     match e {
         CalErr::Syntax(file, line) => {
@@ -265,7 +267,7 @@ fn bad_calendars(words: &[String], e: CalErr) -> Sentence<'_>
 
 // A line of the fixing file is at fault.
 fn bad_fixing<'a>(words: &'a [String], line: u32, fault: &'a [u8]) -> Sentence<'a>
-    ensures { said result ≡ joined (bad_fixing_of (texts words.now) line fault.now) }
+    ensures { said result ≡ joined_texts (bad_fixing_of (word_texts words.now) line fault.now) }
 {
     of_parts(&[
         Part::Text(b"fixing file ("),
@@ -279,7 +281,7 @@ fn bad_fixing<'a>(words: &'a [String], line: u32, fault: &'a [u8]) -> Sentence<'
 
 // The fixing file is at fault.
 fn bad_fixings(words: &[String], e: FixErr) -> Sentence<'_>
-    ensures { said result ≡ joined (bad_fixings_of (texts words.now) e) }
+    ensures { said result ≡ joined_texts (bad_fixings_of (word_texts words.now) e) }
 {
     match e {
         FixErr::Syntax(line) => {
@@ -294,7 +296,7 @@ fn bad_fixings(words: &[String], e: FixErr) -> Sentence<'_>
 
 // The cash flows are out of shape.
 fn bad_shape(words: &[String], kind: ShapeKind, place: Place) -> Sentence<'_>
-    ensures { said result ≡ joined (bad_shape_of (texts words.now) kind place) }
+    ensures { said result ≡ joined_texts (bad_shape_of (word_texts words.now) kind place) }
 {
     let elem = place.elem;
     let name = file_name(words, Role::Flows, 0);
@@ -316,7 +318,7 @@ fn bad_shape(words: &[String], kind: ShapeKind, place: Place) -> Sentence<'_>
 
 // The cash flows are at fault.
 fn bad_flows(words: &[String], e: FlowErr) -> Sentence<'_>
-    ensures { said result ≡ joined (bad_flows_of (texts words.now) e) }
+    ensures { said result ≡ joined_texts (bad_flows_of (word_texts words.now) e) }
 {
     match e {
         FlowErr::Shape(kind, place) => bad_shape(words, kind, place),
@@ -326,7 +328,7 @@ fn bad_flows(words: &[String], e: FlowErr) -> Sentence<'_>
 
 // A task isn't carried out.
 fn refused_by(words: &[String], refusal: Refusal) -> Sentence<'_>
-    ensures { said result ≡ joined (refused_by_of (texts words.now) refusal) }
+    ensures { said result ≡ joined_texts (refused_by_of (word_texts words.now) refusal) }
 {
     match refusal {
         Refusal::Unreadable(unread) => no_document(words, unread),
@@ -416,7 +418,7 @@ fn departs<'a>(
     row: u32,
     field: &'a [u8],
 ) -> Sentence<'a>
-    ensures { said result ≡ joined (departs_of (texts words.now) stream kind.now row field.now) }
+    ensures { said result ≡ joined_texts (departs_of (word_texts words.now) stream kind.now row field.now) }
 {
     of_parts(&[
         Part::Text(b"the cash flows ("),
@@ -449,7 +451,7 @@ fn field_in<'a>(found: Departure) -> &'a [u8]
 
 // What an audit found.
 fn not_agreed(words: &[String], found: Departure) -> Sentence<'_>
-    ensures { said result ≡ joined (not_agreed_of (texts words.now) found) }
+    ensures { said result ≡ joined_texts (not_agreed_of (word_texts words.now) found) }
 {
     let stream = u32::from(found.stream);
     let (kind, field) = (kind_in(found), field_in(found));
@@ -458,7 +460,7 @@ fn not_agreed(words: &[String], found: Departure) -> Sentence<'_>
 
 // The list of `breaks` has some.
 fn some_break(words: &[String]) -> Sentence<'_>
-    ensures { said result ≡ joined (some_break_of (texts words.now)) }
+    ensures { said result ≡ joined_texts (some_break_of (word_texts words.now)) }
 {
     short(
         b"the cash flows (",
@@ -471,7 +473,7 @@ fn some_break(words: &[String]) -> Sentence<'_>
 
 // How many amounts weren't compared, as they lack a fixing.
 fn uncompared(words: &[String], unfixed: u32) -> Sentence<'_>
-    ensures { said result ≡ joined (uncompared_of (texts words.now) unfixed) }
+    ensures { said result ≡ joined_texts (uncompared_of (word_texts words.now) unfixed) }
 {
     of_parts(&[
         Part::Text(b"the cash flows ("),
@@ -483,7 +485,7 @@ fn uncompared(words: &[String], unfixed: u32) -> Sentence<'_>
 
 // What a reply says.
 fn replied(words: &[String], cause: Cause) -> Sentence<'_>
-    ensures { said result ≡ joined (replied_of (texts words.now) cause) }
+    ensures { said result ≡ joined_texts (replied_of (word_texts words.now) cause) }
 {
     match cause {
         Cause::Done => short(b"", b"", b""),
@@ -509,21 +511,21 @@ fn help_hint<'a>(name: &[u8]) -> &'a [u8]
 
 // The file of this name couldn't be read.
 fn unreadable(name: &[u8]) -> Sentence<'_>
-    ensures { said result ≡ joined (unreadable_of name.now) }
+    ensures { said result ≡ joined_texts (unreadable_of name.now) }
 {
     short(b"couldn't be read: ", name, help_hint(name))
 }
 
 // Memory ran out.
 fn no_memory<'a>() -> Sentence<'a>
-    ensures { said result ≡ joined no_memory_of }
+    ensures { said result ≡ joined_texts no_memory_of }
 {
     short(b"there wasn't enough memory", b"", b"")
 }
 
 // Which word isn't text, where its place is known.
 fn no_text<'a>(place: Option<u32>) -> Sentence<'a>
-    ensures { said result ≡ joined (no_text_of place) }
+    ensures { said result ≡ joined_texts (no_text_of place) }
 {
     match place {
         None => short(b"a word of the command line isn't text", b"", b""),
@@ -539,7 +541,7 @@ fn no_text<'a>(place: Option<u32>) -> Sentence<'a>
 
 // The parts of the sentence without its note; they are empty where there is nothing to say but a note.
 fn say<'a>(words: &'a [String], cause: &RunCause) -> Sentence<'a>
-    ensures { said result ≡ joined (told (texts words.now) cause.now) }
+    ensures { said result ≡ joined_texts (told_texts (word_texts words.now) cause.now) }
 {
     match cause {
         RunCause::Replied(cause, _) => replied(words, *cause),
@@ -580,10 +582,10 @@ pub fn put_sentence<S: Sink>(
     words: &[String],
     cause: &RunCause,
 ) -> Result<(), PutFailed>
-    ensures ok { OnOk result (Grew (S.written out.old) (S.written out.new) (sentence_of (texts words.now) cause.now)) }
+    ensures ok { OnOk result (Grew (S.written out.old) (S.written out.new) (sentence_of (word_texts words.now) cause.now)) }
     ensures quiet { OnOk result (S.faults out.new ≡ S.faults out.old) }
     ensures err { OnErr result
-        (GrewByFront (S.written out.old) (S.written out.new) (sentence_of (texts words.now) cause.now)) }
+        (GrewByFront (S.written out.old) (S.written out.new) (sentence_of (word_texts words.now) cause.now)) }
     ensures rose { OnErr result (Rose (S.faults out.old) (S.faults out.new)) }
 {
     put_told(out, words, cause)?;
@@ -599,10 +601,10 @@ pub fn silence_is_empty()
 // Writes the sentence without its note.
 fn put_told<S: Sink>(out: &mut S, words: &[String], cause: &RunCause) -> Result<(), PutFailed>
     ensures ok { OnOk result
-        (Grew (S.written out.old) (S.written out.new) (joined (told (texts words.now) cause.now))) }
+        (Grew (S.written out.old) (S.written out.new) (joined_texts (told_texts (word_texts words.now) cause.now))) }
     ensures quiet { OnOk result (S.faults out.new ≡ S.faults out.old) }
     ensures err { OnErr result
-        (GrewByFront (S.written out.old) (S.written out.new) (joined (told (texts words.now) cause.now))) }
+        (GrewByFront (S.written out.old) (S.written out.new) (joined_texts (told_texts (word_texts words.now) cause.now))) }
     ensures rose { OnErr result (Rose (S.faults out.old) (S.faults out.new)) }
 {
     let sentence = say(words, cause);

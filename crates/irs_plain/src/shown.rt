@@ -4,8 +4,8 @@
 ghost use Rattle.irs_base.specs.Members.{Every};
 ghost use Rattle.irs_plain.specs.Shown.{hex_digit as hex_digit_of, is_control as is_control_of, shown as shown_of};
 ghost use Rattle.irs_plain.specs.Shown.{IsPrinted, shown_char as shown_char_of, turns_text as turns_text_of};
-ghost use Rattle.irs_plain.specs.Shown.{two_digits};
-ghost use Rattle.irs_plain.specs.Words.{texts};
+ghost use Rattle.irs_plain.specs.Shown.{two_hex_digits};
+ghost use Rattle.irs_plain.specs.Words.{word_texts};
 ghost use Rattle.std.specs.Prelude.{◌≡◌, ℕ, ◌<◌, ◌++◌, List, map, IfOk, OnOk, string_bytes};
 
 use irs_base::Memory;
@@ -13,7 +13,7 @@ use std::alloc::Global;
 
 /// The words of a command line as a sentence shows them. `Memory` comes where memory ran out.
 pub fn shown_words(alloc: Global, words: &[String]) -> Result<Vec<String>, Memory>
-    ensures { IfOk result (λ v. texts v.items ≡ map shown_of (texts words.now)) }
+    ensures { IfOk result (λ v. word_texts v.items ≡ map shown_of (word_texts words.now)) }
 {
     let mut all = Vec::new(alloc);
     for word in words {
@@ -74,7 +74,7 @@ fn turns_text(c: u32) -> bool
 
 // Appends the two lowest digits of a number in base 16.
 fn push_two_digits(number: u32, text: &mut String) -> Result<(), Memory>
-    ensures { OnOk result (string_bytes text.new ≡ string_bytes text.old ++ two_digits number) }
+    ensures { OnOk result (string_bytes text.new ≡ string_bytes text.old ++ two_hex_digits number) }
 {
     text.push(char::from(hex_digit(number / 16 % 16)))?;
     Ok(text.push(char::from(hex_digit(number % 16)))?)

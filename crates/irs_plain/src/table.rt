@@ -5,7 +5,7 @@ ghost use Rattle.irs_audit.specs.declared.error.ShapeKind.{ShapeKind as ShapeSpe
 ghost use Rattle.irs_base.specs.Rules.{rule_number};
 ghost use Rattle.irs_base.specs.declared.places.Rule.{Rule as RuleSpec};
 ghost use Rattle.irs_plain.specs.Lookup.{row_of_rule, row_of_shape, text_at};
-ghost use Rattle.irs_plain.specs.Rules.{codes_of, texts_after, texts_before};
+ghost use Rattle.irs_plain.specs.Rules.{rule_codes, texts_after, texts_before};
 ghost use Rattle.std.specs.Prelude.{◌≡◌, ◌++◌, [], codes, decimal, map};
 
 /// What is said before the element.
@@ -116,6 +116,6 @@ pub const AFTER: [&str; 47] = [
 pub fn rules_listed()
     ensures before { map (λ n. n.now) BEFORE ≡ texts_before }
     ensures after { map (λ n. n.now) AFTER ≡ texts_after }
-    ensures rules { (r : RuleSpec) → text_at codes_of (row_of_rule r) [] ≡ codes "K" ++ decimal (rule_number r) }
-    ensures shapes { (k : ShapeSpec) → text_at codes_of (row_of_shape k) [] ≡ shape_name k }
+    ensures rules { (r : RuleSpec) → text_at rule_codes (row_of_rule r) [] ≡ codes "K" ++ decimal (rule_number r) }
+    ensures shapes { (k : ShapeSpec) → text_at rule_codes (row_of_shape k) [] ≡ shape_name k }
 {}

@@ -1,6 +1,6 @@
 //! How a command is called, and what its parameters have to be, for words that don't fit it.
 ghost use Rattle.irs_plain.specs.Private.Lookup.{texts};
-ghost use Rattle.irs_plain.specs.Usage.{commands, line_of as line_of_name, parameters, usage_of};
+ghost use Rattle.irs_plain.specs.Usage.{commands, usage_line as line_of_name, parameter_lines, usage_of};
 ghost use Rattle.irs_plain.specs.WrongWords.{needs_of};
 ghost use Rattle.std.specs.Prelude.{◌≡◌, map};
 
@@ -64,5 +64,5 @@ pub fn commands_listed()
 /// The parameters are those of the specification.
 #[tactic(auto, using(crate::proofs::TableLaws::parameters_are))]
 pub fn parameters_listed()
-    ensures { map (λ p. p.now) PARAMETERS ≡ parameters }
+    ensures { map (λ p. p.now) PARAMETERS ≡ parameter_lines }
 {}

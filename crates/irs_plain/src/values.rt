@@ -3,7 +3,7 @@ ghost use Rattle.irs_elements.specs.Codes.{day_roll_at};
 ghost use Rattle.irs_elements.specs.Leaves.{has_value};
 ghost use Rattle.irs_elements.specs.declared.table.Leaf.TheVariants.{Roll};
 ghost use Rattle.irs_elements.specs.declared.table.Leaf.{Leaf as LeafKind};
-ghost use Rattle.irs_plain.specs.Values.{codes_of, rolls, value_words as value_words_of};
+ghost use Rattle.irs_plain.specs.Values.{leaf_codes, rolls, value_words as value_words_of};
 ghost use Rattle.std.specs.List.{list_any};
 ghost use Rattle.std.specs.Prelude.{◌≡◌, ◌||◌, ℕ, List, Some, is_some};
 ghost use Rattle.std.specs.Str.{bytes_eq};
@@ -52,7 +52,7 @@ pub(crate) fn value_words<'a>(kind: Leaf) -> &'a [u8]
 /// A law: a leaf of codes has a value exactly where its text is one of those that the sentence on K6 lists. So has a
 /// roll, but for the days of the month.
 pub fn codes_are_listed()
-    ensures codes { (kind : LeafKind) (names : List (List ℕ)) → codes_of kind ≡ Some names → (text : List ℕ)
+    ensures codes { (kind : LeafKind) (names : List (List ℕ)) → leaf_codes kind ≡ Some names → (text : List ℕ)
         → has_value kind text ≡ list_any (bytes_eq text) names }
     ensures rolls { (text : List ℕ)
         → has_value Roll text ≡ (list_any (bytes_eq text) rolls || is_some (day_roll_at text)) }

@@ -3,7 +3,8 @@
 ghost use Rattle.irs_base.specs.Members.{Every};
 ghost use Rattle.irs_base.specs.Texts.{longest_line};
 ghost use Rattle.irs_outside.specs.Outside.{Grew, GrewByFront, Rose};
-ghost use Rattle.irs_plain.specs.Visible.{IsVisible, dots as dots_of, is_plain as is_plain_of, most_shown, shown_byte};
+ghost use Rattle.irs_plain.specs.Visible.{IsVisible, dots as dots_of, is_shown_as_it_is as is_plain_of, most_shown};
+ghost use Rattle.irs_plain.specs.Visible.{shown_byte};
 ghost use Rattle.irs_plain.specs.Visible.{shown_bytes, shown_front};
 ghost use Rattle.std.specs.Prelude.{◌≡◌, ℕ, ◌+◌, ◌≤◌, List, [], ◌++◌, length, take, OnOk, OnErr};
 

@@ -1,10 +1,10 @@
 //! What is said of words that are no listed command: what is lacking, what is too much, or what may be meant.
 ghost use Rattle.irs_plain.specs.Private.Lookup.{texts as texts_in};
-ghost use Rattle.irs_plain.specs.Parts.{joined};
+ghost use Rattle.irs_plain.specs.Parts.{joined_texts};
 ghost use Rattle.irs_plain.specs.Private.Parts.{said};
 ghost use Rattle.irs_plain.specs.Usage.{commands};
-ghost use Rattle.irs_plain.specs.Words.{texts};
-ghost use Rattle.irs_plain.specs.WrongWords.{field_at as field_at_of, fields as fields_of, helped as helped_of};
+ghost use Rattle.irs_plain.specs.Words.{word_texts};
+ghost use Rattle.irs_plain.specs.WrongWords.{field_at as field_at_of, field_count as fields_of, helped as helped_of};
 ghost use Rattle.irs_plain.specs.WrongWords.{is_help as is_help_of, is_help_command as is_help_command_of};
 ghost use Rattle.irs_plain.specs.WrongWords.{is_lacking as is_lacking_of, lacking as lacking_of, misfit as misfit_of};
 ghost use Rattle.irs_plain.specs.WrongWords.{most_told as most_told_of, most_words as most_words_of};
@@ -90,7 +90,7 @@ fn is_help_command(word: &[u8]) -> bool
 
 // What is said of words for help, with the line of the command if there is one.
 fn helped(usage: &[u8]) -> Sentence<'_>
-    ensures { said result ≡ joined (helped_of usage.now) }
+    ensures { said result ≡ joined_texts (helped_of usage.now) }
 {
     if usage.is_empty() {
         short(b"irs --help explains the commands", b"", b"")
@@ -125,7 +125,7 @@ fn nearest_command<'a>(typed: &[u8]) -> &'a [u8]
 
 // What is said of a command that isn't listed, and the listed one that may be meant.
 fn unknown<'a>(typed: &'a [u8], meant: &'a [u8]) -> Sentence<'a>
-    ensures { said result ≡ joined (unknown_of typed.now meant.now) }
+    ensures { said result ≡ joined_texts (unknown_of typed.now meant.now) }
 {
     if meant.is_empty() {
         short(
@@ -149,7 +149,7 @@ fn is_lacking(parameter: &[u8]) -> bool
 
 // What is said where the word of a parameter is lacking.
 fn lacking<'a>(name: &'a [u8], parameter: &'a [u8]) -> Sentence<'a>
-    ensures { said result ≡ joined (lacking_of name.now parameter.now) }
+    ensures { said result ≡ joined_texts (lacking_of name.now parameter.now) }
 {
     of_five(name, b" needs ", parameter, b": ", needs(parameter))
 }
@@ -167,7 +167,7 @@ fn most_told<'a>(usage: &[u8]) -> &'a [u8]
 
 // What is said of words that don't fit a listed command, which is called in this way.
 fn misfit<'a>(words: &'a [String], usage: &'a [u8]) -> Sentence<'a>
-    ensures { said result ≡ joined (misfit_of (texts words.now) usage.now) }
+    ensures { said result ≡ joined_texts (misfit_of (word_texts words.now) usage.now) }
 {
     let parameter = field_at(usage, words.len());
     if is_help(word_at(words, words.len().saturating_sub(1))) {
@@ -183,7 +183,7 @@ fn misfit<'a>(words: &'a [String], usage: &'a [u8]) -> Sentence<'a>
 
 // What is said of words that are no listed command, by the line of their command.
 fn unlisted_as<'a>(words: &'a [String], usage: &'a [u8]) -> Sentence<'a>
-    ensures { said result ≡ joined (unlisted_as_of (texts words.now) usage.now) }
+    ensures { said result ≡ joined_texts (unlisted_as_of (word_texts words.now) usage.now) }
 {
     if usage.is_empty() {
         unknown(command(words), nearest_command(command(words)))
@@ -194,7 +194,7 @@ fn unlisted_as<'a>(words: &'a [String], usage: &'a [u8]) -> Sentence<'a>
 
 /// What is said of words that are no listed command.
 pub(crate) fn unlisted(words: &[String]) -> Sentence<'_>
-    ensures { said result ≡ joined (unlisted_of (texts words.now)) }
+    ensures { said result ≡ joined_texts (unlisted_of (word_texts words.now)) }
 {
     if is_help_command(command(words)) {
         helped(usage(word_at(words, 1)))

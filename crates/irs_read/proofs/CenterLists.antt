@@ -1,7 +1,7 @@
 -- Texts that are kept as they are, and lists of centres: what is read of a clean one is what it says, and nothing
 -- else is.
 use Rattle.irs_base.specs.Limits.{most_centers}
-use Rattle.irs_elements.specs.Find.{text_in}
+use Rattle.irs_elements.specs.Find.{leaf_text_in}
 use Rattle.irs_elements.specs.Lines.{object}
 use Rattle.irs_elements.specs.Words.{is_center_name}
 use Rattle.irs_elements.specs.declared.table.Count.TheVariants.{OneTo}
@@ -49,9 +49,9 @@ pub word_reads : (p : Path) (kind : LeafKind) (test : List ℕ → Bool)
     → Reads p (text kind (λ s. if test s then Some s else None)) (λ d. word_in (Some d))
 word_reads p kind test agree is = record {
   gives =
-      λ d clean. word_some test (text_in (Some d))
+      λ d clean. word_some test (leaf_text_in (Some d))
       (leaf_said p kind (λ s. if test s then Some s else None) agree is d clean);
-  only = λ d t e. word_only test (text_in (Some d)) t e;
+  only = λ d t e. word_only test (leaf_text_in (Some d)) t e;
 }
 
 -- the list of centres at the end of a path

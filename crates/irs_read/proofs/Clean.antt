@@ -4,11 +4,11 @@ use Rattle.irs_base.specs.declared.places.Rule.{Rule}
 use Rattle.irs_base.specs.declared.places.Rule.TheVariants.{K2, K3, K5, K6, K7}
 use Rattle.irs_elements.proofs.Exact.{both_true}
 use Rattle.irs_elements.proofs.Steps.{choice_kept}
-use Rattle.irs_elements.specs.Elements.{FaultAt, IsMember, absent_index, index_in, is_chosen, inside, is_element}
+use Rattle.irs_elements.specs.Elements.{FaultAt, IsMemberRow, absent_index, index_in, is_chosen, inside, is_element}
 use Rattle.irs_elements.specs.Elements.{is_required}
 use Rattle.irs_elements.specs.Elements.{missing, most, name_at, own, place, shape, too_many, under, unmet}
 use Rattle.irs_elements.specs.Find.{member, once, values_in, values_of}
-use Rattle.irs_elements.specs.Leaves.{has_value, leaf_rule, out_of_profile, text_of, text_rule}
+use Rattle.irs_elements.specs.Leaves.{has_value, leaf_rule, out_of_profile, text_of_leaf, text_rule}
 use Rattle.irs_elements.specs.declared.table.Choice.{Choice}
 use Rattle.irs_elements.specs.declared.table.Choice.TheVariants.{ExactlyOne}
 use Rattle.irs_elements.specs.declared.table.Kind.{Kind}
@@ -17,7 +17,7 @@ use Rattle.irs_elements.specs.declared.table.Leaf.{Leaf as LeafKind}
 use Rattle.irs_elements.specs.declared.table.Row.{Row}
 use Rattle.irs_json.specs.Carrier.{child_of, present}
 use Rattle.irs_json.specs.Leaves.{Leaf as LeafSaid, leaf_of}
-use Rattle.irs_json.specs.Names.{names_of}
+use Rattle.irs_json.specs.Names.{element_names}
 use Rattle.irs_json.specs.Values.{items_of}
 use Rattle.serde_json.specs.Data.{Data, null, boolean, number, string, array, object, no_items, item}
 use Rattle.serde_json.specs.Find.{get}
@@ -168,7 +168,7 @@ value_by k s false e n = absurd (some_rule (list_any (bytes_eq s) (out_of_profil
 pub record Said (leaf : LeafKind) (d : Data) : Type 0 where
   pub says : LeafSaid
   pub found : leaf_of d ≡ Some says
-  pub valued : has_value leaf (text_of says) ≡ true
+  pub valued : has_value leaf (text_of_leaf says) ≡ true
 
 module _ (rows : List Row) (names : List (List ℕ)) where
   -- no rule of the table is broken below a value
@@ -184,14 +184,14 @@ module _ (rows : List Row) (names : List (List ℕ)) where
     pub none : Unbroken stream c row.kind index d
 
   -- a clean object has names
-  pub names_by : (s r i : ℕ) (choice : Choice) (d : Data) (o : Option (List (List ℕ))) → names_of d ≡ o
-      → Unbroken s r (Object choice) i d → (ns : List (List ℕ)) × (names_of d ≡ Some ns)
+  pub names_by : (s r i : ℕ) (choice : Choice) (d : Data) (o : Option (List (List ℕ))) → element_names d ≡ o
+      → Unbroken s r (Object choice) i d → (ns : List (List ℕ)) × (element_names d ≡ Some ns)
   names_by s r i choice d None e none = absurd (none (place rows s K3 r i) (own r i K3 (Object choice) d (rw e refl)))
   names_by s r i choice d (Some ns) e none = (ns, e)
 
   -- a clean object has no more items of a member than its count allows
-  pub few_by : (s r i c : ℕ) (choice : Choice) (row : Row) (d m : Data) (ns : List (List ℕ)) → names_of d ≡ Some ns
-      → IsMember rows names r c row → is_element row.kind ≡ true
+  pub few_by : (s r i c : ℕ) (choice : Choice) (row : Row) (d m : Data) (ns : List (List ℕ)) → element_names d ≡ Some ns
+      → IsMemberRow rows names r c row → is_element row.kind ≡ true
       → child_of (name_at names c) d ≡ Some m → Unbroken s r (Object choice) i d
       → (length (items_of m) ≤ most row.count) ⊎ (most row.count < length (items_of m))
       → length (items_of m) ≤ most row.count
@@ -202,7 +202,7 @@ module _ (rows : List Row) (names : List (List ℕ)) where
 
   -- a clean object has each member that its count requires
   pub there_by : (s r i c : ℕ) (choice : Choice) (row : Row) (d : Data) (ns : List (List ℕ)) (o : Option Data)
-      → names_of d ≡ Some ns → IsMember rows names r c row → is_element row.kind ≡ true
+      → element_names d ≡ Some ns → IsMemberRow rows names r c row → is_element row.kind ≡ true
       → is_required row.count ≡ true → child_of (name_at names c) d ≡ o → Unbroken s r (Object choice) i d
       → (m : Data) × (child_of (name_at names c) d ≡ Some m)
   there_by s r i c choice row d ns None n mem el rq h none =
@@ -217,9 +217,9 @@ module _ (rows : List Row) (names : List (List ℕ)) where
     choice : Choice
     none : Unbroken stream r (Object choice) index d
     ns : List (List ℕ)
-    named : names_of d ≡ Some ns
+    named : element_names d ≡ Some ns
     row : Row
-    member_row : IsMember rows names r c row
+    member_row : IsMemberRow rows names r c row
     element : is_element row.kind ≡ true
 
   joint : (r c : ℕ) (d : Data) → is_child rows r c ≡ true → Clean r d → Joint r c d
@@ -230,7 +230,7 @@ module _ (rows : List Row) (names : List (List ℕ)) where
       object_kind clean.row.kind (subst (λ (o : Option Row). object_at o ≡ true) clean.found second.0) in
       let none : Unbroken clean.stream r (Object choice) clean.index d =
       subst (λ (k : Kind). Unbroken clean.stream r k clean.index d) is clean.none in
-      let (ns, named) = names_by clean.stream r clean.index choice d (names_of d) refl none in
+      let (ns, named) = names_by clean.stream r clean.index choice d (element_names d) refl none in
       let b = below_is r (slice_get rows c) second.1 in
       record {
         stream = clean.stream;
@@ -331,7 +331,7 @@ module _ (rows : List Row) (names : List (List ℕ)) where
   said_by s r i leaf d o (Some k) h e none = absurd (none (place rows s k r i) (own r i k (Leaf leaf) d (rw h e)))
   said_by s r i leaf d None None h e none = cc
   said_by s r i leaf d (Some says) None h e none =
-      record { says = says; found = h; valued = value_by leaf (text_of says) (has_value leaf (text_of says)) refl e }
+      record { says = says; found = h; valued = value_by leaf (text_of_leaf says) (has_value leaf (text_of_leaf says)) refl e }
 
   -- a clean leaf has a value of its kind
   pub clean_leaf : (c : ℕ) (leaf : LeafKind) (d : Data) → leaf_at (slice_get rows c) ≡ Some leaf → Clean c d
@@ -355,7 +355,7 @@ module _ (rows : List Row) (names : List (List ℕ)) where
       same_Some _ _ (subst (λ (o : Option Row). kind_at o ≡ Some (Object (ExactlyOne a b))) clean.found is) in
       let unbroken : Unbroken clean.stream r (Object (ExactlyOne a b)) clean.index d =
       subst (λ (k : Kind). Unbroken clean.stream r k clean.index d) kind clean.none in
-      let (ns, named) = names_by clean.stream r clean.index (ExactlyOne a b) d (names_of d) refl unbroken in
+      let (ns, named) = names_by clean.stream r clean.index (ExactlyOne a b) d (element_names d) refl unbroken in
       let chosen =
       choice_kept names (ExactlyOne a b) d (λ u e. unbroken _
       (shape r clean.index (ExactlyOne a b) d ns _ named (unmet r clean.index u (ExactlyOne a b) d e))) in

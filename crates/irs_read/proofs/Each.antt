@@ -5,7 +5,7 @@ use Rattle.irs_base.specs.declared.places.Rule.TheVariants.{K2, K7}
 use Rattle.irs_elements.proofs.First.{Below, first_is, first_more, first_one, first_or, first_same}
 use Rattle.irs_elements.specs.Elements.{FaultAt}
 use Rattle.irs_elements.specs.Find.{values_in}
-use Rattle.irs_json.specs.Names.{names_of}
+use Rattle.irs_json.specs.Names.{element_names}
 use Rattle.irs_read.specs.StreamLines.{swap_names, swap_rows}
 use Rattle.irs_read.specs.Swaps.{Among, StreamFault, StreamsFault, SwapFault, in_stream, many_streams, no_stream}
 use Rattle.irs_read.specs.Swaps.{outside}
@@ -86,20 +86,20 @@ object_only : (o : Option (List (List ℕ))) (ns : List (List ℕ)) → o ≡ So
 object_only o ns e = rw e refl
 
 -- the first broken rule of what is no object
-pub swap_none : (d : Data) (a : Option Broken) → names_of d ≡ None → IsFirstBroken (Own d) a
+pub swap_none : (d : Data) (a : Option Broken) → element_names d ≡ None → IsFirstBroken (Own d) a
     → IsFirstBroken (SwapFault d) a
 swap_none d a h p = first_same _ _ a (λ f q. inl q) (only d h) p
   where
-    only : (d : Data) → names_of d ≡ None → (f : Broken) → SwapFault d f → Own d f
+    only : (d : Data) → element_names d ≡ None → (f : Broken) → SwapFault d f → Own d f
     only d h f (inl q) = q
-    only d h f (inr (t, q)) = let e : is_some (names_of d) ≡ false = rw h refl in absurd (true≢false (sym t ∙ e))
+    only d h f (inr (t, q)) = let e : is_some (element_names d) ≡ false = rw h refl in absurd (true≢false (sym t ∙ e))
 
 -- the first broken rule of a swap, of its own and of its streams
-pub swap_some : (d : Data) (ns : List (List ℕ)) (a b : Option Broken) → names_of d ≡ Some ns → IsFirstBroken (Own d) a
+pub swap_some : (d : Data) (ns : List (List ℕ)) (a b : Option Broken) → element_names d ≡ Some ns → IsFirstBroken (Own d) a
     → IsFirstBroken (StreamsFault (values_in (codes "swapStream") (Some d))) b
     → IsFirstBroken (SwapFault d) (earlier_broken a b)
 swap_some d ns a b h p q =
-    let there = object_only (names_of d) ns h in
-    first_or (Own d) (λ f. (is_some (names_of d) ≡ true)
+    let there = object_only (element_names d) ns h in
+    first_or (Own d) (λ f. (is_some (element_names d) ≡ true)
     × StreamsFault (values_in (codes "swapStream") (Some d)) f) a b p
     (first_same _ _ b (λ f s. (there, s)) (λ f (t, s). s) q)

@@ -2,7 +2,7 @@
 use Prim.Native.String.{String}
 use Rattle.irs_elements.specs.Elements.{name_at}
 use Rattle.irs_elements.specs.Find.{member, once, values_in}
-use Rattle.irs_elements.specs.Leaves.{has_value, text_of}
+use Rattle.irs_elements.specs.Leaves.{has_value, text_of_leaf}
 use Rattle.irs_elements.specs.Lines.{Form}
 use Rattle.irs_elements.specs.declared.table.Count.{Count}
 use Rattle.irs_elements.specs.declared.table.Leaf.{Leaf as LeafKind}
@@ -10,7 +10,7 @@ use Rattle.irs_read.proofs.Clean.{clean_leaf, clean_once, clean_there, fine_valu
 use Rattle.irs_read.proofs.Rows.{At, AtMost, FreeRow, LeafRow, Path, RowIs, is_leaf, is_member, is_named, is_needed}
 use Rattle.irs_read.proofs.Rows.{at_most, row_of}
 use Rattle.irs_read.proofs.TableLaws.{code_names as row_names}
-use Rattle.irs_read.specs.Readings.{EachSays, Part, Says, Value, each, holds, maybe, one, or_by, said, text}
+use Rattle.irs_read.specs.Readings.{EachSays, ReadPart, Says, Value, each, holds, maybe, one, or_by, said, text}
 use Rattle.irs_read.specs.declared.table.TheConstants.{ROWS}
 use Rattle.serde_json.specs.Data.{Data}
 use Rattle.std.proofs.Common.{◌≡◌, ℕ, suc, Bool, true, false, true≢false, List, [], ◌∷◌, map, Option, Some, None, is_some}
@@ -22,7 +22,7 @@ pub record Reads {A : Type 0} (p : Path) (v : Value A) (f : Data → A) : Type 0
   pub only : (d : Data) (a : A) → v.says d a → a ≡ f d
 
 -- an object at the end of a path says f of it by these members, and nothing else
-pub record Fills {A : Type 0} (p : Path) (q : Part A) (f : Data → A) : Type 0 where
+pub record Fills {A : Type 0} (p : Path) (q : ReadPart A) (f : Data → A) : Type 0 where
   pub gives : (d : Data) → At p d → q.says d (f d)
   pub only : (d : Data) (a : A) → q.says d a → a ≡ f d
 
@@ -38,7 +38,7 @@ abbrev pub ◌&◌ : {A B : Type 0} → A → B → A × B
 a & b = (a, b)
 
 -- what is the same as what is read of a clean object is what it says
-pub same_says : {A : Type 0} {r : Path} {p : Part A} {f : Data → A} → Fills r p f → (d : Data) → At r d → (a : A)
+pub same_says : {A : Type 0} {r : Path} {p : ReadPart A} {f : Data → A} → Fills r p f → (d : Data) → At r d → (a : A)
     → a ≡ f d → p.says d a
 same_says {p = p} h d clean a e = subst (p.says d) (sym e) (h.gives d clean)
 
@@ -61,7 +61,7 @@ pub leaf_said : {A : Type 0} (p : Path) (kind : LeafKind) (at : List ℕ → Opt
     → leaf_at (slice_get ROWS (row_of p)) ≡ Some kind → (d : Data) → At p d → is_some (said at (Some d)) ≡ true
 leaf_said p kind at agree is d clean =
     let s = clean_leaf ROWS row_names (row_of p) kind d is clean.clean in
-    rw s.found (sym (agree (text_of s.says)) ∙ s.valued)
+    rw s.found (sym (agree (text_of_leaf s.says)) ∙ s.valued)
 
 -- a leaf
 pub leaf_reads : {A : Type 0} (p : Path) (kind : LeafKind) (at : List ℕ → Option A) (other : A) → Agree kind at
@@ -207,7 +207,7 @@ each_fills p name often v f row reads = record {
 -- ---- objects, and leaves
 
 -- an object is what its members say
-pub whole : {A : Type 0} (p : Path) (form : Form) (q : Part A) (f : Data → A) → Fills p q f → Reads p (holds form q) f
+pub whole : {A : Type 0} (p : Path) (form : Form) (q : ReadPart A) (f : Data → A) → Fills p q f → Reads p (holds form q) f
 whole p form q f h = record { gives = h.gives; only = h.only }
 
 -- a leaf that must occur

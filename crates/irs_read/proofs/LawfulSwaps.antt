@@ -3,7 +3,7 @@ use Rattle.irs_base.specs.Elements.{swap_stream}
 use Rattle.irs_base.specs.declared.places.Broken.{Broken}
 use Rattle.irs_base.specs.declared.places.Rule.TheVariants.{K2, K3, K7}
 use Rattle.irs_elements.specs.Elements.{own, place}
-use Rattle.irs_json.specs.Names.{names_of}
+use Rattle.irs_json.specs.Names.{element_names}
 use Rattle.irs_read.proofs.Clean.{clean_from, le_or_lt}
 use Rattle.irs_read.proofs.Fills.{each_gives, each_only}
 use Rattle.irs_read.proofs.Rows.{At, at_top}
@@ -21,7 +21,7 @@ use Rattle.irs_read.proofs.TableLaws.{code_names, stream_fault}
 use Rattle.irs_read.specs.StreamLines.{stream_names, stream_rows, swap_rows}
 use Rattle.irs_read.specs.Swaps.{StreamsFault, SwapFault, in_stream, many_streams, no_stream, outside}
 use Rattle.irs_read.specs.declared.table.TheConstants.{ROWS, SWAP}
-use Rattle.irs_terms.specs.Lawful.{IsLawful, IsLawfulStream}
+use Rattle.irs_terms.specs.Lawful.{IsLawfulSwap, IsLawfulStream}
 use Rattle.irs_base.specs.Limits.{most_streams}
 use Rattle.irs_terms.specs.declared.stream_list.Swap.{Swap}
 use Rattle.serde_json.specs.Data.{Data}
@@ -31,8 +31,8 @@ use Rattle.std.proofs.lemmas.List.{length-map}
 use Rattle.std.proofs.lemmas.List.Elements.{All-map}
 use Rattle.std.proofs.lemmas.Option.{slice_get-get_or}
 
-object_by : (d : Data) (b : Bool) → is_some (names_of d) ≡ b → ((f : Broken) → SwapFault d f → ⊥)
-    → is_some (names_of d) ≡ true
+object_by : (d : Data) (b : Bool) → is_some (element_names d) ≡ b → ((f : Broken) → SwapFault d f → ⊥)
+    → is_some (element_names d) ≡ true
 object_by d true e none = e
 object_by d false e none = absurd (none (place swap_rows 0 K3 0 0) (inl (own 0 0 K3 SWAP d (rw e refl))))
 
@@ -67,9 +67,9 @@ streams_lawful ds none =
       ),
     )
 
-swap_lawful : (d : Data) → ((f : Broken) → SwapFault d f → ⊥) → IsLawful (swap_in d)
+swap_lawful : (d : Data) → ((f : Broken) → SwapFault d f → ⊥) → IsLawfulSwap (swap_in d)
 swap_lawful d none =
-    let there = object_by d (is_some (names_of d)) refl none in
+    let there = object_by d (is_some (element_names d)) refl none in
     let (lo, (hi, all)) = streams_lawful (streams_in d) (λ f q. none f (inr (there, q))) in (
       omega (arith, lo, length-map (streams_in d) (stream_in (lists_of (streams_in d)))),
       omega (arith, hi, length-map (streams_in d) (stream_in (lists_of (streams_in d)))),
@@ -78,14 +78,14 @@ swap_lawful d none =
 
 -- the swap of a document without faults is lawful
 pub document_lawful : (d at : Data) (s : Swap) → ((f : Broken) → DocumentFault d f → ⊥) → the_swap d ≡ Ok at
-    → s ≡ swap_in at → IsLawful s
-document_lawful d at s none found says = subst IsLawful (sym says) (swap_lawful at (λ f q. none f (below at f found q)))
+    → s ≡ swap_in at → IsLawfulSwap s
+document_lawful d at s none found says = subst IsLawfulSwap (sym says) (swap_lawful at (λ f q. none f (below at f found q)))
 
 -- the streams of a swap that breaks no rule break none, and their lists of centres are good
 streams_clean : (d : Data) → ((f : Broken) → SwapFault d f → ⊥)
     → ((j : ℕ) (x : Data) → slice_get (streams_in d) j ≡ Some x → At [] x) × GoodLists (lists_of (streams_in d))
 streams_clean d none =
-    let there = object_by d (is_some (names_of d)) refl none in
+    let there = object_by d (is_some (element_names d)) refl none in
     let ds = streams_in d in
     let clear : (f : Broken) → StreamsFault ds f → ⊥ = λ f q. none f (inr (there, q)) in
     let lo = some_by ds (length ds) refl clear in
@@ -127,7 +127,7 @@ means_read d s m = swap_only m.at (λ f q. m.clean f (below m.at f m.found q)) s
 swap_stated : (d : Data) → ((f : Broken) → SwapFault d f → ⊥) → (j : ℕ) (x : Data)
     → slice_get (streams_in d) j ≡ Some x → IsStated stream_rows stream_names x
 swap_stated d none j x e =
-    let there = object_by d (is_some (names_of d)) refl none in
+    let there = object_by d (is_some (element_names d)) refl none in
     let ds = streams_in d in
     let clear : (f : Broken) → StreamsFault ds f → ⊥ = λ f q. none f (inr (there, q)) in
     let lo = some_by ds (length ds) refl clear in

@@ -1,12 +1,13 @@
 -- The values of leaves lie in their ranges, their defaults too.
 use Rattle.irs_base.specs.Days.{IsDay, first_day}
 use Rattle.irs_elements.proofs.Exact.{both_true}
-use Rattle.irs_elements.specs.Codes.{among, day_number_at, day_roll_at, either, is_first_digit, named_roll_at, roll_at}
+use Rattle.irs_elements.specs.Codes.{among, day_number_at, day_roll_at, first_there, is_first_digit, named_roll_at}
+use Rattle.irs_elements.specs.Codes.{roll_at}
 use Rattle.irs_elements.specs.Codes.{tenor_unit_at}
 use Rattle.irs_elements.specs.Decimals.{dec_at}
-use Rattle.irs_elements.specs.Find.{text_in}
+use Rattle.irs_elements.specs.Find.{leaf_text_in}
 use Rattle.irs_elements.specs.Numbers.{multiplier_at, notional_at, observation_days_at, offset_at, precision_at}
-use Rattle.irs_elements.specs.Numbers.{rate_at, whole_at, within}
+use Rattle.irs_elements.specs.Numbers.{leaf_rate_at, whole_at, within}
 use Rattle.irs_elements.specs.Words.{currency_at, is_capital, is_currency}
 use Rattle.irs_read.specs.Readings.{said}
 use Rattle.irs_read.specs.Private.Meaning.{scale_at}
@@ -36,7 +37,7 @@ then_in P at h (Some s) = h s
 -- what holds of each value of a text holds of a leaf's value
 pub said_in : {A : Type 0} (P : A → Type 0) (at : List ℕ → Option A) → ((s : List ℕ) → IfSome (at s) P)
     → (o : Option Data) → IfSome (said at o) P
-said_in P at h o = then_in P at h (text_in o)
+said_in P at h o = then_in P at h (leaf_text_in o)
 
 -- a value or its default is in the range
 pub or_in : {A : Type 0} (P : A → Type 0) (o : Option A) (a : A) → IfSome o P → P a → P (unwrap_or o a)
@@ -86,9 +87,9 @@ pub notional_range : (s : List ℕ) → IfSome (notional_at s) IsNotional
 notional_range s = within_range (pos 0) (pos most_notional) (dec_at 4 s)
 
 -- a rate that is read is in its range
-pub rate_range : (s : List ℕ) → IfSome (rate_at s) IsRate
+pub rate_range : (s : List ℕ) → IfSome (leaf_rate_at s) IsRate
 rate_range s =
-    if_some _ IsRate (λ z h. size most_rate z h) (rate_at s)
+    if_some _ IsRate (λ z h. size most_rate z h) (leaf_rate_at s)
     (within_range (neg_ℤ (pos most_rate)) (pos most_rate) (dec_at 9 s))
 
 -- the range of a schedule's values
@@ -197,7 +198,7 @@ day_roll_range (a ∷ []) = one_digit a (is_first_digit a) refl
 day_roll_range (a ∷ b ∷ []) = two_digits a b _ refl
 day_roll_range (a ∷ b ∷ c ∷ rest) = tt
 
-either_range : {A : Type 0} (P : A → Type 0) (o p : Option A) → IfSome o P → IfSome p P → IfSome (either o p) P
+either_range : {A : Type 0} (P : A → Type 0) (o p : Option A) → IfSome o P → IfSome p P → IfSome (first_there o p) P
 either_range P None p g h = h
 either_range P (Some a) p g h = g
 

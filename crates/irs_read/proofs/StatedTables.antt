@@ -1,8 +1,9 @@
 -- In a value that breaks no rule of a table of elements nothing is wanting.
 use Rattle.irs_elements.proofs.Steps.{choice_kept}
-use Rattle.irs_elements.specs.Elements.{IsMember, is_chosen, has_odd, index_in, inside, is_element, is_odd, is_required}
+use Rattle.irs_elements.specs.Elements.{IsMemberRow, is_chosen, has_odd, index_in, inside, is_element, is_odd}
+use Rattle.irs_elements.specs.Elements.{is_required}
 use Rattle.irs_elements.specs.Elements.{most, name_at, no_href, odd, shape, under, unmet}
-use Rattle.irs_elements.specs.Find.{once, text_in}
+use Rattle.irs_elements.specs.Find.{once, leaf_text_in}
 use Rattle.irs_elements.specs.declared.table.Choice.{Choice}
 use Rattle.irs_elements.specs.declared.table.Choice.TheVariants.{Free, Reference}
 use Rattle.irs_elements.specs.declared.table.Kind.{Kind}
@@ -29,7 +30,7 @@ record KeptAt (rows : List Row) (names : List (List ℕ)) (r : ℕ) (k : Kind) (
 
 step : (rows : List Row) (names : List (List ℕ)) (r c j : ℕ) (choice : Choice) (row : Row) (y m x : Data)
     → KeptAt rows names r (Object choice) y
-    → IsMember rows names r c row → is_element row.kind ≡ true
+    → IsMemberRow rows names r c row → is_element row.kind ≡ true
     → child_of (name_at names c) y ≡ Some m → slice_get (items_of m) j ≡ Some x → KeptAt rows names c row.kind x
 step rows names r c j choice row y m x w mem el h at =
     let (ns, named) = names_by rows names w.number r w.index choice y _ refl w.none in
@@ -52,7 +53,7 @@ clean rows names d n i none _ _ _ (element r c j choice row y m x s mem el h at)
 
 there : (rows : List Row) (names : List (List ℕ)) (r c : ℕ) (choice : Choice) (row : Row) (y : Data)
     → KeptAt rows names r (Object choice) y
-    → IsMember rows names r c row → is_element row.kind ≡ true → is_required row.count ≡ true
+    → IsMemberRow rows names r c row → is_element row.kind ≡ true → is_required row.count ≡ true
     → is_some (once (name_at names c) y) ≡ true
 there rows names r c choice row y w mem el rq =
     let (ns, named) = names_by rows names w.number r w.index choice y _ refl w.none in
@@ -61,7 +62,7 @@ there rows names r c choice row y w mem el rq =
     rw h (rw at refl)
 
 said : (rows : List Row) (names : List (List ℕ)) (r : ℕ) (leaf : LeafKind) (x : Data)
-    → KeptAt rows names r (Leaf leaf) x → has_said leaf (text_in (Some x)) ≡ true
+    → KeptAt rows names r (Leaf leaf) x → has_said leaf (leaf_text_in (Some x)) ≡ true
 said rows names r leaf x w =
     let s = said_by rows names w.number r w.index leaf x (leaf_of x) (leaf_rule leaf (leaf_of x)) refl refl w.none in
     rw s.found s.valued

@@ -3,13 +3,13 @@ use Rattle.irs_base.specs.Days.{first_day}
 use Rattle.irs_base.specs.declared.rounding.Direction.TheVariants.{Nearest}
 use Rattle.irs_elements.specs.Codes.{calculation_method_at, compounding_at, convention_at, day_count_at, day_kind_at}
 use Rattle.irs_elements.specs.Codes.{direction_at, relative_at, roll_at, stub_kind_at, tenor_unit_at, treatment_at}
-use Rattle.irs_elements.specs.Codes.{truth_at, unit_at}
-use Rattle.irs_elements.specs.Dates.{day_at}
+use Rattle.irs_elements.specs.Codes.{truth_at, period_unit_at}
+use Rattle.irs_elements.specs.Dates.{leaf_date_at}
 use Rattle.irs_elements.specs.Elements.{name_at}
 use Rattle.irs_elements.specs.Find.{member, once}
 use Rattle.irs_elements.specs.Lines.{object}
 use Rattle.irs_elements.specs.Numbers.{multiplier_at, observation_days_at, offset_at, precision_at}
-use Rattle.irs_elements.specs.Numbers.{rate_at}
+use Rattle.irs_elements.specs.Numbers.{leaf_rate_at}
 use Rattle.irs_elements.specs.Words.{currency_at, is_index_name}
 use Rattle.irs_elements.specs.declared.table.Choice.TheVariants.{ExactlyOne}
 use Rattle.irs_elements.specs.declared.table.Count.TheVariants.{UpTo}
@@ -53,7 +53,8 @@ use Rattle.irs_read.specs.StreamElements.{StreamSays, adjustable, adjusting, adj
 use Rattle.irs_read.specs.StreamElements.{stream_by}
 use Rattle.irs_read.specs.StreamElements.{center_list, date, exchanges, fixing_dates, floating, frequency, index_name}
 use Rattle.irs_read.specs.StreamElements.{indexed, notional, observed, offset, parameters, payment_dates}
-use Rattle.irs_read.specs.StreamElements.{period_dates, rate, reference, reset_dates, rounded, schedule, step, stub}
+use Rattle.irs_read.specs.StreamElements.{period_dates, rate, reference, reset_dates, rounding_read, schedule, step}
+use Rattle.irs_read.specs.StreamElements.{stub}
 use Rattle.irs_read.specs.StreamElements.{stubs, tenor, unadjusted}
 use Rattle.irs_read.specs.declared.leaf_values.Scale.{Scale}
 use Rattle.irs_read.specs.declared.leaf_values.Scale.TheVariants.{Notionals, Rates}
@@ -93,7 +94,7 @@ frequency_fills : (p : Path) → LeafRow p "periodMultiplier" Multiplier → Lea
     → Fills p frequency (λ d. frequency_in (Some d))
 frequency_fills p count_row unit_row =
     let a = leaf_one p "periodMultiplier" Multiplier multiplier_at 1 (λ s. refl) count_row in
-    let b = leaf_one p "period" PeriodUnit unit_at D (λ s. refl) unit_row in
+    let b = leaf_one p "period" PeriodUnit period_unit_at D (λ s. refl) unit_row in
     record {
       gives = a.gives ⊗ b.gives;
       only = λ d f h. λ i. record { count = a.only d f.count h.0 i; unit = b.only d f.unit h.1 i };
@@ -192,7 +193,7 @@ DatedRows p =
 dated_reads : (lists : List (Option Data)) → GoodLists lists → (p : Path) → DatedRows p
     → Reads p (adjustable lists) (λ d. dated_in lists (Some d))
 dated_reads lists g p at =
-    let day = leaf_one p "unadjustedDate" Date day_at first_day (λ s. refl) at.0 in
+    let day = leaf_one p "unadjustedDate" Date leaf_date_at first_day (λ s. refl) at.0 in
     let adj =
     one_fills p "dateAdjustments" (adjustments lists) (adjustments_in lists) at.1
     (adjustments_reads lists g ("dateAdjustments" ∷ p) at.2) in
@@ -238,8 +239,8 @@ pay_reads lists g dates =
     let p = payments_path in
     let ref = reference_fills p "calculationPeriodDatesReference" dates refl in
     let freq = frequency_one p "paymentFrequency" refl refl refl in
-    let first = leaf_maybe p "firstPaymentDate" Date day_at (λ s. refl) refl in
-    let last = leaf_maybe p "lastRegularPaymentDate" Date day_at (λ s. refl) refl in
+    let first = leaf_maybe p "firstPaymentDate" Date leaf_date_at (λ s. refl) refl in
+    let last = leaf_maybe p "lastRegularPaymentDate" Date leaf_date_at (λ s. refl) refl in
     let relative = leaf_one p "payRelativeTo" PayRelative relative_at Start (λ s. refl) refl in
     let days =
     or_fills p "paymentDaysOffset" (holds object offset) (λ _. record { days = pos 0; kind = Unsaid })
@@ -354,7 +355,7 @@ ScheduleRows scale p =
 step_reads : (scale : Scale) (p : Path) → LeafRow p "stepDate" Date → LeafRow p "stepValue" (kind_by scale)
     → Reads p (step (text (kind_by scale) (scale_at scale))) (step_in scale)
 step_reads scale p day_row value_row =
-    let day = leaf_one p "stepDate" Date day_at first_day (λ s. refl) day_row in
+    let day = leaf_one p "stepDate" Date leaf_date_at first_day (λ s. refl) day_row in
     let value = leaf_one p "stepValue" (kind_by scale) (scale_at scale) (pos 0) (scale_agrees scale) value_row in
     record {
       gives = day.gives ⊗ value.gives;
@@ -412,7 +413,7 @@ indexed_fills p at =
       only = λ d p h. λ i. (index.only d p.0 h.0 i, tenors.only d p.1 h.1 i);
     }
 
-rounded_reads : (places : ℕ) → Reads ("finalRateRounding" ∷ floating_path) rounded (λ d. rounding_in places (Some d))
+rounded_reads : (places : ℕ) → Reads ("finalRateRounding" ∷ floating_path) rounding_read (λ d. rounding_in places (Some d))
 unfolding facts row_of
 rounded_reads places =
     let p = "finalRateRounding" ∷ floating_path in
@@ -497,9 +498,9 @@ floating_reads =
     let multiplier =
     schedule_or_fills (pos 1_000_000_000) p "floatingRateMultiplierSchedule" refl (refl, refl, refl, refl) in
     let spread = schedule_or_fills (pos 0) p "spreadSchedule" refl (refl, refl, refl, refl) in
-    let initial = leaf_maybe p "initialRate" Rate rate_at (λ s. refl) refl in
+    let initial = leaf_maybe p "initialRate" Rate leaf_rate_at (λ s. refl) refl in
     let round =
-    or_fills p "finalRateRounding" rounded
+    or_fills p "finalRateRounding" rounding_read
     (λ d. record { dir = Nearest; places = places_by (once (codes "calculationParameters") d) })
     (λ d o. rounding_in (places_by (once (codes "calculationParameters") d)) o) refl (λ d. refl)
     (λ d. rounded_reads (places_by (once (codes "calculationParameters") d))) in
@@ -601,7 +602,7 @@ stub_reads p at choice =
     let indices : Reads ("floatingRate" ∷ p) (holds object indexed) index_in =
     whole ("floatingRate" ∷ p) object indexed index_in (indexed_fills ("floatingRate" ∷ p) at.2) in
     let rates : Reads ("stubRate" ∷ p) rate (λ d. number_in Rates (Some d)) =
-    leaf_reads ("stubRate" ∷ p) Rate rate_at (pos 0) (λ s. refl) (is_leaf p "stubRate" at.1) in
+    leaf_reads ("stubRate" ∷ p) Rate leaf_rate_at (pos 0) (λ s. refl) (is_leaf p "stubRate" at.1) in
     let float = once (codes "floatingRate") in
     let stated = once (codes "stubRate") in
     record {
@@ -689,14 +690,14 @@ start_fills lists g =
     (dated_reads lists g ("firstPeriodStartDate" ∷ dates_path) (refl, refl, (refl, refl, (refl, refl))))
 
 first_fills : Fills dates_path (maybe "firstRegularPeriodStartDate" date)
-    (λ d. said day_at (once (codes "firstRegularPeriodStartDate") d))
+    (λ d. said leaf_date_at (once (codes "firstRegularPeriodStartDate") d))
 unfolding facts row_of
-first_fills = leaf_maybe dates_path "firstRegularPeriodStartDate" Date day_at (λ s. refl) refl
+first_fills = leaf_maybe dates_path "firstRegularPeriodStartDate" Date leaf_date_at (λ s. refl) refl
 
 last_fills : Fills dates_path (maybe "lastRegularPeriodEndDate" date)
-    (λ d. said day_at (once (codes "lastRegularPeriodEndDate") d))
+    (λ d. said leaf_date_at (once (codes "lastRegularPeriodEndDate") d))
 unfolding facts row_of
-last_fills = leaf_maybe dates_path "lastRegularPeriodEndDate" Date day_at (λ s. refl) refl
+last_fills = leaf_maybe dates_path "lastRegularPeriodEndDate" Date leaf_date_at (λ s. refl) refl
 
 stub_fills : Fills dates_path (maybe "stubPeriodType" (text StubType stub_kind_at))
     (λ d. said stub_kind_at (once (codes "stubPeriodType") d))
@@ -890,9 +891,9 @@ stream_only lists g d s says =
       period_adj = ((period_fills lists g).only x s.period_adj period
           ∙ ap (adjustments_in lists) (at (codes "calculationPeriodDatesAdjustments"))) i;
       first_regular = (first_fills.only x s.first_regular first
-          ∙ ap (said day_at) (at (codes "firstRegularPeriodStartDate"))) i;
+          ∙ ap (said leaf_date_at) (at (codes "firstRegularPeriodStartDate"))) i;
       last_regular = (last_fills.only x s.last_regular last
-          ∙ ap (said day_at) (at (codes "lastRegularPeriodEndDate"))) i;
+          ∙ ap (said leaf_date_at) (at (codes "lastRegularPeriodEndDate"))) i;
       stub = (stub_fills.only x s.stub stub ∙ ap (said stub_kind_at) (at (codes "stubPeriodType"))) i;
       freq = (times_fills.only t s.freq freq ∙ ap frequency_in times_is) i;
       roll = (roll_fills.only t s.roll roll

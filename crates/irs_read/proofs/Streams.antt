@@ -1,10 +1,10 @@
 -- What a stream says that breaks no rule lies in the ranges of its terms.
 use Rattle.irs_base.specs.Days.{IsDay, first_day}
 use Rattle.irs_elements.specs.Codes.{roll_at, tenor_unit_at}
-use Rattle.irs_elements.specs.Dates.{day_at}
+use Rattle.irs_elements.specs.Dates.{leaf_date_at}
 use Rattle.irs_elements.specs.Elements.{name_at}
 use Rattle.irs_elements.specs.Find.{member, once, values_in}
-use Rattle.irs_elements.specs.Numbers.{multiplier_at, observation_days_at, offset_at, precision_at, rate_at}
+use Rattle.irs_elements.specs.Numbers.{multiplier_at, observation_days_at, offset_at, precision_at, leaf_rate_at}
 use Rattle.irs_elements.specs.Words.{currency_at}
 use Prim.Native.String.{String}
 use Rattle.irs_elements.specs.declared.table.Leaf.TheVariants.{CenterName, Convention, IndexName}
@@ -27,7 +27,7 @@ use Rattle.irs_read.specs.StreamElements.{places_by}
 use Rattle.irs_read.specs.Private.Meaning.{own_centers, pay_in, reset_in, scale_at, schedule_in, schedule_or, step_in}
 use Rattle.irs_read.specs.Readings.{said}
 use Rattle.irs_read.specs.Private.Meaning.{stream_in, stream_parts, stub_by, stub_in, stubs_in, tenor_in, word_in}
-use Rattle.irs_read.specs.References.{first_of, has_id, href_of, lists_in, lists_of, the_one}
+use Rattle.irs_read.specs.References.{found_value, has_id, href_of, lists_in, lists_of, the_one}
 use Rattle.irs_read.specs.StreamElements.{center_list}
 use Rattle.irs_read.proofs.TableLaws.{code_names as row_names}
 use Rattle.irs_read.specs.declared.leaf_values.Scale.{Scale}
@@ -56,10 +56,10 @@ use Rattle.std.proofs.lemmas.Option.{slice_get-get_or}
 -- ---- leaves and their blocks
 
 day_lawful : (o : Option Data) → IsDay (day_in o)
-day_lawful o = or_in IsDay (said day_at o) first_day (said_in IsDay day_at day_range o) first_is_day
+day_lawful o = or_in IsDay (said leaf_date_at o) first_day (said_in IsDay leaf_date_at day_range o) first_is_day
 
-maybe_day : (o : Option Data) → IfSome (said day_at o) IsDay
-maybe_day o = said_in IsDay day_at day_range o
+maybe_day : (o : Option Data) → IfSome (said leaf_date_at o) IsDay
+maybe_day o = said_in IsDay leaf_date_at day_range o
 
 -- a multiplier of a frequency in its range
 abbrev IsMultiplier : ℕ → Type 0
@@ -286,13 +286,13 @@ all_good [] clean = tt
 all_good (d ∷ ds) clean =
     good_append (lists_in d) (lists_of ds) (lists_good d (clean 0 d refl)) (all_good ds (λ j x e. clean (suc j) x e))
 
-found_by : (b : Bool) (o : Option Data) (r : Option (Option Data)) → GoodList o → GoodList (first_of r)
-    → GoodList (first_of (cond b (Some o) r))
+found_by : (b : Bool) (o : Option Data) (r : Option (Option Data)) → GoodList o → GoodList (found_value r)
+    → GoodList (found_value (cond b (Some o) r))
 found_by true o r g h = g
 found_by false o r g h = h
 
 good_found : (p : Option Data → Bool) (lists : List (Option Data)) → GoodLists lists
-    → GoodList (first_of (find p lists))
+    → GoodList (found_value (find p lists))
 good_found p [] g = tt
 good_found p (o ∷ os) g = found_by (p o) o (find p os) g.0 (good_found p os g.1)
 
@@ -303,7 +303,7 @@ one_by false o g = tt
 -- the list that a text names
 pub one_good : (id : List ℕ) (lists : List (Option Data)) → GoodLists lists → GoodList (the_one id lists)
 one_good id lists g =
-    one_by (count_by (has_id id) lists == 1) (first_of (find (has_id id) lists)) (good_found (has_id id) lists g)
+    one_by (count_by (has_id id) lists == 1) (found_value (find (has_id id) lists)) (good_found (has_id id) lists g)
 
 named_lawful : (o : Option Data) → GoodList o → IsLawfulCenters (named_centers o)
 named_lawful None g = tt
@@ -447,7 +447,7 @@ float_lawful d clean = record {
       (perhaps floating_path "floatingRateMultiplierSchedule" refl d clean);
   spread = or_lawful (pos 0) (omega arith) ("spreadSchedule" ∷ floating_path) (refl, refl)
       (once (codes "spreadSchedule") d) (perhaps floating_path "spreadSchedule" refl d clean);
-  initial_rate = said_in IsRate rate_at rate_range (once (codes "initialRate") d);
+  initial_rate = said_in IsRate leaf_rate_at rate_range (once (codes "initialRate") d);
   rounding = places_lawful (places_by (once (codes "calculationParameters") d))
       (few_places (once (codes "calculationParameters") d))
       (member (codes "precision") (once (codes "finalRateRounding") d));

@@ -1,5 +1,5 @@
 -- The code's tables are those of the specification.
-use Rattle.irs_base.specs.PathList.{paths, printed}
+use Rattle.irs_base.specs.PathList.{paths, printed_paths}
 use Rattle.irs_base.specs.declared.places.Broken.{Broken}
 use Rattle.irs_elements.specs.Elements.{FaultAt}
 use Rattle.irs_elements.specs.declared.table.Kind.{Kind}
@@ -23,12 +23,12 @@ swap_code_names = map (λ n. n.now) SWAP_NAMES
 
 -- the code's rows are those of the specification
 pub rows_are : ROWS ≡ stream_rows
-unfolding stream_rows stream_table printed paths
+unfolding stream_rows stream_table printed_paths paths
 rows_are = refl
 
 -- the lines of the specification have the paths of the table
 pub lines_are : map (λ (l : Line). l.path) stream_table.lines ≡ stream_elements
-unfolding stream_table stream_elements printed paths
+unfolding stream_table stream_elements printed_paths paths
 lines_are = refl
 
 -- the lists of centres are those of the table
@@ -44,7 +44,7 @@ names_are = refl
 
 -- the rows of a swap are those of the specification
 pub swap_rows_are : SWAP_ROWS ≡ swap_rows
-unfolding swap_rows swap_table printed paths
+unfolding swap_rows swap_table printed_paths paths
 swap_rows_are = refl
 
 -- the names of a swap are those of the specification

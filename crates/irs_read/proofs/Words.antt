@@ -1,12 +1,12 @@
 -- The texts of leaves that name a centre or an index are lawful.
 use Rattle.irs_base.specs.Limits.{most_index, most_name}
-use Rattle.irs_elements.specs.Leaves.{text_of}
+use Rattle.irs_elements.specs.Leaves.{text_of_leaf}
 use Rattle.irs_elements.specs.Words.{is_center_name, is_index_name, is_no_control, is_visible}
 use Rattle.irs_elements.specs.declared.table.Leaf.TheVariants.{CenterName, IndexName}
 use Rattle.irs_json.specs.Carrier.{child_of}
-use Rattle.irs_json.specs.Leaves.{Leaf, word, whole, truth, bare_leaf, is_beside, leaf_among, leaf_of, whole_of}
-use Rattle.irs_json.specs.Names.{names_of}
-use Rattle.irs_json.specs.Trim.{is_space, trim, trim_back, trim_front}
+use Rattle.irs_json.specs.Leaves.{Leaf, word, whole, truth, bare_leaf, is_beside, leaf_among, leaf_of, whole_leaf}
+use Rattle.irs_json.specs.Names.{element_names}
+use Rattle.irs_json.specs.Trim.{is_white_space, trim, trim_back, trim_front}
 use Rattle.irs_read.proofs.Clean.{Said}
 use Rattle.irs_read.specs.Private.Meaning.{word_in}
 use Rattle.irs_terms.specs.Lawful.{IsLawfulIndex, IsLawfulName}
@@ -65,21 +65,21 @@ signed_no_blank (negsuc n) = ((λ e. omega (arith, e)), decimal_no_blank (suc n)
 
 -- ---- what is trimmed
 
-no_space : (x : ℕ) → is_space x ≡ false → x ≢ 32
-no_space x h e = true≢false (sym (ap is_space e) ∙ h)
+no_space : (x : ℕ) → is_white_space x ≡ false → x ≢ 32
+no_space x h e = true≢false (sym (ap is_white_space e) ∙ h)
 
 -- nothing is left, or what is left begins with no space
 abbrev Front : List ℕ → Type 0
-Front s = (s ≡ []) ⊎ ((x : ℕ) × ((rest : List ℕ) × ((s ≡ x ∷ rest) × (is_space x ≡ false))))
+Front s = (s ≡ []) ⊎ ((x : ℕ) × ((rest : List ℕ) × ((s ≡ x ∷ rest) × (is_white_space x ≡ false))))
 
-front_by : (x : ℕ) (xs : List ℕ) (b : Bool) → is_space x ≡ b → Front (trim_front xs)
+front_by : (x : ℕ) (xs : List ℕ) (b : Bool) → is_white_space x ≡ b → Front (trim_front xs)
     → Front (if b then trim_front xs else x ∷ xs)
 front_by x xs true e h = h
 front_by x xs false e h = inr (x, (xs, (refl, e)))
 
 front_is : (xs : List ℕ) → Front (trim_front xs)
 front_is [] = inl refl
-front_is (x ∷ xs) = front_by x xs (is_space x) refl (front_is xs)
+front_is (x ∷ xs) = front_by x xs (is_white_space x) refl (front_is xs)
 
 -- a last byte that is no space is kept
 abbrev Kept : ℕ → List ℕ → Type 0
@@ -90,9 +90,9 @@ kept_by : (z y : ℕ) (zs : List ℕ) (b : Bool) → Kept y (trim_front (zs ++ y
 kept_by z y zs true h = h
 kept_by z y zs false h = (z ∷ zs, refl)
 
-kept_last : (zs : List ℕ) (y : ℕ) → is_space y ≡ false → Kept y (trim_front (zs ++ y ∷ []))
+kept_last : (zs : List ℕ) (y : ℕ) → is_white_space y ≡ false → Kept y (trim_front (zs ++ y ∷ []))
 kept_last [] y e = ([], rw e refl)
-kept_last (z ∷ zs) y e = kept_by z y zs (is_space z) (kept_last zs y e)
+kept_last (z ∷ zs) y e = kept_by z y zs (is_white_space z) (kept_last zs y e)
 
 last_is : (v : List ℕ) (x : ℕ) → get_or (v ++ x ∷ []) (length (v ++ x ∷ []) - 1) 0 ≡ x
 last_is v x =
@@ -105,7 +105,7 @@ back_last s (inr (x, (rest, (e, apart)))) =
     let turned : reverse s ≡ reverse rest ++ x ∷ [] = ap reverse e ∙ reverse-append (x ∷ []) rest in
     rw turned (λ h. no_space x apart (sym (last_is (reverse rest) x) ∙ h))
 
-first_of : (s : List ℕ) (y : ℕ) → is_space y ≡ false → Kept y s → get_or (reverse s) 0 0 ≢ 32
+first_of : (s : List ℕ) (y : ℕ) → is_white_space y ≡ false → Kept y s → get_or (reverse s) 0 0 ≢ 32
 first_of s y apart (w, e) =
     let turned : reverse s ≡ y ∷ reverse w = ap reverse e ∙ reverse-append w (y ∷ []) in
     rw turned (no_space y apart)
@@ -125,37 +125,37 @@ trim_ends t = (
 
 -- ---- leaves
 
-whole_ends : (n : Num) (l : Leaf) → whole_of n ≡ Some l → EndsWell (text_of l)
+whole_ends : (n : Num) (l : Leaf) → whole_leaf n ≡ Some l → EndsWell (text_of_leaf l)
 whole_ends (unsigned n) l e = let s : whole (pos n) ≡ l = cc in
-    subst (λ (x : Leaf). EndsWell (text_of x)) s (no_blank_ends (signed_decimal (pos n)) (signed_no_blank (pos n)))
+    subst (λ (x : Leaf). EndsWell (text_of_leaf x)) s (no_blank_ends (signed_decimal (pos n)) (signed_no_blank (pos n)))
 whole_ends (negative z) l e = let s : whole z ≡ l = cc in
-    subst (λ (x : Leaf). EndsWell (text_of x)) s (no_blank_ends (signed_decimal z) (signed_no_blank z))
+    subst (λ (x : Leaf). EndsWell (text_of_leaf x)) s (no_blank_ends (signed_decimal z) (signed_no_blank z))
 whole_ends (float x) l e = cc
 
-truth_ends : (b : Bool) → EndsWell (text_of (truth b))
+truth_ends : (b : Bool) → EndsWell (text_of_leaf (truth b))
 truth_ends true = ((λ e. omega (arith, e)), (λ e. omega (arith, e)))
 truth_ends false = ((λ e. omega (arith, e)), (λ e. omega (arith, e)))
 
-bare_ends : (d : Data) (l : Leaf) → bare_leaf d ≡ Some l → EndsWell (text_of l)
+bare_ends : (d : Data) (l : Leaf) → bare_leaf d ≡ Some l → EndsWell (text_of_leaf l)
 bare_ends null l e = cc
-bare_ends (boolean b) l e = let s : truth b ≡ l = cc in subst (λ (x : Leaf). EndsWell (text_of x)) s (truth_ends b)
+bare_ends (boolean b) l e = let s : truth b ≡ l = cc in subst (λ (x : Leaf). EndsWell (text_of_leaf x)) s (truth_ends b)
 bare_ends (number n) l e = whole_ends n l e
-bare_ends (string t) l e = let s : word (trim t) ≡ l = cc in subst (λ (x : Leaf). EndsWell (text_of x)) s (trim_ends t)
+bare_ends (string t) l e = let s : word (trim t) ≡ l = cc in subst (λ (x : Leaf). EndsWell (text_of_leaf x)) s (trim_ends t)
 bare_ends (array ds) l e = cc
 bare_ends (object ms) l e = cc
 
 inner_ends : (o : Option Data) (b : Bool) (l : Leaf) → (if b then option_and_then bare_leaf o else None) ≡ Some l
-    → EndsWell (text_of l)
+    → EndsWell (text_of_leaf l)
 inner_ends o false l e = cc
 inner_ends None true l e = cc
 inner_ends (Some d) true l e = bare_ends d l e
 
-among_ends : (o : Option (List (List ℕ))) (d : Data) (l : Leaf) → leaf_among o d ≡ Some l → EndsWell (text_of l)
+among_ends : (o : Option (List (List ℕ))) (d : Data) (l : Leaf) → leaf_among o d ≡ Some l → EndsWell (text_of_leaf l)
 among_ends None d l e = bare_ends d l e
 among_ends (Some names) d l e = inner_ends (child_of (codes "#text") d) (list_all is_beside names) l e
 
-leaf_ends : (d : Data) (l : Leaf) → leaf_of d ≡ Some l → EndsWell (text_of l)
-leaf_ends d l e = among_ends (names_of d) d l e
+leaf_ends : (d : Data) (l : Leaf) → leaf_of d ≡ Some l → EndsWell (text_of_leaf l)
+leaf_ends d l e = among_ends (element_names d) d l e
 
 -- ---- names
 
@@ -196,16 +196,16 @@ index_lawful s e ends =
       ends.1,
     )
 
-word_is : (d : Data) (l : Leaf) → leaf_of d ≡ Some l → word_in (Some d) ≡ text_of l
-word_is d l e = ap (λ (o : Option Leaf). unwrap_or (option_map text_of o) []) e
+word_is : (d : Data) (l : Leaf) → leaf_of d ≡ Some l → word_in (Some d) ≡ text_of_leaf l
+word_is d l e = ap (λ (o : Option Leaf). unwrap_or (option_map text_of_leaf o) []) e
 
 -- a centre that is read has a lawful name
 pub center_lawful : (d : Data) → Said CenterName d → IsLawfulName (word_in (Some d))
 center_lawful d said =
-    subst IsLawfulName (sym (word_is d said.says said.found)) (name_lawful (text_of said.says) said.valued)
+    subst IsLawfulName (sym (word_is d said.says said.found)) (name_lawful (text_of_leaf said.says) said.valued)
 
 -- an index that is read has a lawful name
 pub index_word : (d : Data) → Said IndexName d → IsLawfulIndex (word_in (Some d))
 index_word d said =
     subst IsLawfulIndex (sym (word_is d said.says said.found))
-    (index_lawful (text_of said.says) said.valued (leaf_ends d said.says said.found))
+    (index_lawful (text_of_leaf said.says) said.valued (leaf_ends d said.says said.found))

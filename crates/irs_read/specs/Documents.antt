@@ -4,7 +4,7 @@ use Rattle.irs_base.specs.declared.places.Broken.{Broken}
 use Rattle.irs_base.specs.declared.places.Rule.TheVariants.{K2, K3, K7}
 use Rattle.irs_elements.specs.Find.{values_in}
 use Rattle.irs_json.specs.Carrier.{child_of}
-use Rattle.irs_json.specs.Names.{names_of}
+use Rattle.irs_json.specs.Names.{element_names}
 use Rattle.irs_read.specs.Swaps.{SwapFault, outside}
 use Rattle.serde_json.specs.Data.{Data}
 use Rattle.serde_json.specs.View.{view}
@@ -30,7 +30,7 @@ onward (Err f) go = Err f
 -- an element on the way to the swap occurs once and is an object
 abbrev pub one_object : List Data → Way
 one_object [] = Err (outside K2 swap)
-one_object (x ∷ []) = if is_some (names_of x) then Ok x else Err (outside K3 document)
+one_object (x ∷ []) = if is_some (element_names x) then Ok x else Err (outside K3 document)
 one_object (x ∷ y ∷ rest) = Err (outside K7 document)
 
 -- the swap occurs once; its own table says what it must be
@@ -68,7 +68,7 @@ has name d = is_some (child_of name d)
 -- the way from the root to the swap
 abbrev pub the_swap : Data → Way
 the_swap d =
-    if is_some (names_of d) then by_root (has (codes "swap") d) (has (codes "trade") d)
+    if is_some (element_names d) then by_root (has (codes "swap") d) (has (codes "trade") d)
     (has (codes "dataDocument") d) d else Err (outside K3 document)
 
 -- the rules that a document breaks

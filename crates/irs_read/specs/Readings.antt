@@ -1,7 +1,7 @@
 -- What it is to read a value: its lines in the table of elements, and what it says of what is read from it. There is no
 -- value for an element that must occur and doesn't, nor for a leaf whose text has none.
 use Prim.Native.String.{String}
-use Rattle.irs_elements.specs.Find.{once, text_in, values_in}
+use Rattle.irs_elements.specs.Find.{once, leaf_text_in, values_in}
 use Rattle.irs_elements.specs.Lines.{Form, Line, leaf, line, path_above}
 use Rattle.irs_elements.specs.declared.table.Count.{Count}
 use Rattle.irs_elements.specs.declared.table.Count.TheVariants.{One, Maybe}
@@ -16,7 +16,7 @@ pub record Value (A : Type 0) : Type 1 where
   pub says : Data → A → Type 0
 
 -- members of an object: their lines, and what the object says by them
-pub record Part (S : Type 0) : Type 1 where
+pub record ReadPart (S : Type 0) : Type 1 where
   pub lines : List Line
   pub says : Data → S → Type 0
 
@@ -24,7 +24,7 @@ pub record Part (S : Type 0) : Type 1 where
 
 -- the value that the leaf's text has, if there is a leaf and it has one
 abbrev pub said : {A : Type 0} → (List ℕ → Option A) → Option Data → Option A
-said at o = option_and_then at (text_in o)
+said at o = option_and_then at (leaf_text_in o)
 
 -- a leaf of a kind: its text has the value
 abbrev pub text : {A : Type 0} → LeafKind → (List ℕ → Option A) → Value A
@@ -33,17 +33,17 @@ text kind at = record { form = leaf kind; lines = []; says = λ x a. said at (So
 -- ---- objects
 
 -- an object with these members
-abbrev pub holds : {S : Type 0} → Form → Part S → Value S
+abbrev pub holds : {S : Type 0} → Form → ReadPart S → Value S
 holds form part = record { form = form; lines = part.lines; says = part.says }
 
 infixr 30 ◌also◌
 -- these members, and more of the same object
-abbrev pub ◌also◌ : {S : Type 0} → Part S → Part S → Part S
+abbrev pub ◌also◌ : {S : Type 0} → ReadPart S → ReadPart S → ReadPart S
 p also q = record { lines = p.lines ++ q.lines; says = λ d s. p.says d s × q.says d s }
 
 infix 40 ◌gives◌
 -- what is read is a field
-abbrev pub ◌gives◌ : {A S : Type 0} → Part A → (S → A) → Part S
+abbrev pub ◌gives◌ : {A S : Type 0} → ReadPart A → (S → A) → ReadPart S
 p gives field = record { lines = p.lines; says = λ d s. p.says d (field s) }
 
 -- ---- members
@@ -55,8 +55,8 @@ inside name l =
     record { path = path; above = path_above path; form = l.form; often = l.often }
 
 -- the lines of a member with this name
-abbrev pub lines_of : {A : Type 0} → String → Count → Value A → List Line
-lines_of name often v = line name v.form often ∷ map (inside (codes name)) v.lines
+abbrev pub member_lines : {A : Type 0} → String → Count → Value A → List Line
+member_lines name often v = line name v.form often ∷ map (inside (codes name)) v.lines
 
 -- what is read from a value where there is one, and what holds of it where there is none
 abbrev pub Says : {A B : Type 0} → Option Data → (Data → A → Type 0) → (A → B) → (B → Type 0) → B → Type 0
@@ -64,28 +64,28 @@ Says None says make other b = other b
 Says (Some x) says make other b = (a : _) × ((b ≡ make a) × says x a)
 
 -- a member that occurs
-abbrev pub one : {A : Type 0} → String → Value A → Part A
+abbrev pub one : {A : Type 0} → String → Value A → ReadPart A
 one name v = record {
-  lines = lines_of name One v;
+  lines = member_lines name One v;
   says = λ d. Says (once (codes name) d) v.says (λ a. a) (λ _. ⊥);
 }
 
 -- a member that may be absent, and then there is no value
-abbrev pub maybe : {A : Type 0} → String → Value A → Part (Option A)
+abbrev pub maybe : {A : Type 0} → String → Value A → ReadPart (Option A)
 maybe name v = record {
-  lines = lines_of name Maybe v;
+  lines = member_lines name Maybe v;
   says = λ d. Says (once (codes name) d) v.says Some (λ a. a ≡ None);
 }
 
 -- a member that may be absent, and then the object has a value for it
-abbrev pub or_by : {A : Type 0} → String → Value A → (Data → A) → Part A
+abbrev pub or_by : {A : Type 0} → String → Value A → (Data → A) → ReadPart A
 or_by name v absent = record {
-  lines = lines_of name Maybe v;
+  lines = member_lines name Maybe v;
   says = λ d. Says (once (codes name) d) v.says (λ a. a) (λ a. a ≡ absent d);
 }
 
 -- a member that may be absent, and then this is its value
-abbrev pub or : {A : Type 0} → String → Value A → A → Part A
+abbrev pub or : {A : Type 0} → String → Value A → A → ReadPart A
 or name v absent = or_by name v (λ _. absent)
 
 -- each value says what is at its place of the list
@@ -96,20 +96,20 @@ EachSays says (x ∷ xs) [] = ⊥
 EachSays says (x ∷ xs) (a ∷ rest) = says x a × EachSays says xs rest
 
 -- a repeated member
-abbrev pub each : {A : Type 0} → String → Count → Value A → Part (List A)
+abbrev pub each : {A : Type 0} → String → Count → Value A → ReadPart (List A)
 each name often v = record {
-  lines = lines_of name often v;
+  lines = member_lines name often v;
   says = λ d. EachSays v.says (values_in (codes name) (Some d));
 }
 
 -- a member that no field is read from
-abbrev pub unread : {A S : Type 0} → String → Value A → Part S
-unread name v = record { lines = lines_of name One v; says = λ d s. Unit {0} }
+abbrev pub unread : {A S : Type 0} → String → Value A → ReadPart S
+unread name v = record { lines = member_lines name One v; says = λ d s. Unit {0} }
 
 -- one of two members, each of which gives the value in its way; the second is read where the first is absent
-abbrev pub either : {A B C : Type 0} → String → Value A → (A → C) → String → Value B → (B → C) → Part C
-either a v make b w build = record {
-  lines = lines_of a Maybe v ++ lines_of b Maybe w;
+abbrev pub either_member : {A B C : Type 0} → String → Value A → (A → C) → String → Value B → (B → C) → ReadPart C
+either_member a v make b w build = record {
+  lines = member_lines a Maybe v ++ member_lines b Maybe w;
   says =
       λ d. Says (once (codes a) d) v.says make (Says (once (codes b) d) w.says build (λ _. ⊥));
 }

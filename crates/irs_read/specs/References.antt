@@ -27,13 +27,13 @@ abbrev pub href_of : Data → List ℕ
 href_of d = unwrap_or (attribute (codes "@href") (Some d)) []
 
 -- the value that a search found, if any
-abbrev pub first_of : Option (Option Data) → Option Data
-first_of None = None
-first_of (Some o) = o
+abbrev pub found_value : Option (Option Data) → Option Data
+found_value None = None
+found_value (Some o) = o
 
 -- the list that has the id, where exactly one has it
 abbrev pub the_one : List ℕ → List (Option Data) → Option Data
-the_one id lists = if count_by (has_id id) lists == 1 then first_of (find (has_id id) lists) else None
+the_one id lists = if count_by (has_id id) lists == 1 then found_value (find (has_id id) lists) else None
 
 -- where a stream may have a list of centres
 abbrev pub lists_in : Data → List (Option Data)

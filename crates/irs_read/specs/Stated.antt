@@ -1,8 +1,8 @@
 -- The values inside a value, by a table of elements, and that nothing is missing among them. Required
 -- elements are present, and each leaf has a value of its kind. Each choice between members is kept, and
 -- each reference has its `@href`. So no default replaces a leaf that is present or required.
-use Rattle.irs_elements.specs.Elements.{IsMember, is_chosen, is_element, is_required, name_at}
-use Rattle.irs_elements.specs.Find.{once, text_in}
+use Rattle.irs_elements.specs.Elements.{IsMemberRow, is_chosen, is_element, is_required, name_at}
+use Rattle.irs_elements.specs.Find.{once, leaf_text_in}
 use Rattle.irs_elements.specs.Leaves.{has_value}
 use Rattle.irs_elements.specs.declared.table.Choice.{Choice}
 use Rattle.irs_elements.specs.declared.table.Choice.TheVariants.{Free, Reference}
@@ -24,7 +24,7 @@ pub data Stands (rows : List Row) (names : List (List ℕ)) (d : Data) : ℕ →
   whole : Stands rows names d 0 (Object Free) d
   -- a value of a member of an object inside d
   element : (r c j : ℕ) (choice : Choice) (row : Row) (y m x : Data) → Stands rows names d r (Object choice) y
-      → IsMember rows names r c row → is_element row.kind ≡ true
+      → IsMemberRow rows names r c row → is_element row.kind ≡ true
       → child_of (name_at names c) y ≡ Some m → slice_get (items_of m) j ≡ Some x → Stands rows names d c row.kind x
 
 -- whether a text has a value of the kind
@@ -36,11 +36,11 @@ has_said leaf (Some s) = has_value leaf s
 pub record IsStated (rows : List Row) (names : List (List ℕ)) (d : Data) : Type 0 where
   -- each required element of an object is present
   pub there : (r c : ℕ) (choice : Choice) (row : Row) (y : Data) → Stands rows names d r (Object choice) y
-      → IsMember rows names r c row → is_element row.kind ≡ true → is_required row.count ≡ true
+      → IsMemberRow rows names r c row → is_element row.kind ≡ true → is_required row.count ≡ true
       → is_some (once (name_at names c) y) ≡ true
   -- each leaf has a value of its kind
   pub said : (r : ℕ) (leaf : LeafKind) (x : Data) → Stands rows names d r (Leaf leaf) x
-      → has_said leaf (text_in (Some x)) ≡ true
+      → has_said leaf (leaf_text_in (Some x)) ≡ true
   -- if an object must have exactly one of two members, or at most one, it has
   pub chosen : (r : ℕ) (choice : Choice) (y : Data) → Stands rows names d r (Object choice) y
       → is_chosen names choice y ≡ true

@@ -5,13 +5,13 @@ use Rattle.irs_base.specs.Limits.{most_centers, most_steps}
 use Rattle.irs_base.specs.declared.rounding.Direction.TheVariants.{Nearest}
 use Rattle.irs_elements.specs.Codes.{calculation_method_at, compounding_at, convention_at, day_count_at, day_kind_at}
 use Rattle.irs_elements.specs.Codes.{direction_at, offset_unit_at, relative_at, roll_at, stub_kind_at, tenor_unit_at}
-use Rattle.irs_elements.specs.Codes.{treatment_at, truth_at, unit_at}
-use Rattle.irs_elements.specs.Dates.{day_at}
+use Rattle.irs_elements.specs.Codes.{treatment_at, truth_at, period_unit_at}
+use Rattle.irs_elements.specs.Dates.{leaf_date_at}
 use Rattle.irs_elements.specs.Find.{once}
 use Rattle.irs_elements.specs.Lines.{at_most_one, at_most_one_of_three, exactly_one, object}
 use Rattle.irs_elements.specs.Lines.{reference as reference_form}
 use Rattle.irs_elements.specs.Numbers.{multiplier_at, notional_at, observation_days_at, offset_at, precision_at}
-use Rattle.irs_elements.specs.Numbers.{rate_at}
+use Rattle.irs_elements.specs.Numbers.{leaf_rate_at}
 use Rattle.irs_elements.specs.Words.{currency_at, is_center_name, is_index_name}
 use Rattle.irs_elements.specs.declared.table.Count.TheVariants.{Maybe, OneTo, UpTo}
 use Rattle.irs_elements.specs.declared.table.Leaf.TheVariants.{CalculationMethod as MethodKind, CenterName}
@@ -23,7 +23,10 @@ use Rattle.irs_elements.specs.declared.table.Leaf.TheVariants.{ObservationDays, 
 use Rattle.irs_elements.specs.declared.table.Leaf.TheVariants.{PeriodUnit, Precision, Rate, ResetRelative, Roll}
 use Rattle.irs_elements.specs.declared.table.Leaf.TheVariants.{StubType}
 use Rattle.irs_elements.specs.declared.table.Leaf.TheVariants.{TenorUnit, Treatment as TreatmentKind, Truth}
-use Rattle.irs_read.specs.Readings.{EachSays, Part, Says, Value, each, either, holds, lines_of, maybe, one, or, or_by}
+use Rattle.irs_read.specs.Readings.{EachSays, ReadPart, Says, Value, each, either_member, holds, member_lines, maybe}
+use Rattle.irs_read.specs.Readings.{one}
+use Rattle.irs_read.specs.Readings.{or}
+use Rattle.irs_read.specs.Readings.{or_by}
 use Rattle.irs_read.specs.Readings.{text}
 use Rattle.irs_read.specs.Readings.{unread, ◌also◌, ◌gives◌}
 use Rattle.irs_read.specs.References.{has_id, href_of, lists_of, streams_in, the_one}
@@ -66,7 +69,7 @@ use Rattle.std.specs.Prelude.{◌≡◌, ℕ, Bool, false, List, [], ◌++◌, �
 
 -- a date
 abbrev pub date : Value ℤ
-date = text Date day_at
+date = text Date leaf_date_at
 
 -- a notional, in units of 10^-4
 abbrev pub notional : Value ℤ
@@ -74,7 +77,7 @@ notional = text Notional notional_at
 
 -- a rate, a spread or a multiplier, in units of 10^-9
 abbrev pub rate : Value ℤ
-rate = text Rate rate_at
+rate = text Rate leaf_rate_at
 
 -- a truth value
 abbrev pub truth : Value Bool
@@ -99,19 +102,19 @@ reference target = record {
 }
 
 -- FREQ: a number of periods
-abbrev pub frequency : Part Frequency
+abbrev pub frequency : ReadPart Frequency
 frequency =
     one "periodMultiplier" (text Multiplier multiplier_at) gives (λ (f : Frequency). f.count)
-    also one "period" (text PeriodUnit unit_at) gives (λ (f : Frequency). f.unit)
+    also one "period" (text PeriodUnit period_unit_at) gives (λ (f : Frequency). f.unit)
 
 -- the same of the tenor of an index
-abbrev pub tenor : Part Frequency
+abbrev pub tenor : ReadPart Frequency
 tenor =
     one "periodMultiplier" (text Multiplier multiplier_at) gives (λ (f : Frequency). f.count)
     also one "period" (text TenorUnit tenor_unit_at) gives (λ (f : Frequency). f.unit)
 
 -- OFF: an offset, always in days
-abbrev pub offset : Part Offset
+abbrev pub offset : ReadPart Offset
 offset =
     one "periodMultiplier" (text OffsetDays offset_at) gives (λ (o : Offset). o.days)
     also unread "period" (text OffsetUnit offset_unit_at)
@@ -122,9 +125,9 @@ abbrev pub center_list : Value (List (List ℕ))
 center_list = holds object (each "businessCenter" (OneTo most_centers) center_name)
 
 -- the centres of the list that a reference names among these lists; else of the list that stands here
-abbrev pub centers : List (Option Data) → Part Centers
+abbrev pub centers : List (Option Data) → ReadPart Centers
 centers lists = record {
-  lines = lines_of "businessCentersReference" Maybe (reference None) ++ lines_of "businessCenters" Maybe center_list;
+  lines = member_lines "businessCentersReference" Maybe (reference None) ++ member_lines "businessCenters" Maybe center_list;
   says =
       λ d. Says (once (codes "businessCentersReference") d)
       (λ r. Says (the_one (href_of r) lists) center_list.says Listed (λ c. c ≡ Dangling)) (λ c. c)
@@ -132,7 +135,7 @@ centers lists = record {
 }
 
 -- ADJ: the members of adjustments
-abbrev pub adjusting : List (Option Data) → Part Adjustments
+abbrev pub adjusting : List (Option Data) → ReadPart Adjustments
 adjusting lists =
     one "businessDayConvention" (text Convention convention_at) gives (λ (a : Adjustments). a.code)
     also centers lists gives (λ (a : Adjustments). a.centers)
@@ -158,7 +161,7 @@ step number =
     also one "stepValue" number gives (λ (s : Step). s.value))
 
 -- SCHED: a value with its steps
-abbrev pub schedule : Value ℤ → Part StepValues
+abbrev pub schedule : Value ℤ → ReadPart StepValues
 schedule number =
     one "initialValue" number gives (λ (s : StepValues). s.initial)
     also each "step" (UpTo most_steps) (step number) gives (λ (s : StepValues). s.steps)
@@ -170,7 +173,7 @@ always z = record { initial = z; steps = [] }
 -- ---- the dates of a stream
 
 -- `calculationPeriodDates`
-abbrev pub period_dates : List (Option Data) → Part Stream
+abbrev pub period_dates : List (Option Data) → ReadPart Stream
 period_dates lists =
     one "effectiveDate" (adjustable lists) gives (λ (s : Stream). s.effective)
     also one "terminationDate" (adjustable lists) gives (λ (s : Stream). s.termination)
@@ -204,9 +207,9 @@ fixing_dates lists resets =
     also or "dateRelativeTo" (reference resets) NoReference gives (λ (f : FixTerms × RefState). f.1))
 
 -- the fixing dates of resets, if they are there
-abbrev pub fixings : List (Option Data) → Part ResetTerms
+abbrev pub fixings : List (Option Data) → ReadPart ResetTerms
 fixings lists = record {
-  lines = lines_of "fixingDates" Maybe (fixing_dates lists None);
+  lines = member_lines "fixingDates" Maybe (fixing_dates lists None);
   says =
       λ d r. Says {B = Option FixTerms × RefState} (once (codes "fixingDates") d)
       (fixing_dates lists (Some d)).says
@@ -226,14 +229,14 @@ reset_dates lists dates =
 -- ---- the amounts of a stream
 
 -- an index of a rate, with its tenor
-abbrev pub indexed : Part (List ℕ × Option Frequency)
+abbrev pub indexed : ReadPart (List ℕ × Option Frequency)
 indexed =
     one "floatingRateIndex" index_name gives (λ (i : List ℕ × Option Frequency). i.0)
     also maybe "indexTenor" (holds object tenor) gives (λ (i : List ℕ × Option Frequency). i.1)
 
 -- how a rate is rounded
-abbrev pub rounded : Value Rounding
-rounded =
+abbrev pub rounding_read : Value Rounding
+rounding_read =
     holds object (one "roundingDirection" (text DirectionKind direction_at) gives (λ (r : Rounding). r.dir)
     also one "precision" (text Precision precision_at) gives (λ (r : Rounding). r.places))
 
@@ -248,10 +251,10 @@ abbrev pub observed : Value ℕ
 observed = holds object (one "offsetDays" (text ObservationDays observation_days_at))
 
 -- an observation shift, a lookback or a lockout, whichever is there
-abbrev pub observing : Part ObservationOffset
+abbrev pub observing : ReadPart ObservationOffset
 observing = record {
-  lines = lines_of "observationShift" Maybe observed ++ lines_of "lookback" Maybe observed
-      ++ lines_of "lockout" Maybe observed;
+  lines = member_lines "observationShift" Maybe observed ++ member_lines "lookback" Maybe observed
+      ++ member_lines "lockout" Maybe observed;
   says =
       λ d. Says (once (codes "observationShift") d) observed.says Shift
       (Says (once (codes "lookback") d) observed.says Lookback
@@ -274,7 +277,7 @@ floating =
     gives (λ (f : FloatTerms). f.multiplier)
     also or "spreadSchedule" (holds object (schedule rate)) (always (pos 0)) gives (λ (f : FloatTerms). f.spread)
     also maybe "initialRate" rate gives (λ (f : FloatTerms). f.initial_rate)
-    also or_by "finalRateRounding" rounded
+    also or_by "finalRateRounding" rounding_read
     (λ d. record { dir = Nearest; places = places_by (once (codes "calculationParameters") d) })
     gives (λ (f : FloatTerms). f.rounding)
     also or "negativeInterestRateTreatment" (text TreatmentKind treatment_at) AsIs
@@ -282,17 +285,17 @@ floating =
     also maybe "calculationParameters" parameters gives (λ (f : FloatTerms). f.parameters))
 
 -- a fixed or a floating leg
-abbrev pub leg : Part Leg
+abbrev pub leg : ReadPart Leg
 leg = record {
-  lines = lines_of "fixedRateSchedule" Maybe (holds object (schedule rate))
-      ++ lines_of "floatingRateCalculation" Maybe floating;
+  lines = member_lines "fixedRateSchedule" Maybe (holds object (schedule rate))
+      ++ member_lines "floatingRateCalculation" Maybe floating;
   says =
-      (either "floatingRateCalculation" floating Floating
+      (either_member "floatingRateCalculation" floating Floating
       "fixedRateSchedule" (holds object (schedule rate)) Fixed).says;
 }
 
 -- `calculation`
-abbrev pub calculation : Part Stream
+abbrev pub calculation : ReadPart Stream
 calculation =
     one "notionalSchedule" (holds object (one "notionalStepSchedule" (holds object (
     schedule notional gives (λ (s : Stream). s.notional)
@@ -306,7 +309,7 @@ calculation =
 abbrev pub stub : Value StubRate
 stub =
     holds (exactly_one "floatingRate" "stubRate")
-    (either "floatingRate" (holds object indexed) (λ (i : List ℕ × Option Frequency). Index i.0 i.1) "stubRate" rate
+    (either_member "floatingRate" (holds object indexed) (λ (i : List ℕ × Option Frequency). Index i.0 i.1) "stubRate" rate
     FixedStub)
 
 -- `stubCalculationPeriodAmount`
@@ -327,7 +330,7 @@ exchanges =
 -- ---- streams
 
 -- a stream, with the lists of centres of all streams and its own `calculationPeriodDates`
-abbrev pub stream_by : List (Option Data) → Option Data → Part Stream
+abbrev pub stream_by : List (Option Data) → Option Data → ReadPart Stream
 stream_by lists dates =
     one "calculationPeriodDates" (holds object (period_dates lists))
     also one "paymentDates" (payment_dates lists dates) gives (λ (s : Stream). s.pay)

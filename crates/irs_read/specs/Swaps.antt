@@ -7,7 +7,7 @@ use Rattle.irs_elements.specs.Elements.{FaultAt}
 use Rattle.irs_elements.specs.Find.{values_in}
 use Rattle.irs_elements.specs.declared.table.Choice.TheVariants.{Free}
 use Rattle.irs_elements.specs.declared.table.Kind.TheVariants.{Object}
-use Rattle.irs_json.specs.Names.{names_of}
+use Rattle.irs_json.specs.Names.{element_names}
 use Rattle.irs_read.specs.StreamLines.{stream_names, stream_rows, swap_names, swap_rows}
 use Rattle.irs_base.specs.Limits.{most_streams}
 use Rattle.serde_json.specs.Data.{Data}
@@ -37,4 +37,4 @@ pub data StreamsFault (ds : List Data) : Broken → Type 0 where
 -- those of a swap: its own, and where it is an object those of its streams
 abbrev pub SwapFault : Data → Broken → Type 0
 SwapFault d f = FaultAt swap_rows swap_names 0 0 (Object Free) 0 d f
-    ⊎ ((is_some (names_of d) ≡ true) × StreamsFault (values_in (codes "swapStream") (Some d)) f)
+    ⊎ ((is_some (element_names d) ≡ true) × StreamsFault (values_in (codes "swapStream") (Some d)) f)

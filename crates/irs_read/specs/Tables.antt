@@ -39,9 +39,9 @@ kind_fits rows r Refused = true
 
 -- from row r on, each row comes after its parent, and its choice is among its members. No later row of the
 -- same parent has its name
-abbrev pub is_whole : List Row → ℕ → List Row → List (List ℕ) → Bool
-is_whole all r [] [] = true
-is_whole all r (row ∷ rows) (name ∷ names) =
+abbrev pub is_whole_table : List Row → ℕ → List Row → List (List ℕ) → Bool
+is_whole_table all r [] [] = true
+is_whole_table all r (row ∷ rows) (name ∷ names) =
     nat_lt row.parent r && kind_fits all r row.kind && no_twin row.parent name (map (λ (x : Row). x.parent) rows) names
-    && is_whole all (r + 1) rows names
-is_whole all r rows names = false
+    && is_whole_table all (r + 1) rows names
+is_whole_table all r rows names = false

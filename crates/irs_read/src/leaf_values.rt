@@ -2,10 +2,10 @@
 ghost use Rattle.irs_elements.specs.Codes.{calculation_method_at, compounding_at, convention_at, day_count_at};
 ghost use Rattle.irs_elements.specs.Codes.{day_kind_at, direction_at};
 ghost use Rattle.irs_elements.specs.Codes.{relative_at, roll_at, stub_kind_at, tenor_unit_at, treatment_at, truth_at};
-ghost use Rattle.irs_elements.specs.Codes.{unit_at};
-ghost use Rattle.irs_elements.specs.Dates.{day_at};
+ghost use Rattle.irs_elements.specs.Codes.{period_unit_at};
+ghost use Rattle.irs_elements.specs.Dates.{leaf_date_at};
 ghost use Rattle.irs_elements.specs.Find.{seen};
-ghost use Rattle.irs_elements.specs.Numbers.{multiplier_at, observation_days_at, offset_at, precision_at, rate_at};
+ghost use Rattle.irs_elements.specs.Numbers.{multiplier_at, observation_days_at, offset_at, precision_at, leaf_rate_at};
 ghost use Rattle.irs_elements.specs.Words.{currency_at};
 ghost use Rattle.irs_read.specs.Private.Meaning.{day_in, number_in, relative_in, scale_at, treatment_in, truth_in};
 ghost use Rattle.irs_read.specs.Readings.{said};
@@ -45,7 +45,7 @@ pub enum Scale {
 
 /// A date.
 pub fn maybe_day(v: Option<&Value>) -> Option<Day>
-    ensures { result ≡ said day_at (seen v.entry) }
+    ensures { result ≡ said leaf_date_at (seen v.entry) }
 {
     leaf_value!(v, text => numbers::day(text.as_bytes()))
 }
@@ -80,7 +80,7 @@ pub fn precision(v: Option<&Value>) -> Option<u8>
 
 /// A rate.
 pub fn small_rate(v: Option<&Value>) -> Option<i64>
-    ensures { result ≡ said rate_at (seen v.entry) }
+    ensures { result ≡ said leaf_rate_at (seen v.entry) }
 {
     leaf_value!(v, text => numbers::small_rate(text.as_bytes()))
 }
@@ -101,7 +101,7 @@ pub fn convention(v: Option<&Value>) -> Option<ConvCode>
 
 /// `period` of a frequency.
 pub fn unit(v: Option<&Value>) -> Option<Unit>
-    ensures { result ≡ said unit_at (seen v.entry) }
+    ensures { result ≡ said period_unit_at (seen v.entry) }
 {
     leaf_value!(v, text => codes::unit(text))
 }

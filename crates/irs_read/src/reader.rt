@@ -7,7 +7,7 @@ ghost use Rattle.irs_read.specs.Documents.{DocumentFault};
 ghost use Rattle.irs_read.specs.Outcomes.{swap_of_document};
 ghost use Rattle.irs_read.specs.Reading.{Means};
 ghost use Rattle.irs_read.specs.Stated.{EachStated};
-ghost use Rattle.irs_terms.specs.Lawful.{IsLawful};
+ghost use Rattle.irs_terms.specs.Lawful.{IsLawfulSwap};
 ghost use Rattle.irs_terms.specs.declared.stream_list.Swap.{Swap as MeantSwap};
 ghost use Rattle.serde_json.specs.Data.{Data};
 ghost use Rattle.serde_json.specs.View.{view};
@@ -30,7 +30,7 @@ pub type ReadErr = Stopped<Broken>;
 /// for a document that breaks none.
 pub fn read_swap(alloc: Global, v: &Value) -> Result<Swap, ReadErr>
     ensures means { IfOk result (λ swap. Means (view v.now) swap) }
-    ensures lawful { IfOk result (λ swap. IsLawful swap) }
+    ensures lawful { IfOk result (λ swap. IsLawfulSwap swap) }
     ensures broken { IfBroken result (First is_before (DocumentFault (view v.now))) }
     // Running out of memory hides no broken rule.
     ensures memory { IfMemory result ((f : BrokenRule) → DocumentFault (view v.now) f → ⊥) }

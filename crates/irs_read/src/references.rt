@@ -1,7 +1,7 @@
 //! References by `@href`: a reference names the element that has its text as `@id`. What is in the
 //! profile are references to business centres of any stream of the swap, and to dates of the stream.
 ghost use Rattle.irs_elements.specs.Find.{member as member_of, seen};
-ghost use Rattle.irs_read.specs.References.{attribute as attribute_of, first_of, has_id as has_id_of, href_of};
+ghost use Rattle.irs_read.specs.References.{attribute as attribute_of, found_value, has_id as has_id_of, href_of};
 ghost use Rattle.irs_read.specs.References.{lists_in, lists_of, the_one};
 ghost use Rattle.irs_read.specs.Private.References.{reference_in};
 ghost use Rattle.serde_json.specs.View.{view};
@@ -69,7 +69,7 @@ fn named_count(lists: &[Option<&Value>], id: &str) -> usize
 
 // The first list with the id.
 fn first_named<'a>(lists: &[Option<&'a Value>], id: &str) -> Option<&'a Value>
-    ensures { seen result ≡ first_of (find (has_id_of id.now) (map seen lists.now)) }
+    ensures { seen result ≡ found_value (find (has_id_of id.now) (map seen lists.now)) }
 {
     for list in lists {
         if has_id(*list, id) {

@@ -7,7 +7,7 @@ ghost use Rattle.irs_elements.specs.Lines.{Line};
 ghost use Rattle.irs_read.specs.References.{list_lines, lists_in, names_on, value_on};
 ghost use Rattle.irs_read.specs.StreamLines.{stream_elements, stream_names, stream_rows, stream_table, swap_names};
 ghost use Rattle.irs_read.specs.StreamLines.{swap_rows};
-ghost use Rattle.irs_read.specs.Tables.{is_whole};
+ghost use Rattle.irs_read.specs.Tables.{is_whole_table};
 ghost use Rattle.serde_json.specs.Data.{Data};
 ghost use Rattle.std.specs.Prelude.{◌≡◌, Some, drop, map, true};
 
@@ -305,10 +305,10 @@ pub fn lists_listed()
 /// The rows of a stream fit together. Each comes after its parent, a choice is among the members of its
 /// row, and no two rows of one parent have the same name.
 pub fn rows_whole()
-    ensures { is_whole ROWS 1 (drop 1 ROWS) (drop 1 (map (λ n. n.now) NAMES)) ≡ true }
+    ensures { is_whole_table ROWS 1 (drop 1 ROWS) (drop 1 (map (λ n. n.now) NAMES)) ≡ true }
 {}
 
 /// So are the rows of a swap.
 pub fn swap_rows_whole()
-    ensures { is_whole SWAP_ROWS 1 (drop 1 SWAP_ROWS) (drop 1 (map (λ n. n.now) SWAP_NAMES)) ≡ true }
+    ensures { is_whole_table SWAP_ROWS 1 (drop 1 SWAP_ROWS) (drop 1 (map (λ n. n.now) SWAP_NAMES)) ≡ true }
 {}

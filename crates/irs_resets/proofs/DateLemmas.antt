@@ -11,12 +11,12 @@ use Rattle.irs_adjust.proofs.MoveLaws.{date_in_range, date_not_lacking, one_date
 use Rattle.irs_resets.specs.declared.dates.DateFault.{DateFault}
 use Rattle.irs_resets.specs.declared.dates.DateFault.TheVariants.{NoReset, NoFixing, OutOfRange}
 use Rattle.irs_resets.specs.ResetDates.{ResetDays, IsPeriod, base_day, ResetsOn, FixesBy, FixesOn, IsDates, FixFails}
-use Rattle.irs_resets.specs.ResetDates.{FixingFails, HasFixingFault, Fails}
+use Rattle.irs_resets.specs.ResetDates.{FixingFails, HasFixingFault, DatesFail}
 use Rattle.irs_resets.specs.Private.ResetDates.{HasDates, fault_of}
 
 -- period i has its dates, or they fail in one of the ways
 abbrev pub DatesOrFailure : ResetTerms → ResetDays → ℕ → Type 0
-DatesOrFailure t days i = HasDates t days i ⊎ ((why : DateFault) × Fails why t days i)
+DatesOrFailure t days i = HasDates t days i ⊎ ((why : DateFault) × DatesFail why t days i)
 
 -- a period has one reset date
 pub one_reset : (t : ResetTerms) (days : ResetDays) (i : ℕ) (r s : ℤ) → ResetsOn t days i r
@@ -62,7 +62,7 @@ fault_stands e t days i r f p h =
 
 -- dates that there are don't fail
 pub dates_stand : (e : DateFault) (t : ResetTerms) (days : ResetDays) (i : ℕ) (r f : ℤ) → IsDates t days i r f
-    → Fails e t days i → ⊥
+    → DatesFail e t days i → ⊥
 dates_stand NoReset t days i r f p h = h.none r p.resets
 dates_stand NoFixing t days i r f p h = fault_stands NoFixing t days i r f p h
 dates_stand OutOfRange t days i r f p h = fault_stands OutOfRange t days i r f p h
@@ -85,15 +85,15 @@ apart t days i p q =
     (subst (λ (z : ℤ). FixingFails NoFixing t.fixing days.fixing_set z) same p.fails) q.fails
 
 -- a period fails only where there is that period
-pub period_of : (t : ResetTerms) (days : ResetDays) (why : DateFault) (i : ℕ) → Fails why t days i
+pub period_of : (t : ResetTerms) (days : ResetDays) (why : DateFault) (i : ℕ) → DatesFail why t days i
     → IsPeriod days.adjusted i
 period_of t days NoReset i h = h.period
 period_of t days NoFixing i h = h.period
 period_of t days OutOfRange i h = h.period
 
 -- the dates of a period fail in one way
-pub one_way : (d e : DateFault) (t : ResetTerms) (days : ResetDays) (i : ℕ) → Fails d t days i
-    → Fails e t days i → d ≡ e
+pub one_way : (d e : DateFault) (t : ResetTerms) (days : ResetDays) (i : ℕ) → DatesFail d t days i
+    → DatesFail e t days i → d ≡ e
 one_way NoReset NoReset t days i p q = refl
 one_way NoReset NoFixing t days i p q = absurd (p.none q.reset q.resets)
 one_way NoReset OutOfRange t days i p q = absurd (p.none q.reset q.resets)

@@ -7,8 +7,8 @@ use Rattle.std.specs.Str.{bytes_eq}
 use Rattle.irs_base.proofs.DecimalLemmas.{one_decimal}
 use Rattle.std.specs.Prelude.{if◌then◌else◌}
 use Rattle.std.proofs.lemmas.Bool.Decides.{nat_tests}
-use Rattle.irs_base.specs.Fields.{is_space}
-use Rattle.irs_base.specs.Dates.{date_at, date_of_parts, pair_at}
+use Rattle.irs_base.specs.Fields.{is_space_or_tab}
+use Rattle.irs_base.specs.Dates.{date_at, date_of_parts, digit_pair}
 use Rattle.irs_terms.specs.declared.frequency.Frequency.{Frequency}
 use Rattle.irs_resets.specs.declared.store.Slot.{Slot}
 use Rattle.irs_resets.specs.Words.{word, is_passed}
@@ -21,8 +21,8 @@ use Rattle.irs_base.specs.Lines.{lines_of}
 use Rattle.irs_calendar.specs.EndLines.{seen_from, seen_lines}
 use Rattle.irs_base.specs.Order.{First}
 use Rattle.irs_resets.specs.Rates.{RateTable, rate_at, is_slot}
-use Rattle.irs_resets.specs.FixingLines.{Spells, second_text}
-use Rattle.irs_resets.specs.FixingFiles.{IsBadLine, line_at, IsLine, Fixes, IsBad, Repeats, IsFaulty, IsFirstFault}
+use Rattle.irs_resets.specs.FixingLines.{SpellsRate, second_text}
+use Rattle.irs_resets.specs.FixingFiles.{IsBadLine, line_at, IsLine, Fixes, IsBad, Repeats, IsFaulty, IsFirstFaultyLine}
 use Rattle.irs_resets.specs.FixingFiles.{IsFixingFile, StopsAt}
 use Rattle.irs_resets.specs.Private.FixingFiles.{HasNewRate, HasOldRate, ReadsLine, TakesLine}
 
@@ -37,13 +37,13 @@ pub record ReadTo (lines : List (List ℕ)) (number : ℕ) (left : List (List �
       → rate_at table index slot ≡ Some rate
 
 -- a line spells one rate
-one_rate : (line i j : List ℕ) (s t : Slot) (rate other : ℤ) → Spells line i s rate → Spells line j t other
+one_rate : (line i j : List ℕ) (s t : Slot) (rate other : ℤ) → SpellsRate line i s rate → SpellsRate line j t other
     → rate ≡ other
 one_rate line i j s t rate other a b =
     one_decimal (second_text line) 9 rate other a.rate_text.decimal b.rate_text.decimal
 
 -- a line spells one index, date and tenor
-one_place : (line i j : List ℕ) (s t : Slot) (rate other : ℤ) → Spells line i s rate → Spells line j t other
+one_place : (line i j : List ℕ) (s t : Slot) (rate other : ℤ) → SpellsRate line i s rate → SpellsRate line j t other
     → (i ≡ j) × (s ≡ t)
 one_place line i j s t rate other a b =
     let date : s.date ≡ t.date = cc (a.date, b.date) in
@@ -57,9 +57,9 @@ no_date false y m d day h = cc
 
 -- a line that is passed over spells nothing
 pub passed_none : (line index : List ℕ) (slot : Slot) (rate : ℤ) → is_passed line ≡ true
-    → Spells line index slot rate → ⊥
+    → SpellsRate line index slot rate → ⊥
 passed_none [] index slot rate passed s = let d = s.date in cc
-passed_none (b ∷ bs) index slot rate passed s = elim (cases_Bool (is_space b)) [
+passed_none (b ∷ bs) index slot rate passed s = elim (cases_Bool (is_space_or_tab b)) [
   | inl gap ↦ let d : date_at [] ≡ Some slot.date = rw gap at s.date in cc
   | inr solid ↦
       let d : date_at (b ∷ word bs) ≡ Some slot.date = rw solid at s.date in
@@ -68,9 +68,9 @@ passed_none (b ∷ bs) index slot rate passed s = elim (cases_Bool (is_space b))
       let e : date_at (35 ∷ word bs) ≡ Some slot.date = rw is at d in
       no_date (length (35 ∷ word bs) == 10
       && ((slice_index (35 ∷ word bs) 4 == 45) && (slice_index (35 ∷ word bs) 7 == 45)))
-      (pair_at (slice_index (35 ∷ word bs) 2) (slice_index (35 ∷ word bs) 3))
-      (pair_at (slice_index (35 ∷ word bs) 5) (slice_index (35 ∷ word bs) 6))
-      (pair_at (slice_index (35 ∷ word bs) 8) (slice_index (35 ∷ word bs) 9)) slot.date e
+      (digit_pair (slice_index (35 ∷ word bs) 2) (slice_index (35 ∷ word bs) 3))
+      (digit_pair (slice_index (35 ∷ word bs) 5) (slice_index (35 ∷ word bs) 6))
+      (digit_pair (slice_index (35 ∷ word bs) 8) (slice_index (35 ∷ word bs) 9)) slot.date e
 ]
   where
     hash : (c : Bool) → (c || false) ≡ true → c ≡ true
@@ -104,13 +104,13 @@ next_line lines (suc n) line more some h =
     record { is_line = (some, omega (arith, r.0)); is = rw e r.1; rest = r.2 }
 
 at_line : (lines : List (List ℕ)) (k : ℕ) (line : List ℕ) (more : List (List ℕ)) (index : List ℕ) (slot : Slot)
-    (rate : ℤ) → IsNext lines k line more → Fixes lines k index slot rate → Spells line index slot rate
-at_line lines k line more index slot rate next f = subst (λ (l : List ℕ). Spells l index slot rate) next.is f.spelt
+    (rate : ℤ) → IsNext lines k line more → Fixes lines k index slot rate → SpellsRate line index slot rate
+at_line lines k line more index slot rate next f = subst (λ (l : List ℕ). SpellsRate l index slot rate) next.is f.spelt
 
 here_line : (lines : List (List ℕ)) (k : ℕ) (line : List ℕ) (more : List (List ℕ)) (index : List ℕ) (slot : Slot)
-    (rate : ℤ) → IsNext lines k line more → Spells line index slot rate → Fixes lines k index slot rate
+    (rate : ℤ) → IsNext lines k line more → SpellsRate line index slot rate → Fixes lines k index slot rate
 here_line lines k line more index slot rate next s =
-    record { is_line = next.is_line; spelt = subst (λ (l : List ℕ). Spells l index slot rate) (sym next.is) s }
+    record { is_line = next.is_line; spelt = subst (λ (l : List ℕ). SpellsRate l index slot rate) (sym next.is) s }
 
 -- a number below the next one is below this one, or this one
 pub below : (n k : ℕ) → n < k + 1 → (n < k) ⊎ (n ≡ k)
@@ -211,7 +211,7 @@ takes lines k line more old new r taken =
     let t = taken.more in
     let adds = taken.adds in
     let next = next_line lines k line more r.some r.rest in
-    let here : (i : List ℕ) (q : Slot) (rate : ℤ) (n : ℕ) → n ≡ k → Fixes lines n i q rate → Spells line i q rate =
+    let here : (i : List ℕ) (q : Slot) (rate : ℤ) (n : ℕ) → n ≡ k → Fixes lines n i q rate → SpellsRate line i q rate =
     λ i q rate n e f.
     at_line lines k line more i q rate next (subst (λ (m : ℕ). Fixes lines m i q rate) e f) in
     record {
@@ -223,9 +223,9 @@ takes lines k line more old new r taken =
           (adds i q) h) [
             | inl put ↦
                 let p = same_place t.index i t.slot q put.0 in
-                let s : Spells line i t.slot t.rate = subst (λ (l : List ℕ). Spells line l t.slot t.rate) p.0 t.spelt in
-                let u : Spells line i q t.rate = subst (λ (x : Slot). Spells line i x t.rate) p.1 s in
-                let v : Spells line i q rate = subst (λ (z : ℤ). Spells line i q z) put.1 u in
+                let s : SpellsRate line i t.slot t.rate = subst (λ (l : List ℕ). SpellsRate line l t.slot t.rate) p.0 t.spelt in
+                let u : SpellsRate line i q t.rate = subst (λ (x : Slot). SpellsRate line i x t.rate) p.1 s in
+                let v : SpellsRate line i q rate = subst (λ (z : ℤ). SpellsRate line i q z) put.1 u in
                 (k, omega arith, here_line lines k line more i q rate next v)
             | inr kept ↦ let p = r.sound i q rate kept in (p.0, omega (arith, p.1), p.2)
           ];
@@ -281,7 +281,7 @@ first_faulty lines n here none = (here, λ k f. lt_false k n (λ less. none k le
 
 -- a line that spells no fixing is the first fault
 pub bad_first : (lines : List (List ℕ)) (k : ℕ) (line : List ℕ) (left more : List (List ℕ)) (table : RateTable)
-    → ReadTo lines k left table → left ≡ line ∷ more → IsBadLine line → IsFirstFault (IsBad lines) lines k
+    → ReadTo lines k left table → left ≡ line ∷ more → IsBadLine line → IsFirstFaultyLine (IsBad lines) lines k
 bad_first lines k line left more table r e bad =
     let next = next_line lines k line more r.some (r.rest ∙ e) in
     let fault : IsBad lines k = record { is_line = next.is_line; bad = subst IsBadLine (sym next.is) bad } in
@@ -289,7 +289,7 @@ bad_first lines k line left more table r e bad =
 
 -- a line that repeats another is the first fault
 pub repeat_first : (lines : List (List ℕ)) (k : ℕ) (line : List ℕ) (left more : List (List ℕ)) (table : RateTable)
-    → ReadTo lines k left table → left ≡ line ∷ more → HasOldRate table line → IsFirstFault (Repeats lines) lines k
+    → ReadTo lines k left table → left ≡ line ∷ more → HasOldRate table line → IsFirstFaultyLine (Repeats lines) lines k
 repeat_first lines k line left more table r e s =
     let next = next_line lines k line more r.some (r.rest ∙ e) in
     let v = some_rate (rate_at table s.index s.slot) s.there in

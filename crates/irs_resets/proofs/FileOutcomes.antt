@@ -11,7 +11,7 @@ use Rattle.irs_base.specs.Lines.{lines_of}
 use Rattle.irs_calendar.specs.EndLines.{bad_line, is_false_end, is_none, line_seen, seen_from, seen_lines}
 use Rattle.irs_base.specs.Private.Order.{IsDecided}
 use Rattle.irs_base.proofs.Firsts.{one_first, tied_last}
-use Rattle.irs_resets.specs.FixingFiles.{IsBad, IsFaulty, IsFirstFault, IsFixingFault, IsFixingFile, Repeats}
+use Rattle.irs_resets.specs.FixingFiles.{IsBad, IsFaulty, IsFirstFaultyLine, IsFixingFault, IsFixingFile, Repeats}
 use Rattle.irs_resets.specs.Private.FixingFiles.{IsSpelt}
 use Rattle.irs_resets.specs.Outcomes.{DeterminedUpTo, MeetsFile, answered, fixings_of, refused}
 use Rattle.irs_resets.specs.Private.Outcomes.{line_of}
@@ -26,7 +26,7 @@ use Rattle.irs_resets.proofs.SlotLemmas.{slot_same, slot_itself}
 
 -- ---- one outcome at most
 
-same_line : (P Q : ℕ → Type 0) (lines : List (List ℕ)) (m n : ℕ) → IsFirstFault P lines m → IsFirstFault Q lines n → m ≡ n
+same_line : (P Q : ℕ → Type 0) (lines : List (List ℕ)) (m n : ℕ) → IsFirstFaultyLine P lines m → IsFirstFaultyLine Q lines n → m ≡ n
 same_line P Q lines m n h k = one_first nat_lt tied_last (IsFaulty lines) m n h.1 k.1
 
 -- a line that spells no fixing repeats none
@@ -223,8 +223,8 @@ pub next_fault : (bytes : List ℕ) (k : ℕ) (line : List ℕ) (left more : Lis
     → MeetsFile (fixings_of bytes) (Err e)
 next_fault bytes k line left more table (Syntax n) r is h =
     let lines = seen_lines bytes in
-    subst (λ (m : ℕ). IsFirstFault (IsBad lines) lines m) (sym h.0) (bad_first lines k line left more table r is h.1)
+    subst (λ (m : ℕ). IsFirstFaultyLine (IsBad lines) lines m) (sym h.0) (bad_first lines k line left more table r is h.1)
 next_fault bytes k line left more table (Repeat n) r is h =
     let lines = seen_lines bytes in
-    subst (λ (m : ℕ). IsFirstFault (Repeats lines) lines m) (sym h.0) (repeat_first lines k line left more table r is h.1)
+    subst (λ (m : ℕ). IsFirstFaultyLine (Repeats lines) lines m) (sym h.0) (repeat_first lines k line left more table r is h.1)
 next_fault bytes k line left more table Memory r is h = tt

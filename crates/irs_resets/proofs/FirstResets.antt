@@ -14,9 +14,10 @@ use Rattle.irs_terms.specs.declared.stream.Stream.{Stream}
 use Rattle.irs_terms.specs.declared.results.Span.{Span}
 use Rattle.irs_resets.specs.declared.dates.DateFault.{DateFault}
 use Rattle.irs_resets.specs.declared.dates.DateFault.TheVariants.{NoReset, NoFixing, OutOfRange}
-use Rattle.irs_resets.specs.ResetDates.{ResetDays, Fails}
+use Rattle.irs_resets.specs.ResetDates.{ResetDays, DatesFail}
 use Rattle.irs_resets.specs.Resets.{ResetSource}
-use Rattle.irs_resets.specs.ResetRules.{InitialUnmet, FinalUnmet, BreaksStubs, date_fault, BreaksDates, BreaksDatesIn}
+use Rattle.irs_resets.specs.ResetRules.{InitialUnmet, FinalUnmet, BreaksStubs, date_fault, BreaksResetDates}
+use Rattle.irs_resets.specs.ResetRules.{BreaksDatesIn}
 use Rattle.irs_resets.specs.ResetRules.{BreaksResets}
 
 -- ---- dates
@@ -54,22 +55,22 @@ same_rank OutOfRange OutOfRange h = refl
 module _ (t : ResetTerms) (days : ResetDays) where
   -- no dates fail in this way
   abbrev pub NoneFails : DateFault → Type 0
-  NoneFails why = (i : ℕ) → Fails why t days i → ⊥
+  NoneFails why = (i : ℕ) → DatesFail why t days i → ⊥
 
-  not_earlier : (d : DateFault) (i : ℕ) → First nat_lt (Fails d t days) i
-      → ((e : DateFault) → rank e < rank d → NoneFails e) → (e : DateFault) (j : ℕ) → Fails e t days j
+  not_earlier : (d : DateFault) (i : ℕ) → First nat_lt (DatesFail d t days) i
+      → ((e : DateFault) → rank e < rank d → NoneFails e) → (e : DateFault) (j : ℕ) → DatesFail e t days j
       → level (rank e) (rank d) (nat_lt j i) ≡ false
   not_earlier d i first earlier e j fails = elim (cases_order (rank e) (rank d)) [
     | inl same ↦
         level_same (rank e) (rank d) (nat_lt j i) same
-        (first.1 j (subst (λ (w : DateFault). Fails w t days j) (same_rank e d same) fails))
+        (first.1 j (subst (λ (w : DateFault). DatesFail w t days j) (same_rank e d same) fails))
     | inr (inl less) ↦ absurd (earlier e less j fails)
     | inr (inr more) ↦ level_later (rank e) (rank d) (nat_lt j i) more
   ]
 
   -- where no dates fail in an earlier way, the first that fail so break the first rule
   first_date : (d : DateFault) (i : ℕ) → ((e : DateFault) → rank e < rank d → NoneFails e)
-      → First nat_lt (Fails d t days) i → First comes_before (BreaksDates t days) (date_fault d i)
+      → First nat_lt (DatesFail d t days) i → First comes_before (BreaksResetDates t days) (date_fault d i)
   first_date d i earlier first = (
     record { number = i; why = d; fails = first.0; is = refl },
     λ g b.
@@ -89,18 +90,18 @@ module _ (t : ResetTerms) (days : ResetDays) where
   before_range resets fixings OutOfRange low = absurd (omega (arith, low))
 
   -- the first period without a reset date is the first fault
-  pub first_reset : (i : ℕ) → First nat_lt (Fails NoReset t days) i
-      → First comes_before (BreaksDates t days) (date_fault NoReset i)
+  pub first_reset : (i : ℕ) → First nat_lt (DatesFail NoReset t days) i
+      → First comes_before (BreaksResetDates t days) (date_fault NoReset i)
   first_reset i = first_date NoReset i (λ e low. absurd (omega (arith, low)))
 
   -- else the first without a fixing date is
-  pub first_fixing : (i : ℕ) → NoneFails NoReset → First nat_lt (Fails NoFixing t days) i
-      → First comes_before (BreaksDates t days) (date_fault NoFixing i)
+  pub first_fixing : (i : ℕ) → NoneFails NoReset → First nat_lt (DatesFail NoFixing t days) i
+      → First comes_before (BreaksResetDates t days) (date_fault NoFixing i)
   first_fixing i resets = first_date NoFixing i (before_fixing resets)
 
   -- else the first whose fixing date leaves the range is
-  pub first_range : (i : ℕ) → NoneFails NoReset → NoneFails NoFixing → First nat_lt (Fails OutOfRange t days) i
-      → First comes_before (BreaksDates t days) (date_fault OutOfRange i)
+  pub first_range : (i : ℕ) → NoneFails NoReset → NoneFails NoFixing → First nat_lt (DatesFail OutOfRange t days) i
+      → First comes_before (BreaksResetDates t days) (date_fault OutOfRange i)
   first_range i resets fixings = first_date OutOfRange i (before_range resets fixings)
 
   none_by : NoneFails NoReset → NoneFails NoFixing → NoneFails OutOfRange → (why : DateFault) → NoneFails why
@@ -110,11 +111,11 @@ module _ (t : ResetTerms) (days : ResetDays) where
 
   -- dates that fail in no way break no rule
   pub dates_unbroken : NoneFails NoReset → NoneFails NoFixing → NoneFails OutOfRange → (f : Fault)
-      → BreaksDates t days f → ⊥
+      → BreaksResetDates t days f → ⊥
   dates_unbroken resets fixings ranges f b = none_by resets fixings ranges b.why b.number b.fails
 
   -- and the other way round
-  pub none_fails : ((f : Fault) → BreaksDates t days f → ⊥) → (why : DateFault) → NoneFails why
+  pub none_fails : ((f : Fault) → BreaksResetDates t days f → ⊥) → (why : DateFault) → NoneFails why
   none_fails none why i fails = none (date_fault why i) (record { number = i; why = why; fails = fails; is = refl })
 
 -- ---- stubs
@@ -190,6 +191,6 @@ module _ (source : ResetSource) where
 
 -- the rules by the terms that the stream has
 pub first_in : (t : ResetTerms) (reset : Option ResetTerms) (days : ResetDays) (answer : Option Fault) → reset ≡ Some t
-    → IsFirst comes_before (BreaksDates t days) answer → IsFirst comes_before (BreaksDatesIn reset days) answer
+    → IsFirst comes_before (BreaksResetDates t days) answer → IsFirst comes_before (BreaksDatesIn reset days) answer
 first_in t reset days answer e first =
     subst (λ (o : Option ResetTerms). IsFirst comes_before (BreaksDatesIn o days) answer) (sym e) first

@@ -10,7 +10,7 @@ use Rattle.irs_terms.specs.FirstDay.{first_day_of}
 use Rattle.irs_resets.specs.declared.observed.PeriodKind.{PeriodKind}
 use Rattle.irs_resets.specs.declared.observed.PeriodKind.TheVariants.{InitialStub, FinalStub, FirstRegular}
 use Rattle.irs_resets.specs.declared.observed.PeriodKind.TheVariants.{LaterRegular}
-use Rattle.irs_resets.specs.ObservedRates.{IsInitial, IsFinal, FollowsStub, IsFirstRegular, IsKind}
+use Rattle.irs_resets.specs.ObservedRates.{IsInitialStub, IsFinal, FollowsStub, IsFirstRegular, IsPeriodKind}
 
 -- whether a number is less is decided
 pub decides_less : (a b : ℤ) → IsDecided (a <ℤ b)
@@ -30,7 +30,7 @@ decides_both A B (inl a) (inr not) = inr (λ h. not h.1)
 decides_both A B (inr not) b = inr (λ h. not h.0)
 
 module _ (s : Stream) (span : Span) (n i : ℕ) where
-  decides_initial : IsDecided (IsInitial s span i)
+  decides_initial : IsDecided (IsInitialStub s span i)
   decides_initial =
       decides_both (first_day_of s <ℤ span.first) (i ≡ 1) (decides_less (first_day_of s) span.first) (cases_eq i 1)
 
@@ -50,19 +50,19 @@ module _ (s : Stream) (span : Span) (n i : ℕ) where
       decides_both (span.first <ℤ span.last) (FollowsStub s span i) (decides_less span.first span.last)
       (follows_by (decides_less (first_day_of s) span.first) (cases_eq i 1) (cases_eq i 2))
 
-  kind_by : IsDecided (IsInitial s span i) → IsDecided (IsFinal s span n i) → IsDecided (IsFirstRegular s span i)
-      → (k : PeriodKind) × IsKind s span n i k
+  kind_by : IsDecided (IsInitialStub s span i) → IsDecided (IsFinal s span n i) → IsDecided (IsFirstRegular s span i)
+      → (k : PeriodKind) × IsPeriodKind s span n i k
   kind_by (inl initial) final first = (InitialStub, initial)
   kind_by (inr no_initial) (inl final) first = (FinalStub, (no_initial, final))
   kind_by (inr no_initial) (inr no_final) (inl first) = (FirstRegular, (no_initial, no_final, first))
   kind_by (inr no_initial) (inr no_final) (inr no_first) = (LaterRegular, (no_initial, no_final, no_first))
 
   -- a period is of some kind
-  pub kind_there : (k : PeriodKind) × IsKind s span n i k
+  pub kind_there : (k : PeriodKind) × IsPeriodKind s span n i k
   kind_there = kind_by decides_initial decides_final decides_first
 
   -- and of no other
-  pub one_kind : (k l : PeriodKind) → IsKind s span n i k → IsKind s span n i l → k ≡ l
+  pub one_kind : (k l : PeriodKind) → IsPeriodKind s span n i k → IsPeriodKind s span n i l → k ≡ l
   one_kind InitialStub InitialStub p q = refl
   one_kind InitialStub FinalStub p q = absurd (q.0 p)
   one_kind InitialStub FirstRegular p q = absurd (q.0 p)

@@ -8,12 +8,12 @@ use Rattle.irs_terms.specs.declared.amounts.FloatTerms.{FloatTerms}
 use Rattle.irs_terms.specs.declared.dates.ResetTerms.{ResetTerms}
 use Rattle.irs_terms.specs.declared.results.Reset.{Reset}
 use Rattle.irs_resets.specs.Rates.{RateTable}
-use Rattle.irs_resets.specs.ResetRules.{BreaksDates, BreaksDatesIn, BreaksResets, BreaksStubs}
+use Rattle.irs_resets.specs.ResetRules.{BreaksResetDates, BreaksDatesIn, BreaksResets, BreaksStubs}
 use Rattle.irs_resets.specs.Resets.{HasResets, IsReset, ResetSource}
 use Rattle.irs_resets.proofs.DateLemmas.{dates_stand, period_of}
 
 dates_kept : (source : ResetSource) (float : FloatTerms) (t : ResetTerms) (rates : RateTable) (rows : List Reset)
-    → HasResets source float t rates rows → (f : Fault) → BreaksDates t source.days f → ⊥
+    → HasResets source float t rates rows → (f : Fault) → BreaksResetDates t source.days f → ⊥
 dates_kept source float t rates rows h f b =
     let p = period_of t source.days b.why b.number b.fails in
     let few : b.number < 1 + length rows = omega (arith, p.0, p.1, h.many) in

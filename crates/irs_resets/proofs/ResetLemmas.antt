@@ -5,13 +5,13 @@ use Rattle.irs_terms.specs.declared.amounts.Leg.TheVariants.{Fixed, Floating}
 use Rattle.irs_terms.specs.declared.dates.ResetTerms.{ResetTerms}
 use Rattle.irs_terms.specs.declared.results.Reset.{Reset}
 use Rattle.irs_resets.specs.Rates.{RateTable}
-use Rattle.irs_resets.specs.Resets.{ResetSource, count_of, IsResetsOf, IsResets}
+use Rattle.irs_resets.specs.Resets.{ResetSource, source_period_count, IsResetsOf, IsResets}
 
 module _ (source : ResetSource) (rates : RateTable) (rows : List Reset) where
   -- the number of resets by the leg: one for each period where it floats, none where it is fixed
   abbrev pub many_by : Leg → ℕ
   many_by (Fixed values) = 0
-  many_by (Floating float) = count_of source
+  many_by (Floating float) = source_period_count source
 
   many_in : (leg : Leg) (reset : Option ResetTerms) → IsResetsOf leg reset source rates rows → length rows ≡ many_by leg
   many_in (Fixed values) reset has = ap length has

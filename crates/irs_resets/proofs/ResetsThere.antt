@@ -29,10 +29,10 @@ use Rattle.irs_adjust.proofs.FoundDays.{InRange, IsFound, decides_adjusts, adjus
 use Rattle.irs_adjust.proofs.MoveLaws.{DateOrFailure, date_or_failure}
 use Rattle.irs_resets.specs.declared.dates.DateFault.{DateFault}
 use Rattle.irs_resets.specs.declared.dates.DateFault.TheVariants.{NoReset, NoFixing, OutOfRange}
-use Rattle.irs_resets.specs.ResetDates.{ResetDays, IsPeriod, base_day, ResetsOn, FixesOn, FixingFails, Fails}
+use Rattle.irs_resets.specs.ResetDates.{ResetDays, IsPeriod, base_day, ResetsOn, FixesOn, FixingFails, DatesFail}
 use Rattle.irs_resets.specs.Private.ResetDates.{HasDates}
 use Rattle.irs_resets.specs.ResetRules.{GivesInitial, GivesFinal, InitialUnmet, FinalUnmet, BreaksStubs, date_fault}
-use Rattle.irs_resets.specs.ResetRules.{BreaksDates, BreaksDatesIn, BreaksResets}
+use Rattle.irs_resets.specs.ResetRules.{BreaksResetDates, BreaksDatesIn, BreaksResets}
 use Rattle.irs_resets.specs.Rates.{RateTable}
 use Rattle.irs_resets.specs.Resets.{ResetSource, IsResetsOf, IsResets}
 use Rattle.irs_resets.proofs.DateLemmas.{dates_stand, one_way, period_of, DatesOrFailure}
@@ -76,7 +76,7 @@ pub record InDays (days : ResetDays) : Type 0 where
 
 module _ (t : ResetTerms) (days : ResetDays) where
   fails_by : (e : DateFault) (i : ℕ) (r : ℤ) → IsPeriod days.adjusted i → ResetsOn t days i r
-      → FixingFails e t.fixing days.fixing_set r → Fails e t days i
+      → FixingFails e t.fixing days.fixing_set r → DatesFail e t days i
   fails_by NoReset i r period resets fails = absurd (no_reset_fault t.fixing days.fixing_set r fails)
   fails_by NoFixing i r period resets fails = record { period = period; reset = r; resets = resets; fails = fails }
   fails_by OutOfRange i r period resets fails = record { period = period; reset = r; resets = resets; fails = fails }
@@ -135,44 +135,44 @@ abbrev pub BrokenOrNone : (Fault → Type 0) → Type 0
 BrokenOrNone Breaks = ((f : Fault) × First comes_before Breaks f) ⊎ ((f : Fault) → Breaks f → ⊥)
 
 module _ (t : ResetTerms) (days : ResetDays) (said : IsSaidFixing t.fixing) (range : InDays days) where
-  by_failure : (why : DateFault) (i : ℕ) (found : DateFault) → Fails found t days i
-      → (rank found ≡ rank why) ⊎ (rank found ≡ rank why → ⊥) → IsDecided (Fails why t days i)
+  by_failure : (why : DateFault) (i : ℕ) (found : DateFault) → DatesFail found t days i
+      → (rank found ≡ rank why) ⊎ (rank found ≡ rank why → ⊥) → IsDecided (DatesFail why t days i)
   by_failure why i found fails (inl same) =
-      inl (subst (λ (e : DateFault). Fails e t days i) (same_rank found why same) fails)
+      inl (subst (λ (e : DateFault). DatesFail e t days i) (same_rank found why same) fails)
   by_failure why i found fails (inr other) = inr (λ h. other (ap rank (one_way found why t days i fails h)))
 
-  fails_by_dates : (why : DateFault) (i : ℕ) → DatesOrFailure t days i → IsDecided (Fails why t days i)
+  fails_by_dates : (why : DateFault) (i : ℕ) → DatesOrFailure t days i → IsDecided (DatesFail why t days i)
   fails_by_dates why i (inl has) = inr (λ h. dates_stand why t days i has.0 has.1 has.2 h)
   fails_by_dates why i (inr fault) = by_failure why i fault.0 fault.1 (cases_eq (rank fault.0) (rank why))
 
-  decides_fails : (why : DateFault) (i : ℕ) → i < length days.adjusted → IsDecided (Fails why t days i)
+  decides_fails : (why : DateFault) (i : ℕ) → i < length days.adjusted → IsDecided (DatesFail why t days i)
   decides_fails why zero below = inr (λ h. let period = (period_of t days why zero h).0 in omega (arith, period))
   decides_fails why (suc i) below =
       fails_by_dates why (suc i) (decides_dates t days said range (suc i) (omega arith, below))
 
-  first_failure : (why : DateFault) → FirstOrNone (Fails why t days)
+  first_failure : (why : DateFault) → FirstOrNone (DatesFail why t days)
   first_failure why =
-      first_of (Fails why t days) (length days.adjusted) (λ i h. (period_of t days why i h).1) (decides_fails why)
+      first_of (DatesFail why t days) (length days.adjusted) (λ i h. (period_of t days why i h).1) (decides_fails why)
 
-  by_range : NoneFails t days NoReset → NoneFails t days NoFixing → FirstOrNone (Fails OutOfRange t days)
-      → BrokenOrNone (BreaksDates t days)
+  by_range : NoneFails t days NoReset → NoneFails t days NoFixing → FirstOrNone (DatesFail OutOfRange t days)
+      → BrokenOrNone (BreaksResetDates t days)
   by_range resets fixings (inl found) =
       inl (date_fault OutOfRange found.0, first_range t days found.0 resets fixings found.1)
   by_range resets fixings (inr none) = inr (dates_unbroken t days resets fixings none)
 
-  by_fixing : NoneFails t days NoReset → FirstOrNone (Fails NoFixing t days) → BrokenOrNone (BreaksDates t days)
+  by_fixing : NoneFails t days NoReset → FirstOrNone (DatesFail NoFixing t days) → BrokenOrNone (BreaksResetDates t days)
   by_fixing resets (inl found) = inl (date_fault NoFixing found.0, first_fixing t days found.0 resets found.1)
   by_fixing resets (inr none) = by_range resets none (first_failure OutOfRange)
 
-  by_reset : FirstOrNone (Fails NoReset t days) → BrokenOrNone (BreaksDates t days)
+  by_reset : FirstOrNone (DatesFail NoReset t days) → BrokenOrNone (BreaksResetDates t days)
   by_reset (inl found) = inl (date_fault NoReset found.0, first_reset t days found.0 found.1)
   by_reset (inr none) = by_fixing none (first_failure NoFixing)
 
-  dates_decided : BrokenOrNone (BreaksDates t days)
+  dates_decided : BrokenOrNone (BreaksResetDates t days)
   dates_decided = by_reset (first_failure NoReset)
 
   -- where no rule of dates is broken every period has its dates
-  dates_there : ((f : Fault) → BreaksDates t days f → ⊥) → (i : ℕ) → IsPeriod days.adjusted i → HasDates t days i
+  dates_there : ((f : Fault) → BreaksResetDates t days f → ⊥) → (i : ℕ) → IsPeriod days.adjusted i → HasDates t days i
   dates_there none i period =
       let fails = none_fails t days none in
       has_dates t days i (decides_dates t days said range i period) (fails NoReset i) (fails NoFixing i)

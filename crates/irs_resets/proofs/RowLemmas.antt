@@ -13,12 +13,12 @@ use Rattle.irs_terms.specs.declared.amounts.Leg.TheVariants.{Fixed, Floating}
 use Rattle.irs_terms.specs.declared.results.Reset.{Reset}
 use Rattle.irs_resets.specs.declared.dates.DateFault.{DateFault}
 use Rattle.irs_resets.specs.declared.dates.DateFault.TheVariants.{NoReset, NoFixing, OutOfRange}
-use Rattle.irs_resets.specs.ResetDates.{ResetDays, IsPeriod, Fails}
+use Rattle.irs_resets.specs.ResetDates.{ResetDays, IsPeriod, DatesFail}
 use Rattle.irs_resets.specs.Private.ResetDates.{HasDates}
 use Rattle.irs_resets.specs.ObservedRates.{IsObserved}
 use Rattle.irs_resets.specs.Private.ObservedRates.{observed_rate}
 use Rattle.irs_resets.specs.Rates.{RateTable, rate_at}
-use Rattle.irs_resets.specs.Resets.{ResetSource, count_of, IsReset, HasResets, IsResetsOf, IsResets}
+use Rattle.irs_resets.specs.Resets.{ResetSource, source_period_count, IsReset, HasResets, IsResetsOf, IsResets}
 use Rattle.irs_resets.specs.declared.observed.PeriodKind.{PeriodKind}
 use Rattle.irs_resets.specs.declared.store.Slot.{Slot}
 use Rattle.irs_resets.proofs.DateLemmas.{one_dates, DatesOrFailure}
@@ -36,7 +36,7 @@ module _ (source : ResetSource) (rates : RateTable) where
     one_row i x y p q =
         let same = one_dates t source.days i x.reset x.fixing y.reset y.fixing p.dates q.dates in
         let kinds : p.kind ≡ q.kind =
-        one_kind source.stream source.span (count_of source) i p.kind q.kind p.is_kind q.is_kind in
+        one_kind source.stream source.span (source_period_count source) i p.kind q.kind p.is_kind q.is_kind in
         let by_kind : IsObserved q.kind f source.stream.stubs rates x.fixing x.observed =
         subst (λ (k : PeriodKind). IsObserved k f source.stream.stubs rates x.fixing x.observed) kinds p.observed in
         let by_day : IsObserved q.kind f source.stream.stubs rates y.fixing x.observed =
@@ -53,9 +53,9 @@ module _ (source : ResetSource) (rates : RateTable) where
     pub some_resets : ((i : ℕ) → IsPeriod source.days.adjusted i → HasDates t source.days i)
         → (rows : List Reset) × HasResets source f t rates rows
     some_resets h =
-        let row : (k : ℕ) → 1 ≤ k → k < 1 + count_of source → (r : Reset) × IsReset source f t rates k r = λ k low high.
+        let row : (k : ℕ) → 1 ≤ k → k < 1 + source_period_count source → (r : Reset) × IsReset source f t rates k r = λ k low high.
         let d = h k (low, omega (arith, low, high)) in
-        let kind = kind_there source.stream source.span (count_of source) k in (
+        let kind = kind_there source.stream source.span (source_period_count source) k in (
           record { reset = d.0; fixing = d.1; observed = observed_rate kind.0 f source.stream.stubs rates d.1 },
           record {
             dates = d.2;
@@ -65,7 +65,7 @@ module _ (source : ResetSource) (rates : RateTable) where
                 is_observed f kind.0 source.stream.stubs rates d.1;
           },
         ) in
-        let l = numbered_there (IsReset source f t rates) (count_of source) 1 row in
+        let l = numbered_there (IsReset source f t rates) (source_period_count source) 1 row in
         (l.0, record { many = l.1; each = l.2 })
 
   one_of : (leg : Leg) (reset : Option ResetTerms) (xs ys : List Reset) → IsResetsOf leg reset source rates xs
@@ -117,15 +117,15 @@ module _ (source : ResetSource) (u v : RateTable) (same : (index : List ℕ) (sl
   resets_same rows h = same_of source.stream.leg source.stream.reset rows h
 
 -- dates that fail in no way are there
-none_fails : (t : ResetTerms) (days : ResetDays) (i : ℕ) → (Fails NoReset t days i → ⊥) → (Fails NoFixing t days i → ⊥)
-    → (Fails OutOfRange t days i → ⊥) → (why : DateFault) → Fails why t days i → ⊥
+none_fails : (t : ResetTerms) (days : ResetDays) (i : ℕ) → (DatesFail NoReset t days i → ⊥) → (DatesFail NoFixing t days i → ⊥)
+    → (DatesFail OutOfRange t days i → ⊥) → (why : DateFault) → DatesFail why t days i → ⊥
 none_fails t days i p q r NoReset h = p h
 none_fails t days i p q r NoFixing h = q h
 none_fails t days i p q r OutOfRange h = r h
 
 -- a period that fails in no way has its dates
 pub has_dates : (t : ResetTerms) (days : ResetDays) (i : ℕ) → DatesOrFailure t days i
-    → (Fails NoReset t days i → ⊥) → (Fails NoFixing t days i → ⊥) → (Fails OutOfRange t days i → ⊥) → HasDates t days i
+    → (DatesFail NoReset t days i → ⊥) → (DatesFail NoFixing t days i → ⊥) → (DatesFail OutOfRange t days i → ⊥) → HasDates t days i
 has_dates t days i (inl h) p q r = h
 has_dates t days i (inr h) p q r = absurd (none_fails t days i p q r h.0 h.1)
 

@@ -8,13 +8,13 @@ use Rattle.irs_resets.specs.declared.fixings.FixErr.{FixErr}
 use Rattle.irs_resets.specs.declared.fixings.FixErr.TheVariants.{Syntax, Repeat, Memory}
 use Rattle.irs_resets.specs.declared.store.Slot.{Slot}
 use Rattle.irs_resets.specs.Words.{is_passed}
-use Rattle.irs_resets.specs.FixingLines.{Spells}
+use Rattle.irs_resets.specs.FixingLines.{SpellsRate}
 use Rattle.irs_resets.specs.Rates.{RateTable, rate_at}
 
 -- the line isn't ignored and spells no fixing
 pub record IsBadLine (line : List ℕ) : Type 0 where
   pub not_passed : is_passed line ≡ false
-  pub spells_none : (index : List ℕ) (slot : Slot) (rate : ℤ) → Spells line index slot rate → ⊥
+  pub spells_none : (index : List ℕ) (slot : Slot) (rate : ℤ) → SpellsRate line index slot rate → ⊥
 
 -- the line with that number
 abbrev pub line_at : List (List ℕ) → ℕ → List ℕ
@@ -27,7 +27,7 @@ IsLine lines n = (1 ≤ n) × (n ≤ length lines)
 -- the line n gives that rate
 pub record Fixes (lines : List (List ℕ)) (n : ℕ) (index : List ℕ) (slot : Slot) (rate : ℤ) : Type 0 where
   pub is_line : IsLine lines n
-  pub spelt : Spells (line_at lines n) index slot rate
+  pub spelt : SpellsRate (line_at lines n) index slot rate
 
 -- the line n isn't ignored and spells no fixing
 pub record IsBad (lines : List (List ℕ)) (n : ℕ) : Type 0 where
@@ -50,8 +50,8 @@ abbrev pub IsFaulty : List (List ℕ) → ℕ → Type 0
 IsFaulty lines n = IsBad lines n ⊎ Repeats lines n
 
 -- the line n is at fault in this way, and it is the first line that is at fault in any
-abbrev pub IsFirstFault : (ℕ → Type 0) → List (List ℕ) → ℕ → Type 0
-IsFirstFault P lines n = P n × First nat_lt (IsFaulty lines) n
+abbrev pub IsFirstFaultyLine : (ℕ → Type 0) → List (List ℕ) → ℕ → Type 0
+IsFirstFaultyLine P lines n = P n × First nat_lt (IsFaulty lines) n
 
 -- no line is at fault, and the rates are exactly those that the lines give
 pub record IsFixingFile (bytes : List ℕ) (table : RateTable) : Type 0 where
@@ -61,8 +61,8 @@ pub record IsFixingFile (bytes : List ℕ) (table : RateTable) : Type 0 where
 
 -- the first line at fault, and how it is
 abbrev pub IsFixingFault : List ℕ → FixErr → Type 0
-IsFixingFault bytes (Syntax n) = IsFirstFault (IsBad (seen_lines bytes)) (seen_lines bytes) n
-IsFixingFault bytes (Repeat n) = IsFirstFault (Repeats (seen_lines bytes)) (seen_lines bytes) n
+IsFixingFault bytes (Syntax n) = IsFirstFaultyLine (IsBad (seen_lines bytes)) (seen_lines bytes) n
+IsFixingFault bytes (Repeat n) = IsFirstFaultyLine (Repeats (seen_lines bytes)) (seen_lines bytes) n
 IsFixingFault bytes Memory = ⊥
 
 -- reading may stop at a line that gives a rate, where neither it nor an earlier line is at fault

@@ -36,7 +36,7 @@ abbrev pub rest_text : List ℕ → List ℕ
 rest_text line = trimmed (behind_gap (behind_gap (behind_gap line)))
 
 -- the line gives the rate of an index at a date and tenor
-pub record Spells (line index : List ℕ) (slot : Slot) (rate : ℤ) : Type 0 where
+pub record SpellsRate (line index : List ℕ) (slot : Slot) (rate : ℤ) : Type 0 where
   pub date : date_at (first_text line) ≡ Some slot.date
   pub rate_text : IsRateText (second_text line) rate
   pub tenor : tenor_at (third_text line) ≡ Some slot.tenor

@@ -16,8 +16,8 @@ use Rattle.irs_resets.specs.Rates.{RateTable, rate_at}
 -- ---- what a period is
 
 -- period i is the initial stub: the first one, where it begins before the regular span
-abbrev pub IsInitial : Stream → Span → ℕ → Type 0
-IsInitial s span i = (first_day_of s <ℤ span.first) × (i ≡ 1)
+abbrev pub IsInitialStub : Stream → Span → ℕ → Type 0
+IsInitialStub s span i = (first_day_of s <ℤ span.first) × (i ≡ 1)
 
 -- period i of n is the final stub: the last one, where it ends after the regular span
 abbrev pub IsFinal : Stream → Span → ℕ → ℕ → Type 0
@@ -32,11 +32,11 @@ abbrev pub IsFirstRegular : Stream → Span → ℕ → Type 0
 IsFirstRegular s span i = (span.first <ℤ span.last) × FollowsStub s span i
 
 -- what period i of n is: a stub before all else
-abbrev pub IsKind : Stream → Span → ℕ → ℕ → PeriodKind → Type 0
-IsKind s span n i InitialStub = IsInitial s span i
-IsKind s span n i FinalStub = (IsInitial s span i → ⊥) × IsFinal s span n i
-IsKind s span n i FirstRegular = (IsInitial s span i → ⊥) × (IsFinal s span n i → ⊥) × IsFirstRegular s span i
-IsKind s span n i LaterRegular = (IsInitial s span i → ⊥) × (IsFinal s span n i → ⊥) × (IsFirstRegular s span i → ⊥)
+abbrev pub IsPeriodKind : Stream → Span → ℕ → ℕ → PeriodKind → Type 0
+IsPeriodKind s span n i InitialStub = IsInitialStub s span i
+IsPeriodKind s span n i FinalStub = (IsInitialStub s span i → ⊥) × IsFinal s span n i
+IsPeriodKind s span n i FirstRegular = (IsInitialStub s span i → ⊥) × (IsFinal s span n i → ⊥) × IsFirstRegular s span i
+IsPeriodKind s span n i LaterRegular = (IsInitialStub s span i → ⊥) × (IsFinal s span n i → ⊥) × (IsFirstRegular s span i → ⊥)
 
 -- ---- where its rate comes from
 

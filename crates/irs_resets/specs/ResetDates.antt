@@ -19,8 +19,8 @@ pub record ResetDays : Type 0 where
   pub fixing_set : DaySet
 
 -- the same from its parts
-abbrev pub days_by : List ℤ → DaySet → DaySet → ResetDays
-days_by adjusted reset_set fixing_set = record { adjusted = adjusted; reset_set = reset_set; fixing_set = fixing_set }
+abbrev pub reset_days_by : List ℤ → DaySet → DaySet → ResetDays
+reset_days_by adjusted reset_set fixing_set = record { adjusted = adjusted; reset_set = reset_set; fixing_set = fixing_set }
 
 -- the number of a period between the boundaries a
 abbrev pub IsPeriod : List ℤ → ℕ → Type 0
@@ -74,7 +74,7 @@ pub record HasFixingFault (why : DateFault) (t : ResetTerms) (days : ResetDays) 
   pub fails : FixingFails why t.fixing days.fixing_set reset
 
 -- the dates of period i fail in this way
-abbrev pub Fails : DateFault → ResetTerms → ResetDays → ℕ → Type 0
-Fails NoReset t days i = HasNoReset t days i
-Fails NoFixing t days i = HasFixingFault NoFixing t days i
-Fails OutOfRange t days i = HasFixingFault OutOfRange t days i
+abbrev pub DatesFail : DateFault → ResetTerms → ResetDays → ℕ → Type 0
+DatesFail NoReset t days i = HasNoReset t days i
+DatesFail NoFixing t days i = HasFixingFault NoFixing t days i
+DatesFail OutOfRange t days i = HasFixingFault OutOfRange t days i

@@ -12,7 +12,7 @@ use Rattle.irs_terms.specs.declared.results.Span.{Span}
 use Rattle.irs_terms.specs.FirstDay.{first_day_of}
 use Rattle.irs_resets.specs.declared.dates.DateFault.{DateFault}
 use Rattle.irs_resets.specs.declared.dates.DateFault.TheVariants.{NoReset, NoFixing, OutOfRange}
-use Rattle.irs_resets.specs.ResetDates.{ResetDays, Fails}
+use Rattle.irs_resets.specs.ResetDates.{ResetDays, DatesFail}
 use Rattle.irs_resets.specs.Resets.{ResetSource}
 
 -- a rate is given for an initial stub
@@ -49,16 +49,16 @@ date_fault NoFixing i = fault_at K33 fixing_dates i
 date_fault OutOfRange i = fault_at K38 fixing_dates i
 
 -- the dates of a period break K33 or K38
-pub record BreaksDates (t : ResetTerms) (days : ResetDays) (f : Fault) : Type 0 where
+pub record BreaksResetDates (t : ResetTerms) (days : ResetDays) (f : Fault) : Type 0 where
   pub number : ℕ
   pub why : DateFault
-  pub fails : Fails why t days number
+  pub fails : DatesFail why t days number
   pub is : f ≡ date_fault why number
 
 -- without reset terms no date is required, so no rule of dates is broken
 abbrev pub BreaksDatesIn : Option ResetTerms → ResetDays → Fault → Type 0
 BreaksDatesIn None days f = ⊥
-BreaksDatesIn (Some t) days f = BreaksDates t days f
+BreaksDatesIn (Some t) days f = BreaksResetDates t days f
 
 -- the rules of resets that are broken
 abbrev pub BreaksResets : ResetSource → Fault → Type 0

@@ -10,8 +10,8 @@ use Rattle.irs_terms.specs.declared.results.Span.{Span}
 use Rattle.irs_terms.specs.declared.results.Reset.{Reset}
 use Rattle.irs_terms.specs.Lawful.{IsRate}
 use Rattle.irs_calendar.specs.GoodDays.{DaySet}
-use Rattle.irs_resets.specs.ResetDates.{ResetDays, days_by, IsDates}
-use Rattle.irs_resets.specs.ObservedRates.{IsKind, IsObserved}
+use Rattle.irs_resets.specs.ResetDates.{ResetDays, reset_days_by, IsDates}
+use Rattle.irs_resets.specs.ObservedRates.{IsPeriodKind, IsObserved}
 use Rattle.irs_resets.specs.Rates.{RateTable}
 use Rattle.irs_resets.specs.declared.observed.PeriodKind.{PeriodKind}
 
@@ -25,28 +25,28 @@ pub record ResetSource : Type 0 where
 -- the same from its parts
 abbrev pub source_of : Stream → Span → List ℤ → DaySet → DaySet → ResetSource
 source_of s span adjusted reset_set fixing_set =
-    record { stream = s; span = span; days = days_by adjusted reset_set fixing_set }
+    record { stream = s; span = span; days = reset_days_by adjusted reset_set fixing_set }
 
 -- how many calculation periods there are
-abbrev pub count_of : ResetSource → ℕ
-count_of source = length source.days.adjusted - 1
+abbrev pub source_period_count : ResetSource → ℕ
+source_period_count source = length source.days.adjusted - 1
 
 -- what period i is
-abbrev pub IsKindOf : ResetSource → ℕ → PeriodKind → Type 0
-IsKindOf source i kind = IsKind source.stream source.span (count_of source) i kind
+abbrev pub IsPeriodKindOf : ResetSource → ℕ → PeriodKind → Type 0
+IsPeriodKindOf source i kind = IsPeriodKind source.stream source.span (source_period_count source) i kind
 
 -- the reset of period i by the terms t of its dates: the dates, and the observed rate
 pub record IsReset (source : ResetSource) (float : FloatTerms) (t : ResetTerms) (rates : RateTable) (i : ℕ)
     (row : Reset) : Type 0 where
   pub dates : IsDates t source.days i row.reset row.fixing
   pub kind : PeriodKind
-  pub is_kind : IsKindOf source i kind
+  pub is_kind : IsPeriodKindOf source i kind
   pub observed : IsObserved kind float source.stream.stubs rates row.fixing row.observed
 
 -- one reset for each period
 pub record HasResets (source : ResetSource) (float : FloatTerms) (t : ResetTerms) (rates : RateTable)
     (rows : List Reset) : Type 0 where
-  pub many : length rows ≡ count_of source
+  pub many : length rows ≡ source_period_count source
   pub each : EachNumbered (IsReset source float t rates) 1 rows
 
 -- the resets by the leg: none of a fixed stream, one a period of a floating one

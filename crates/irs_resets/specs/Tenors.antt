@@ -19,8 +19,8 @@ tens (Some x) None = None
 tens None y = None
 
 -- a number of two digits, the first not 0
-abbrev pub two_digits : ℕ → ℕ → Option ℕ
-two_digits a b = tens (first_digit a) (digit_at b)
+abbrev pub two_digit_number : ℕ → ℕ → Option ℕ
+two_digit_number a b = tens (first_digit a) (digit_at b)
 
 -- the number of three digits
 abbrev pub hundreds : Option ℕ → Option ℕ → Option ℕ → Option ℕ
@@ -34,8 +34,8 @@ abbrev pub three_digits : ℕ → ℕ → ℕ → Option ℕ
 three_digits a b c = hundreds (first_digit a) (digit_at b) (digit_at c)
 
 -- D, W, M and Y
-abbrev pub unit_at : ℕ → Option FrequencyUnit
-unit_at b = if b == 68 then Some D else
+abbrev pub unit_of_letter : ℕ → Option FrequencyUnit
+unit_of_letter b = if b == 68 then Some D else
     (if b == 87 then Some W else (if b == 77 then Some M else (if b == 89 then Some Y else None)))
 
 -- a tenor of this count and unit, where both are there
@@ -48,7 +48,7 @@ with_unit None u = None
 abbrev pub tenor_at : List ℕ → Option (Option Frequency)
 tenor_at [] = None
 tenor_at (a ∷ []) = if a == 45 then Some None else None
-tenor_at (a ∷ u ∷ []) = with_unit (first_digit a) (unit_at u)
-tenor_at (a ∷ b ∷ u ∷ []) = with_unit (two_digits a b) (unit_at u)
-tenor_at (a ∷ b ∷ c ∷ u ∷ []) = with_unit (three_digits a b c) (unit_at u)
+tenor_at (a ∷ u ∷ []) = with_unit (first_digit a) (unit_of_letter u)
+tenor_at (a ∷ b ∷ u ∷ []) = with_unit (two_digit_number a b) (unit_of_letter u)
+tenor_at (a ∷ b ∷ c ∷ u ∷ []) = with_unit (three_digits a b c) (unit_of_letter u)
 tenor_at (a ∷ b ∷ c ∷ d ∷ e ∷ rest) = None

@@ -5,8 +5,9 @@
 //! itself. The order of these steps is our rule.
 ghost use Rattle.std.specs.Prelude.{◌≡◌, ◌↔◌, ◌<◌, ◌^◌, length, IsTrue, IfOk, IfErr, nat_lt};
 ghost use Rattle.irs_base.specs.Order.{IsFirst};
-ghost use Rattle.irs_resets.specs.ResetDates.{days_by, base_day, IsPeriod, FixesOn, FixesBy, IsDates, FixingFails};
-ghost use Rattle.irs_resets.specs.ResetDates.{FixFails, Fails};
+ghost use Rattle.irs_resets.specs.ResetDates.{reset_days_by, base_day, IsPeriod, FixesOn, FixesBy, IsDates};
+ghost use Rattle.irs_resets.specs.ResetDates.{FixingFails};
+ghost use Rattle.irs_resets.specs.ResetDates.{FixFails, DatesFail};
 ghost use Rattle.irs_resets.specs.Private.ResetDates.{fault_of};
 ghost use Rattle.irs_terms.specs.DayTypes.{IsSaidFixing, IsSaid};
 
@@ -92,10 +93,10 @@ pub fn period_dates<G: GoodDays>(
 ) -> Result<Dates, DateFault>
     requires period { IsPeriod adjusted.now number }
     requires offset { IsSaidFixing terms.now.fixing }
-    ensures ok { let days = days_by adjusted.now (G.days reset_days.now) (G.days fixing_days.now) in
+    ensures ok { let days = reset_days_by adjusted.now (G.days reset_days.now) (G.days fixing_days.now) in
         IfOk result (λ d. IsDates terms.now days number d.reset d.fixing) }
-    ensures fault { let days = days_by adjusted.now (G.days reset_days.now) (G.days fixing_days.now) in
-        IfErr result (λ why. Fails why terms.now days number) }
+    ensures fault { let days = reset_days_by adjusted.now (G.days reset_days.now) (G.days fixing_days.now) in
+        IfErr result (λ why. DatesFail why terms.now days number) }
 {
     let day = base(terms.relative, adjusted, number);
     let Some(reset) = adjust_by(terms.adj.code, reset_days, day) else {
@@ -123,8 +124,8 @@ fn has_fault<G: GoodDays>(
 ) -> bool
     requires period { IsPeriod adjusted.now number }
     requires offset { IsSaidFixing terms.now.fixing }
-    ensures { let days = days_by adjusted.now (G.days reset_days.now) (G.days fixing_days.now) in
-        IsTrue result ↔ Fails fault terms.now days number }
+    ensures { let days = reset_days_by adjusted.now (G.days reset_days.now) (G.days fixing_days.now) in
+        IsTrue result ↔ DatesFail fault terms.now days number }
 {
     match period_dates(terms, adjusted, number, reset_days, fixing_days) {
         Ok(_) => false,
@@ -142,8 +143,8 @@ pub fn first_with<G: GoodDays>(
 ) -> Option<u32>
     requires few { length adjusted.now < 2 ^ 32 }
     requires offset { IsSaidFixing terms.now.fixing }
-    ensures { let days = days_by adjusted.now (G.days reset_days.now) (G.days fixing_days.now) in
-        IsFirst nat_lt (Fails fault terms.now days) result }
+    ensures { let days = reset_days_by adjusted.now (G.days reset_days.now) (G.days fixing_days.now) in
+        IsFirst nat_lt (DatesFail fault terms.now days) result }
 {
     for number in 1..adjusted.len() {
         if has_fault(fault, terms, adjusted, number, reset_days, fixing_days) {

@@ -7,7 +7,7 @@ ghost use Rattle.std.specs.Prelude.{◌≡◌, ◌≢◌, ◌↔◌, ◌≤◌, 
 ghost use Rattle.irs_base.specs.Dates.{date_at};
 ghost use Rattle.irs_terms.specs.declared.frequency.Frequency.{Frequency as AtTenor};
 ghost use Rattle.irs_resets.specs.Words.{behind_gap, word};
-ghost use Rattle.irs_resets.specs.FixingLines.{IsRateText, IsIndexText, Spells};
+ghost use Rattle.irs_resets.specs.FixingLines.{IsRateText, IsIndexText, SpellsRate};
 ghost use Rattle.irs_resets.specs.Private.FixingLines.{IsTail};
 ghost use Rattle.irs_resets.specs.declared.store.Slot.{Slot as AtSlot};
 
@@ -110,8 +110,8 @@ fn tail_by<'a>(text: &'a [u8], last: Option<Tail<'a>>) -> Option<Tail<'a>>
 pub fn fixing_line<'a>(line: &'a [u8], last: Option<Tail<'a>>) -> Option<FixingLine<'a>>
     requires { IfSome last (λ t. IsTail t.text.now t.tenor t.index.now) }
     ensures tail { IfSome result (λ f. IsTail f.tail.text.now f.tail.tenor f.tail.index.now) }
-    ensures some { IfSome result (λ f. Spells line.now f.tail.index.now f.slot f.rate) }
-    ensures none { IfNone result ((index : List ℕ) (slot : AtSlot) (rate : ℤ) → Spells line.now index slot rate → ⊥) }
+    ensures some { IfSome result (λ f. SpellsRate line.now f.tail.index.now f.slot f.rate) }
+    ensures none { IfNone result ((index : List ℕ) (slot : AtSlot) (rate : ℤ) → SpellsRate line.now index slot rate → ⊥) }
 {
     let (date, rest) = first_date(line);
     let (rate_text, rest) = first_word(rest);

@@ -6,7 +6,8 @@
 //! fixing date. That a stub's index doesn't fall back to the stream's is our rule.
 ghost use Rattle.std.specs.Prelude.{◌≡◌, ◌↔◌, IsTrue, IfSome};
 ghost use Rattle.irs_terms.specs.Lawful.{IsRate, IsLawfulFloat, IsLawfulStubs, IsLawfulStubRate};
-ghost use Rattle.irs_resets.specs.ObservedRates.{IsInitial, IsFinal, FollowsStub, IsFirstRegular, IsKind, rate_from};
+ghost use Rattle.irs_resets.specs.ObservedRates.{IsInitialStub, IsFinal, FollowsStub, IsFirstRegular, IsPeriodKind};
+ghost use Rattle.irs_resets.specs.ObservedRates.{rate_from};
 ghost use Rattle.irs_resets.specs.Private.ObservedRates.{index_source, own_source, own_or_index, initial_stub_source};
 ghost use Rattle.irs_resets.specs.Private.ObservedRates.{final_stub_source, initial_or_index, observed_rate};
 
@@ -29,7 +30,7 @@ pub enum PeriodKind {
 
 // The first period, where it begins before the regular span.
 fn is_initial(s: &Stream, span: &Span, number: usize) -> bool
-    ensures { IsTrue result ↔ IsInitial s.now span.now number }
+    ensures { IsTrue result ↔ IsInitialStub s.now span.now number }
 {
     s.first_day() < span.first && number == 1
 }
@@ -62,7 +63,7 @@ fn is_first_regular(s: &Stream, span: &Span, number: usize) -> bool
 
 /// What period `number` of `count` is. Periods count from 1.
 pub fn period_kind(s: &Stream, span: &Span, count: usize, number: usize) -> PeriodKind
-    ensures { IsKind s.now span.now count number result }
+    ensures { IsPeriodKind s.now span.now count number result }
 {
     if is_initial(s, span, number) {
         return PeriodKind::InitialStub;

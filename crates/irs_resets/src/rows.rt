@@ -9,10 +9,10 @@ ghost use Rattle.irs_terms.specs.DayTypes.{IsSaidFixing, IsSaidReset};
 ghost use Rattle.irs_terms.specs.Lawful.{IsLawfulFloat, IsLawfulStubs, IsLawfulStream};
 ghost use Rattle.irs_terms.specs.Legs.{FitsLeg};
 ghost use Rattle.irs_resets.specs.Outcomes.{resets_of};
-ghost use Rattle.irs_resets.specs.ResetDates.{days_by};
+ghost use Rattle.irs_resets.specs.ResetDates.{reset_days_by};
 ghost use Rattle.irs_resets.specs.Resets.{source_of, HasSmallRate, HasResets};
 ghost use Rattle.irs_resets.specs.ResetRules.{GivesInitial, GivesFinal, InitialUnmet, FinalUnmet, BreaksStubs};
-ghost use Rattle.irs_resets.specs.ResetRules.{date_fault, BreaksDates, BreaksResets};
+ghost use Rattle.irs_resets.specs.ResetRules.{date_fault, BreaksResetDates, BreaksResets};
 
 use crate::Fixings;
 use crate::dates::{DateFault, first_with, period_dates};
@@ -115,8 +115,8 @@ fn date_broken<G: GoodDays>(
 ) -> Option<Fault>
     requires few { length adjusted.now < 2 ^ 32 }
     requires offset { IsSaidFixing terms.now.fixing }
-    ensures { let days = days_by adjusted.now (G.days reset_days.now) (G.days fixing_days.now) in
-        IsFirst comes_before (BreaksDates terms.now days) result }
+    ensures { let days = reset_days_by adjusted.now (G.days reset_days.now) (G.days fixing_days.now) in
+        IsFirst comes_before (BreaksResetDates terms.now days) result }
 {
     let without_reset = first_with(DateFault::NoReset, terms, adjusted, reset_days, fixing_days);
     if let Some(i) = without_reset {

@@ -1,7 +1,8 @@
 //! The tenor of a line of a fixing file: `-`, or a number from 1 to 999 followed by D, W, M or Y. The
 //! number has no leading zeros.
 ghost use Rattle.std.specs.Prelude.{◌≡◌, ◌≤◌, IfSome};
-ghost use Rattle.irs_resets.specs.Tenors.{digit_at, first_digit, unit_at, two_digits, three_digits, with_unit};
+ghost use Rattle.irs_resets.specs.Tenors.{digit_at, first_digit, unit_of_letter, two_digit_number, three_digits};
+ghost use Rattle.irs_resets.specs.Tenors.{with_unit};
 ghost use Rattle.irs_resets.specs.Tenors.{tenor_at};
 
 use irs_terms::{Frequency, Unit};
@@ -30,7 +31,7 @@ fn leading(b: u8) -> Option<u16>
 }
 
 fn two(a: u8, b: u8) -> Option<u16>
-    ensures { result ≡ two_digits a b }
+    ensures { result ≡ two_digit_number a b }
 {
     let (Some(x), Some(y)) = (leading(a), digit(b)) else {
         return None;
@@ -48,7 +49,7 @@ fn three(a: u8, b: u8, c: u8) -> Option<u16>
 }
 
 fn unit(b: u8) -> Option<Unit>
-    ensures { result ≡ unit_at b }
+    ensures { result ≡ unit_of_letter b }
 {
     match b {
         b'D' => Some(Unit::D),

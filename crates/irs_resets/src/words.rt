@@ -3,7 +3,7 @@
 //! Words are separated by one or more spaces or tabs. The rest keeps the spaces inside it.
 ghost use Rattle.std.specs.Prelude.{◌≡◌};
 ghost use Rattle.std.specs.List.{list_all};
-ghost use Rattle.irs_base.specs.Fields.{is_space};
+ghost use Rattle.irs_base.specs.Fields.{is_space_or_tab};
 ghost use Rattle.irs_resets.specs.Words.{word, behind_word, behind_gap, trimmed, is_passed};
 
 use irs_base::{is_gap, skip_gap};
@@ -42,7 +42,7 @@ pub fn trim_end(bytes: &[u8]) -> &[u8]
 }
 
 fn is_blank(line: &[u8]) -> bool
-    ensures { result ≡ list_all is_space line.now }
+    ensures { result ≡ list_all is_space_or_tab line.now }
 {
     line.iter().all(|b| is_gap(*b))
 }

@@ -4,7 +4,7 @@ ghost use Rattle.std.specs.Prelude.{◌↔◌, ◌<◌, IsTrue};
 ghost use Rattle.irs_terms.specs.Lawful.{IsLawfulRoll};
 ghost use Rattle.irs_roll.specs.Grids.{OnDays, OnMonths, OnRollDay};
 ghost use Rattle.irs_roll.specs.Rolls.{Fits, FitsWeek, IsRollDay, OnGrid};
-ghost use Rattle.irs_terms.specs.Suiting.{IsTerm, RollsMonths, Suits};
+ghost use Rattle.irs_terms.specs.Suiting.{IsWholeTerm, RollsMonths, Suits};
 
 use crate::Anchor;
 use crate::rolls::{DayNumber, EndOfMonth, Imm, Roll};
@@ -16,7 +16,7 @@ use irs_terms::{Frequency, RollCode, Unit};
 /// month, and in weeks the weekday of the roll. With NONE every day fits. The conditions are that
 /// the frequency isn't the term and that the roll suits it.
 pub fn fits(roll: RollCode, freq: Frequency, anchor: Day) -> bool
-    requires term { ¬ (IsTerm freq) }
+    requires term { ¬ (IsWholeTerm freq) }
     requires suits { Suits freq roll }
     ensures { IsTrue result ↔ Fits roll freq anchor }
 {
@@ -60,7 +60,7 @@ fn is_roll_day<R: Roll>(roll: &R, d: Day) -> bool
 /// anchor and every lawful roll, whether or not the roll fits the anchor or suits the frequency.
 /// The conditions are that the frequency isn't the term and that its multiplier is at least 1.
 pub fn on_grid_of(freq: Frequency, roll: RollCode, anchor: Day, d: Day) -> bool
-    requires term { ¬ (IsTerm freq) }
+    requires term { ¬ (IsWholeTerm freq) }
     requires step { 0 < freq.count }
     requires roll { IsLawfulRoll roll }
     ensures { IsTrue result ↔ OnGrid freq roll anchor d }
@@ -71,7 +71,7 @@ pub fn on_grid_of(freq: Frequency, roll: RollCode, anchor: Day, d: Day) -> bool
 /// Whether the day is on the grid, with the anchor's month worked out beforehand. The same conditions
 /// apply.
 pub fn on_grid_from(freq: Frequency, roll: RollCode, anchor: &Anchor, d: Day) -> bool
-    requires term { ¬ (IsTerm freq) }
+    requires term { ¬ (IsWholeTerm freq) }
     requires step { 0 < freq.count }
     requires roll { IsLawfulRoll roll }
     ensures { IsTrue result ↔ OnGrid freq roll anchor.now d }

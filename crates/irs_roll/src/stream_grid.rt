@@ -5,7 +5,7 @@ ghost use Rattle.irs_roll.specs.Rolls.{Fits, IsRollDay, OnGrid};
 ghost use Rattle.irs_roll.specs.StepLaws.{kth_rises, OnDays-kth, kth-OnDays};
 ghost use Rattle.irs_roll.specs.KindLaws.{number_is_on, number_rises, number_misses_none, end_is_on, end_rises};
 ghost use Rattle.irs_roll.specs.KindLaws.{end_misses_none, wednesday_is_on, wednesday_rises, wednesday_misses_none};
-ghost use Rattle.irs_terms.specs.Suiting.{IsTerm, RollsMonths, Suits};
+ghost use Rattle.irs_terms.specs.Suiting.{IsWholeTerm, RollsMonths, Suits};
 
 use crate::{EveryDays, Grid, MonthDay, MonthEnd, ThirdWednesday};
 use irs_base::Day;
@@ -95,7 +95,7 @@ impl StreamGrid {
     /// The grid of a frequency and a roll from an anchor. The conditions: the frequency isn't the
     /// term, its multiplier is at least 1, the roll suits it, and the roll fits the anchor.
     pub fn new(freq: Frequency, roll: RollCode, anchor: Day) -> StreamGrid
-        requires term { ¬ (IsTerm freq) }
+        requires term { ¬ (IsWholeTerm freq) }
         requires step { 0 < freq.count }
         requires suits { Suits freq roll }
         requires fits { Fits roll freq anchor }

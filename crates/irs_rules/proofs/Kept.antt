@@ -18,7 +18,7 @@ use Rattle.irs_terms.specs.declared.stream.Stream.{Stream}
 use Rattle.irs_terms.specs.declared.stream_list.Swap.{Swap}
 use Rattle.irs_terms.specs.DayTypes.{IsSaid, IsSaidReset}
 use Rattle.irs_terms.specs.FirstDay.{first_day_of}
-use Rattle.irs_terms.specs.Lawful.{IsLawful, IsLawfulStream}
+use Rattle.irs_terms.specs.Lawful.{IsLawfulSwap, IsLawfulStream}
 use Rattle.irs_terms.specs.Legs.{FitsLeg, FitsResets, FitsStubs}
 use Rattle.irs_terms.specs.Needs.{names_by, names_with, reset_names, fixing_names}
 use Rattle.irs_terms.specs.StepDates.{StepsRise, LegStepsRise, StepStands, IsStepInside}
@@ -212,14 +212,14 @@ stream_keeps cal s lawful never =
     }
 
 -- each stream of a lawful swap is lawful
-pub lawful_stream : (swap : Swap) → IsLawful swap → (i : ℕ) (s : Stream) → slice_get swap.streams i ≡ Some s
+pub lawful_stream : (swap : Swap) → IsLawfulSwap swap → (i : ℕ) (s : Stream) → slice_get swap.streams i ≡ Some s
     → IsLawfulStream s
 lawful_stream swap lawful i s there =
     subst IsLawfulStream (get_or_from_slice_get swap.streams i s s there)
     (lawful.2 i s (slice_get_within swap.streams i s there))
 
 -- each stream of a lawful swap that breaks no rule of the terms keeps them
-pub terms_kept : (swap : Swap) (cal : List Section) → IsLawful swap → BreaksNone swap cal → AllKept swap cal
+pub terms_kept : (swap : Swap) (cal : List Section) → IsLawfulSwap swap → BreaksNone swap cal → AllKept swap cal
 terms_kept swap cal lawful never i s there =
     stream_keeps cal s (lawful_stream swap lawful i s there)
     (λ f h. never (in_stream (i + 1) f) (record {

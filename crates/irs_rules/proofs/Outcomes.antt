@@ -9,10 +9,10 @@ use Rattle.irs_base.proofs.Outcomes.{unbroken_determined}
 use Rattle.irs_calendar.specs.declared.sections.Section.{Section}
 use Rattle.irs_terms.specs.declared.stream_list.Swap.{Swap}
 use Rattle.irs_rules.specs.Outcomes.{terms_of}
-use Rattle.irs_rules.specs.TermsRules.{BreaksNone, BreaksTerms, IsFirstBroken}
+use Rattle.irs_rules.specs.TermsRules.{BreaksNone, BreaksTerms, IsFirstBrokenRule}
 
 decided_by : (swap : Swap) (cal : List Section) (outcome : Option Broken) → Checks (terms_of swap cal) outcome
-    → ((f : Broken) × IsFirstBroken swap cal f) ⊎ BreaksNone swap cal
+    → ((f : Broken) × IsFirstBrokenRule swap cal f) ⊎ BreaksNone swap cal
 decided_by swap cal None none = inr none
 decided_by swap cal (Some f) first = inl (f, first)
 

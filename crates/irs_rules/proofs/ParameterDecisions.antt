@@ -15,7 +15,7 @@ use Rattle.irs_terms.specs.declared.parameters.CalculationMethod.{CalculationMet
 use Rattle.irs_terms.specs.declared.parameters.CalculationMethod.TheVariants.{Compounding, Averaging}
 use Rattle.irs_terms.specs.declared.stream.Stream.{Stream}
 use Rattle.irs_rules.specs.Parameters.{DayCountFits, FinalStubFits, FitsMethod, InitialRateFits}
-use Rattle.irs_rules.specs.Parameters.{InitialStubFits, IsNumber, IsOneDay, TenorFits, parameters_of}
+use Rattle.irs_rules.specs.Parameters.{InitialStubFits, IsStubNumber, IsOneDay, TenorFits, parameters_of}
 use Rattle.irs_rules.proofs.Decisions.{decides_absent, decides_both, decides_given, decides_once}
 
 -- a condition that applies only where there is a value is decided, if the condition is
@@ -58,7 +58,7 @@ decides_method Averaging code = inl tt
 pub decides_day_count : (s : Stream) → IsDecided (DayCountFits s)
 decides_day_count s = decides_given _ (parameters_of s.leg) (λ p. decides_method p.method s.day_count)
 
-decides_number : (rate : Option StubRate) → IsDecided (IsNumber rate)
+decides_number : (rate : Option StubRate) → IsDecided (IsStubNumber rate)
 decides_number None = inl tt
 decides_number (Some (Index index tenor)) = inr (λ h. h)
 decides_number (Some (FixedStub rate)) = inl tt

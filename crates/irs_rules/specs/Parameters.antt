@@ -61,18 +61,18 @@ abbrev pub DayCountFits : Stream → Type 0
 DayCountFits s = IfSome (parameters_of s.leg) (λ p. FitsMethod p.method s.day_count)
 
 -- the rate of a stub, where one is given, is a number, and not that of an index (FpML stubRate, floatingRate)
-abbrev pub IsNumber : Option StubRate → Type 0
-IsNumber None = Unit {0}
-IsNumber (Some (Index index tenor)) = ⊥
-IsNumber (Some (FixedStub rate)) = Unit {0}
+abbrev pub IsStubNumber : Option StubRate → Type 0
+IsStubNumber None = Unit {0}
+IsStubNumber (Some (Index index tenor)) = ⊥
+IsStubNumber (Some (FixedStub rate)) = Unit {0}
 
 -- the initial stub has no rate of an index
 abbrev pub InitialStubFits : Stream → Type 0
-InitialStubFits s = HasParameters s.leg → IfSome s.stubs (λ stubs. IsNumber stubs.initial)
+InitialStubFits s = HasParameters s.leg → IfSome s.stubs (λ stubs. IsStubNumber stubs.initial)
 
 -- the final stub has none
 abbrev pub FinalStubFits : Stream → Type 0
-FinalStubFits s = HasParameters s.leg → IfSome s.stubs (λ stubs. IsNumber stubs.last)
+FinalStubFits s = HasParameters s.leg → IfSome s.stubs (λ stubs. IsStubNumber stubs.last)
 
 -- K47 isn't broken: what is given beside calculationParameters goes with them
 pub record FitsParameters (s : Stream) : Type 0 where

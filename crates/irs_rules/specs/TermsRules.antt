@@ -37,8 +37,8 @@ pub record BreaksTerms (swap : Swap) (cal : List Section) (f : Broken) : Type 0 
   pub breaks : BreaksStream cal stream fault
 
 -- the first rule of the terms that the swap breaks, in the order of stream, rule, element and index
-abbrev pub IsFirstBroken : Swap → List Section → Broken → Type 0
-IsFirstBroken swap cal f = First is_before (BreaksTerms swap cal) f
+abbrev pub IsFirstBrokenRule : Swap → List Section → Broken → Type 0
+IsFirstBrokenRule swap cal f = First is_before (BreaksTerms swap cal) f
 
 -- the swap breaks no rule of the terms
 abbrev pub BreaksNone : Swap → List Section → Type 0

@@ -5,7 +5,7 @@ ghost use Rattle.std.specs.Prelude.{◌↔◌, IsTrue, IfSome};
 ghost use Rattle.irs_terms.specs.Frequencies.{HasWholePeriods, PaymentSuits, ResetSuits};
 ghost use Rattle.irs_terms.specs.Lawful.{IsLawfulStream};
 ghost use Rattle.irs_terms.specs.Private.Lengths.{IsPositive};
-ghost use Rattle.irs_terms.specs.Suiting.{FrequencySuits, IsTerm};
+ghost use Rattle.irs_terms.specs.Suiting.{FrequencySuits, IsWholeTerm};
 ghost use Rattle.irs_rules.specs.Private.Order.{IsFirstHere};
 ghost use Rattle.irs_rules.specs.Dates.{BreaksK14, BreaksK15};
 ghost use Rattle.irs_rules.specs.Private.Dates.{IsTermAlone};
@@ -39,7 +39,7 @@ fn frequency_suits(s: &Stream) -> bool
 
 /// Whether the term, where it is the calculation frequency, counts once and has no regular dates.
 fn fits_term(s: &Stream) -> bool
-    ensures { IsTrue result ↔ (IsTerm s.now.freq → IsTermAlone s.now) }
+    ensures { IsTrue result ↔ (IsWholeTerm s.now.freq → IsTermAlone s.now) }
 {
     s.freq.unit != Unit::T || is_term_alone(s)
 }

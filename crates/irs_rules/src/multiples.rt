@@ -1,11 +1,11 @@
 //! Whole multiples of a number of days or of months.
 ghost use Rattle.std.specs.Prelude.{◌<◌, ◌↔◌, IsTrue};
-ghost use Rattle.irs_terms.specs.Frequencies.{IsMultiple, IsLargerMultiple};
+ghost use Rattle.irs_terms.specs.Frequencies.{IsWholeMultiple, IsLargerMultiple};
 
 /// Whether the first is a whole multiple of the second.
 pub(crate) fn is_multiple(whole: u32, part: u32) -> bool
     requires { 0 < part }
-    ensures { IsTrue result ↔ IsMultiple whole part }
+    ensures { IsTrue result ↔ IsWholeMultiple whole part }
 {
     whole % part == 0
 }

@@ -5,7 +5,8 @@ ghost use Rattle.std.specs.Prelude.{◌≡◌, ◌↔◌, IsTrue, IfSome, option
 ghost use Rattle.irs_rules.specs.Amounts.{BreaksK47};
 ghost use Rattle.irs_rules.specs.Private.Order.{IsFirstHere};
 ghost use Rattle.irs_rules.specs.Parameters.{DayCountFits, FinalStubFits, FitsMethod, HasParameters, InitialRateFits};
-ghost use Rattle.irs_rules.specs.Parameters.{InitialStubFits, IsNumber, IsOneDay, TenorFits, applicable_names, centers_of};
+ghost use Rattle.irs_rules.specs.Parameters.{InitialStubFits, IsStubNumber, IsOneDay, TenorFits, applicable_names};
+ghost use Rattle.irs_rules.specs.Parameters.{centers_of};
 
 use crate::faults::{earlier, fault_unless};
 use irs_base::{Elem, Fault, Names, Rule};
@@ -139,7 +140,7 @@ fn initial_stub_fits(s: &Stream) -> bool
 }
 
 fn has_initial_number(stubs: &Option<StubTerms>) -> bool
-    ensures { IsTrue result ↔ IfSome stubs.now (λ t. IsNumber t.initial) }
+    ensures { IsTrue result ↔ IfSome stubs.now (λ t. IsStubNumber t.initial) }
 {
     match stubs {
         None => true,
@@ -154,7 +155,7 @@ fn final_stub_fits(s: &Stream) -> bool
 }
 
 fn has_final_number(stubs: &Option<StubTerms>) -> bool
-    ensures { IsTrue result ↔ IfSome stubs.now (λ t. IsNumber t.last) }
+    ensures { IsTrue result ↔ IfSome stubs.now (λ t. IsStubNumber t.last) }
 {
     match stubs {
         None => true,
@@ -164,7 +165,7 @@ fn has_final_number(stubs: &Option<StubTerms>) -> bool
 
 /// Whether the rate of a stub, where one is given, is a number and not that of an index.
 fn is_number(rate: &Option<StubRate>) -> bool
-    ensures { IsTrue result ↔ IsNumber rate.now }
+    ensures { IsTrue result ↔ IsStubNumber rate.now }
 {
     match rate {
         None => true,

@@ -4,7 +4,7 @@ ghost use Rattle.irs_terms.specs.Frequencies.{GroupsPeriods};
 ghost use Rattle.irs_terms.specs.Lawful.{IsLawfulStream};
 ghost use Rattle.irs_terms.specs.Private.Lengths.{IsPositive};
 ghost use Rattle.irs_terms.specs.PaymentDates.{AsksInitialStub, FirstPaymentStands, HasInitialKind, HasRegularPayments};
-ghost use Rattle.irs_terms.specs.PaymentDates.{IsFirstPayment, IsInitial, IsLastPayment, IsPaymentInside};
+ghost use Rattle.irs_terms.specs.PaymentDates.{IsFirstPayment, IsInitialKind, IsLastPayment, IsPaymentInside};
 ghost use Rattle.irs_terms.specs.PaymentDates.{LastPaymentStands, NeedsFirstPayment, StartsLater};
 ghost use Rattle.irs_rules.specs.Private.Order.{IsFirstHere};
 ghost use Rattle.irs_rules.specs.Dates.{BreaksK16};
@@ -81,7 +81,7 @@ fn has_initial_kind(s: &Stream) -> bool
 }
 
 fn is_initial(stub: Option<StubKind>) -> bool
-    ensures { IsTrue result ↔ IsInitial stub }
+    ensures { IsTrue result ↔ IsInitialKind stub }
 {
     match stub {
         Some(StubKind::ShortInitial | StubKind::LongInitial) => true,

@@ -1,7 +1,7 @@
 //! The first of K10 to K21 and K47 that the terms of a swap break. Broken rules are ordered by stream,
 //! then by rule, then by element in the order of the table of elements, then by index.
 ghost use Rattle.irs_base.specs.Outcomes.{Checks, Determined};
-ghost use Rattle.irs_terms.specs.Lawful.{IsLawful, IsLawfulStream};
+ghost use Rattle.irs_terms.specs.Lawful.{IsLawfulSwap, IsLawfulStream};
 ghost use Rattle.irs_rules.specs.Private.Order.{IsFirstHere};
 ghost use Rattle.irs_rules.specs.Outcomes.{terms_of};
 ghost use Rattle.irs_rules.specs.TermsRules.{BreaksAmounts, BreaksDates, BreaksNames, BreaksStream};
@@ -29,7 +29,7 @@ use irs_terms::{Stream, Swap};
 /// to K21). K47 is on what goes with `calculationParameters`. K12 looks up in the calendars the centres
 /// of elements that need business days. No memory is taken.
 pub fn check_terms(swap: &Swap, cal: &Calendars) -> Option<Broken>
-    requires { IsLawful swap.now }
+    requires { IsLawfulSwap swap.now }
     ensures meets { Checks (terms_of swap.now cal.now) result }
 {
     for (i, s) in swap.streams.as_slice().iter().enumerate() {
@@ -42,7 +42,7 @@ pub fn check_terms(swap: &Swap, cal: &Calendars) -> Option<Broken>
 
 /// A law: a lawful swap breaks a first rule of the terms, or breaks none.
 pub fn terms_are_determined(swap: &Swap, cal: &Calendars)
-    requires { IsLawful swap.now }
+    requires { IsLawfulSwap swap.now }
     ensures { Determined (terms_of swap.now cal.now) }
 {
     // hands the prover a right outcome

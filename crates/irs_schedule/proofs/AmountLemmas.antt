@@ -8,7 +8,7 @@ use Rattle.irs_terms.specs.declared.currency.Currency.{Currency}
 use Rattle.irs_terms.specs.declared.results.Payment.{Payment}
 use Rattle.irs_daycount.specs.Fractions.{denominator_of}
 use Rattle.irs_daycount.specs.Private.FractionLaws.{one_denominator}
-use Rattle.irs_compound.specs.Amounts.{IsTerm, IsPayment, most_units}
+use Rattle.irs_compound.specs.Amounts.{IsTermOver, IsPaymentOfTerms, most_units}
 use Rattle.irs_compound.specs.Private.InForceLaws.{in_force_within}
 use Rattle.irs_compound.specs.declared.periods.PeriodTerm.{PeriodTerm}
 use Rattle.irs_schedule.specs.Parts.{IsAmount}
@@ -29,7 +29,7 @@ amount_fits currency places (Some m) e h = record { places = e; size = h }
 module _ (d : StreamDates) (lawful : IsLawfulStream d.stream) (table : IsTable d) where
   -- notional and fraction of a period are in their ranges
   term_in_range : (i : ℕ) (t : PeriodTerm) → 1 ≤ i → i < length d.adjusted → IsPeriodTerm d i t
-      → IsTerm (denominator_of d.stream.day_count) t
+      → IsTermOver (denominator_of d.stream.day_count) t
   term_in_range i t low high h =
       let s = d.stream in
       let a = d.adjusted in (
@@ -40,13 +40,13 @@ module _ (d : StreamDates) (lawful : IsLawfulStream d.stream) (table : IsTable d
 
   -- the terms of a payment's periods are those of a payment
   pub is_payment : (p : Payment) (ts : List PeriodTerm) → 1 ≤ p.first_period → p.first_period ≤ p.last_period
-      → p.last_period < length d.unadjusted → AreTerms d p ts → IsPayment ts
+      → p.last_period < length d.unadjusted → AreTerms d p ts → IsPaymentOfTerms ts
   is_payment p ts low order high are =
       let some : 1 ≤ length ts = omega (arith, are.count, order) in
       let den = denominator_of d.stream.day_count in (
         some,
         omega (arith, are.count, low, high, table.few),
-        one_denominator_of den ts some (all_numbered (IsPeriodTerm d) (IsTerm den) p.first_period ts
+        one_denominator_of den ts some (all_numbered (IsPeriodTerm d) (IsTermOver den) p.first_period ts
             (λ i t from to. term_in_range i t (omega (arith, low, from))
             (omega (arith, are.count, high, to, table.same_length))) are.each),
       )

@@ -17,14 +17,14 @@ use Rattle.irs_terms.specs.declared.codes.Treatment.{Treatment}
 use Rattle.irs_terms.specs.declared.codes.Treatment.TheVariants.{AsIs, ZeroFloor}
 use Rattle.irs_terms.specs.declared.results.Reset.{Reset}
 use Rattle.irs_resets.proofs.DatedResets.{observed_small}
-use Rattle.irs_observed.specs.ObservedRates.{Fraction, IsBounded, most_observed, most_period_rate, period_rate_at}
+use Rattle.irs_observed.specs.ObservedRates.{RateFraction, IsBounded, most_observed, most_period_rate, period_rate_at}
 use Rattle.irs_observed.specs.OvernightRates.{HasBounds}
 use Rattle.irs_observed.specs.declared.overnight_rate.OvernightRate.{OvernightRate}
 use Rattle.irs_observed.specs.declared.overnight_rate.OvernightRate.TheVariants.{Stated, Known, Absent, OutOfRange}
 use Rattle.irs_observed.proofs.SizeLemmas.{rounded_within, scaled_size, units_above, whole_size}
 use Rattle.irs_compound.specs.InForce.{value_in_force}
 use Rattle.irs_compound.specs.OvernightRates.{floating_rates_by, overnight_rates_by, rates_in, rates_over}
-use Rattle.irs_compound.specs.PeriodRates.{fixed_rates_of, rates_by, rates_of, treated}
+use Rattle.irs_compound.specs.PeriodRates.{fixed_rates_of, leg_rates, rates_of, treated}
 use Rattle.irs_compound.specs.declared.periods.Rates.{Rates}
 use Rattle.irs_compound.proofs.OvernightSizes.{fixed_small, small_rates, stated_small}
 use Rattle.irs_compound.proofs.PeriodSizes.{all_in_small}
@@ -43,7 +43,7 @@ product_size a b m h =
     let same : unsigned_abs b ≤ unsigned_abs b = omega arith in
     rw (unsigned_abs-mul a b) (mul-le-mul h same)
 
-module _ (x : Fraction) (bounded : IsBounded x) (multiplier spread : ℤ) (multiplies : IsRate multiplier)
+module _ (x : RateFraction) (bounded : IsBounded x) (multiplier spread : ℤ) (multiplies : IsRate multiplier)
     (adds : IsRate spread) where
   exact_size : unsigned_abs (multiplier *ℤ x.numerator +ℤ spread *ℤ x.denominator)
       ≤ most_period_rate * unsigned_abs x.denominator
@@ -81,7 +81,7 @@ treated_within ZeroFloor rate n small =
     ]
 
 -- the rate that a fraction gives
-over_small : (f : FloatTerms) (start : ℤ) (x : Fraction) → IsLawfulFloat f → IsBounded x
+over_small : (f : FloatTerms) (start : ℤ) (x : RateFraction) → IsLawfulFloat f → IsBounded x
     → unsigned_abs (rates_over f start x).all_in ≤ most_period_rate
 unfolding rates_over
 over_small f start x lawful bounded =
@@ -110,7 +110,7 @@ pub rates_in_small : (leg : Leg) (start : ℤ) (observed : Option ℤ) (overnigh
     → IsLawfulLeg leg → IfNone overnight (IfSome observed IsRate) → IfSome overnight HasBounds
     → IfSome (rates_in leg start observed overnight) (λ x. unsigned_abs x.all_in ≤ most_period_rate)
 rates_in_small leg start observed None lawful fits bounds =
-    small_rates (rates_by leg start observed) (rate_size leg start observed lawful fits)
+    small_rates (leg_rates leg start observed) (rate_size leg start observed lawful fits)
 rates_in_small leg start observed (Some r) lawful fits bounds = overnight_small leg start r lawful bounds
 
 mapped_small : (rates : Option Rates) → IfSome rates (λ x. unsigned_abs x.all_in ≤ most_period_rate)

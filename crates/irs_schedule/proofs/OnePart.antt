@@ -12,7 +12,7 @@ use Rattle.irs_base.proofs.EveryLemmas.{one_partners}
 use Rattle.irs_base.proofs.MemberLemmas.{one_numbered}
 use Rattle.irs_base.proofs.Outcomes.{answer_determined, answer_there, each_determined, one_refusal, refused_as_determined}
 use Rattle.irs_base.proofs.Outcomes.{then_determined}
-use Rattle.irs_terms.specs.Lawful.{IsLawful, IsLawfulStream}
+use Rattle.irs_terms.specs.Lawful.{IsLawfulSwap, IsLawfulStream}
 use Rattle.irs_terms.specs.Private.StepDates.{AllStepsRise}
 use Rattle.irs_terms.specs.declared.results.Payment.{Payment}
 use Rattle.irs_observed.specs.declared.daily_resets.OvernightResets.{OvernightResets}
@@ -204,7 +204,7 @@ every_at : {X : Type 0} (P : X → Type 0) (xs : List X) → ((i : ℕ) (x : X) 
 every_at P [] holds = tt
 every_at P (x ∷ xs) holds = (holds zero x refl, every_at P xs (λ i z at. holds (suc i) z at))
 
-module _ (swap : Swap) (cal : List Section) (fix : RateTable) (lawful : IsLawful swap)
+module _ (swap : Swap) (cal : List Section) (fix : RateTable) (lawful : IsLawfulSwap swap)
     (unbroken : (f : Broken) → BreaksTerms swap cal f → ⊥) where
   abbrev numbered : ℕ → Stream → Spec Part Broken
   numbered n s = refused_as (in_stream n) (stream_of (stream_sets cal s) fix s)

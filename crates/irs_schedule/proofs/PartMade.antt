@@ -14,7 +14,7 @@ use Rattle.irs_payments.proofs.DatedPayments.{exchanges_bounded, exchanges_dated
 use Rattle.irs_resets.specs.Rates.{RateTable}
 use Rattle.irs_schedule.specs.DaySets.{StreamSets}
 use Rattle.irs_schedule.specs.Private.Keeping.{MakePart}
-use Rattle.irs_schedule.specs.KeptTerms.{is_floating, kept_of}
+use Rattle.irs_schedule.specs.KeptTerms.{is_floating, kept_terms_of}
 use Rattle.irs_schedule.specs.Private.Layouts.{IsKeptLayout}
 use Rattle.irs_schedule.specs.Outcomes.{part_over, resets_over}
 use Rattle.irs_schedule.specs.Parts.{HasAmount, IsAmount}
@@ -50,7 +50,7 @@ module _ (sets : StreamSets) (fix : RateTable) (s : Stream) (l : Layout) (some :
     payments = subst (λ (ps : List Payment). ArePayments s sets.payment l.unadjusted l.adjusted ps) (sym paid.0) are.payments;
     rates = d.rates;
     amounts = paid.1;
-    count = let n = length_periods (kept_of s) l.unadjusted l.adjusted d.resets d.rates in
+    count = let n = length_periods (kept_terms_of s) l.unadjusted l.adjusted d.resets d.rates in
         omega (arith, n, laid.adjusted.same_length, some);
     periods = entries_stand (layout_dates s l d.resets d.rates) laid.rises
         (resets_above (resets_over sets s l) sets.applicable fix s.leg (with_rates d.resets d.rates) are.resets)
@@ -63,7 +63,7 @@ module _ (sets : StreamSets) (fix : RateTable) (s : Stream) (l : Layout) (some :
       → AreDays l.unadjusted → AreDays l.adjusted → AreEvents sets fix s l d
       → Covers 1 d.payments (length l.unadjusted - 1) → HasRates s.leg (length l.adjusted - 1) d.resets d.rates
       → map payment_of es ≡ d.payments
-      → Every (HasAmount s.currency) es → MakePart (kept_of s) l.unadjusted l.adjusted d.exchanges es d.resets d.rates
+      → Every (HasAmount s.currency) es → MakePart (kept_terms_of s) l.unadjusted l.adjusted d.exchanges es d.resets d.rates
   makes_part d es lawful rises range days moved dated covers rates paid bounds = record {
     currency = lawful.currency;
     notional = lawful.notional;

@@ -19,7 +19,7 @@ use Rattle.irs_calendar.specs.GoodDays.{DaySet}
 use Rattle.irs_resets.specs.Outcomes.{resets_of}
 use Rattle.irs_resets.specs.Rates.{RateTable}
 use Rattle.irs_resets.specs.ResetRules.{BreaksResets}
-use Rattle.irs_resets.specs.Resets.{HasSmallRate, ResetSource, count_of}
+use Rattle.irs_resets.specs.Resets.{HasSmallRate, ResetSource, source_period_count}
 use Rattle.irs_resets.proofs.DatedResets.{resets_dated}
 use Rattle.irs_resets.proofs.Outcomes.{resets_determined}
 use Rattle.irs_resets.proofs.ResetLemmas.{many_by, resets_count}
@@ -102,33 +102,33 @@ module _ (source : ResetSource) (applicable : DaySet) (fix : RateTable) where
 
   -- ---- how many, and their dates
 
-  by_many : (leg : Leg) (rows : List Reset) → many_by source fix rows leg ≡ (if is_floating leg then count_of source else 0)
+  by_many : (leg : Leg) (rows : List Reset) → many_by source fix rows leg ≡ (if is_floating leg then source_period_count source else 0)
   by_many (Fixed values) rows = refl
   by_many (Floating float) rows = refl
 
   alone_many : (rows : List Reset) → length rows ≡ many_by source fix rows source.stream.leg
-      → length rows ≡ (if is_floating source.stream.leg then count_of source else 0)
+      → length rows ≡ (if is_floating source.stream.leg then source_period_count source else 0)
   alone_many rows h = h ∙ by_many source.stream.leg rows
 
   overnight_many : (reset : Option ResetTerms) (rs : List OvernightRate) (rows : List Reset)
-      → HasOvernightResetsBy reset source rs rows → length rows ≡ count_of source
+      → HasOvernightResetsBy reset source rs rows → length rows ≡ source_period_count source
   overnight_many None rs rows h = absurd h
   overnight_many (Some t) rs rows h = h.many
 
   many_of : (float : FloatTerms) (parameters : Option CalculationParameters) (x : OvernightResets)
       → source.stream.leg ≡ Floating float → AreResetsBy float parameters source applicable fix x
-      → length x.resets ≡ count_of source
+      → length x.resets ≡ source_period_count source
   many_of float None x e h =
       resets_count source fix x.resets h.0 ∙ by_many source.stream.leg x.resets
-      ∙ ap (λ (leg : Leg). if is_floating leg then count_of source else 0) e
+      ∙ ap (λ (leg : Leg). if is_floating leg then source_period_count source else 0) e
   many_of float (Some parameters) x e h = overnight_many source.stream.reset x.rates x.resets h.resets
 
   -- one for each period where the stream floats, none where its rate is fixed
   pub resets_many : (leg : Leg) (x : OvernightResets) → source.stream.leg ≡ leg
-      → AreResetsIn leg source applicable fix x → length x.resets ≡ (if is_floating leg then count_of source else 0)
+      → AreResetsIn leg source applicable fix x → length x.resets ≡ (if is_floating leg then source_period_count source else 0)
   resets_many (Fixed values) x e h =
       resets_count source fix x.resets h.0 ∙ by_many source.stream.leg x.resets
-      ∙ ap (λ (leg : Leg). if is_floating leg then count_of source else 0) e
+      ∙ ap (λ (leg : Leg). if is_floating leg then source_period_count source else 0) e
   resets_many (Floating float) x e h = many_of float float.parameters x e h
 
   module _ (range : InDays source.days) where

@@ -14,7 +14,7 @@ use Rattle.irs_terms.specs.declared.results.Payment.{Payment}
 use Rattle.irs_terms.specs.declared.stream.Stream.{Stream}
 use Rattle.irs_daycount.specs.Fractions.{fraction_of}
 use Rattle.irs_daycount.specs.Private.FractionLaws.{fraction_is, days_is}
-use Rattle.irs_compound.specs.Amounts.{IsFraction, AmountOf}
+use Rattle.irs_compound.specs.Amounts.{IsDayCountFraction, AmountOf}
 use Rattle.irs_compound.specs.InForce.{value_in_force}
 use Rattle.irs_compound.specs.Private.InForceLaws.{in_force_is}
 use Rattle.irs_compound.specs.PartsLaws.{AllFractions}
@@ -23,8 +23,8 @@ use Rattle.irs_compound.specs.OvernightRates.{rates_in}
 use Rattle.irs_compound.specs.declared.periods.PeriodTerm.{PeriodTerm}
 use Rattle.irs_compound.proofs.FractionFits.{fraction_is_fit}
 use Rattle.irs_payments.proofs.PlaceLemmas.{rises_at}
-use Rattle.irs_schedule.specs.KeptTerms.{kept_of}
-use Rattle.irs_schedule.specs.Periods.{count_of, period_by, periods_by}
+use Rattle.irs_schedule.specs.KeptTerms.{kept_terms_of}
+use Rattle.irs_schedule.specs.Periods.{period_count, period_by, periods_by}
 use Rattle.irs_schedule.specs.Schedules.{observed_of, IsPeriodTerm, IsPeriodEntry, AreTerms, IsAmountBy, dec_of}
 use Rattle.irs_schedule.specs.Schedules.{StreamDates, rate_in}
 use Rattle.irs_schedule.proofs.RateLemmas.{AreAbove}
@@ -34,7 +34,7 @@ abbrev pub term_by : StreamDates → ℕ → PeriodTerm
 term_by d i = record {
   notional = value_in_force d.stream.notional (day_at d.unadjusted (i - 1));
   rates = rates_in d.stream.leg (day_at d.unadjusted (i - 1)) (observed_of d.resets i) (rate_in d.rates i);
-  frac = fraction_of d.stream.day_count (day_at d.adjusted (i - 1)) (day_at d.adjusted i) (i == count_of d.adjusted);
+  frac = fraction_of d.stream.day_count (day_at d.adjusted (i - 1)) (day_at d.adjusted i) (i == period_count d.adjusted);
 }
 
 -- the terms of the periods of a payment
@@ -62,10 +62,10 @@ module _ (d : StreamDates) (rising : IsRising d.adjusted) where
 
   -- what a part works out for its periods is in the relations
   pub entries_stand : AreAbove d.rates → 1 ≤ length d.adjusted
-      → EachNumbered (IsPeriodEntry d) 1 (periods_by (kept_of d.stream) d.unadjusted d.adjusted d.resets d.rates)
+      → EachNumbered (IsPeriodEntry d) 1 (periods_by (kept_terms_of d.stream) d.unadjusted d.adjusted d.resets d.rates)
   entries_stand above some =
       let a = d.adjusted in
-      numbered_computed (IsPeriodEntry d) (period_by (kept_of d.stream) d.unadjusted a d.resets d.rates) 1 (count_of a)
+      numbered_computed (IsPeriodEntry d) (period_by (kept_terms_of d.stream) d.unadjusted a d.resets d.rates) 1 (period_count a)
       (λ i low high. record {
         term = term_by d i;
         is_term = term_stands above i low (omega (arith, high, some));
@@ -77,7 +77,7 @@ module _ (d : StreamDates) (rising : IsRising d.adjusted) where
 
   module _ (days : AreDays d.adjusted) where
     -- the fraction of a period is one of the amounts
-    pub term_fits : (i : ℕ) (t : PeriodTerm) → 1 ≤ i → i < length d.adjusted → IsPeriodTerm d i t → IsFraction t.frac
+    pub term_fits : (i : ℕ) (t : PeriodTerm) → 1 ≤ i → i < length d.adjusted → IsPeriodTerm d i t → IsDayCountFraction t.frac
     term_fits i t low high h =
         let a = d.adjusted in
         fraction_is_fit d.stream.day_count (day_at a (i - 1)) (day_at a i) (i == length a - 1) t.frac
@@ -87,7 +87,7 @@ module _ (d : StreamDates) (rising : IsRising d.adjusted) where
     pub terms_fit : (n : ℕ) (ts : List PeriodTerm) → 1 ≤ n → n + length ts ≤ length d.adjusted
         → EachNumbered (IsPeriodTerm d) n ts → AllFractions ts
     terms_fit n ts low high =
-        all_numbered (IsPeriodTerm d) (λ (t : PeriodTerm). IsFraction t.frac) n ts
+        all_numbered (IsPeriodTerm d) (λ (t : PeriodTerm). IsDayCountFraction t.frac) n ts
         (λ i t from to h. term_fits i t (omega (arith, low, from)) (omega (arith, high, to)) h)
 
     module _ (above : AreAbove d.rates) (last : ℕ) (high : last < length d.adjusted) where

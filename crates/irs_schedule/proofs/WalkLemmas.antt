@@ -3,7 +3,7 @@ use Rattle.std.proofs.Common.{◌≡◌, ℕ, suc, ◌+◌, ◌-◌, ◌<◌, �
 use Rattle.std.specs.List.{range_with_len}
 use Rattle.irs_terms.specs.declared.results.Exchange.{Exchange}
 use Rattle.irs_schedule.specs.declared.entries.PaymentEntry.{PaymentEntry}
-use Rattle.irs_schedule.specs.Parts.{Part, Covers}
+use Rattle.irs_schedule.specs.Parts.{Part, EntriesCover}
 use Rattle.irs_schedule.specs.RowsOf.{period_row}
 use Rattle.irs_schedule.specs.WalkLists.{walk_left}
 use Rattle.irs_base.proofs.CoverLemmas.{covers_low}
@@ -17,5 +17,5 @@ pub at_period : (k : ℕ) (p : Part) (i e j : ℕ) (xs : List Exchange) (m : ℕ
 at_period k p i e j xs m ys h = let back : i + 1 - 1 ≡ i = omega arith in rw (range_first i e h, back) refl
 
 -- payments that cover periods end by the last
-pub covers_within : (a n : ℕ) (ys : List PaymentEntry) → Covers a ys n → a ≤ n + 1
+pub covers_within : (a n : ℕ) (ys : List PaymentEntry) → EntriesCover a ys n → a ≤ n + 1
 covers_within = covers_low (λ (y : PaymentEntry). y.first_period) (λ (y : PaymentEntry). y.last_period)

@@ -22,5 +22,5 @@ abbrev pub is_daily : Leg → Bool
 is_daily leg = are_given (parameters_of leg)
 
 -- what is kept of a stream
-abbrev pub kept_of : Stream → KeptTerms
-kept_of s = record { currency = s.currency; day_count = s.day_count; notional = s.notional; leg = s.leg }
+abbrev pub kept_terms_of : Stream → KeptTerms
+kept_terms_of s = record { currency = s.currency; day_count = s.day_count; notional = s.notional; leg = s.leg }

@@ -19,7 +19,7 @@ use Rattle.irs_resets.specs.Rates.{RateTable}
 use Rattle.irs_resets.specs.Resets.{ResetSource, source_of}
 use Rattle.irs_compound.specs.Outcomes.{payment_amount_of}
 use Rattle.irs_schedule.specs.DaySets.{StreamSets, stream_sets}
-use Rattle.irs_schedule.specs.KeptTerms.{is_daily, is_floating, kept_of}
+use Rattle.irs_schedule.specs.KeptTerms.{is_daily, is_floating, kept_terms_of}
 use Rattle.irs_schedule.specs.Parts.{Part}
 use Rattle.irs_schedule.specs.Schedules.{AreTerms, dec_of, StreamDates}
 use Rattle.irs_schedule.specs.Periods.{periods_by}
@@ -94,7 +94,7 @@ part_over s l events entries = record {
   adjusted = l.adjusted;
   exchanges = events.exchanges;
   payments = entries;
-  periods = periods_by (kept_of s) l.unadjusted l.adjusted events.resets events.rates;
+  periods = periods_by (kept_terms_of s) l.unadjusted l.adjusted events.resets events.rates;
   resets = events.resets;
 }
 

@@ -44,8 +44,8 @@ Rises [] = Unit {0}
 Rises (x ∷ xs) = RisesFrom x xs
 
 -- the payments cover the periods from this one to the last, in order, without a gap
-abbrev pub Covers : ℕ → List PaymentEntry → ℕ → Type 0
-Covers next payments last =
+abbrev pub EntriesCover : ℕ → List PaymentEntry → ℕ → Type 0
+EntriesCover next payments last =
     CoverNumbers (λ (p : PaymentEntry). p.first_period) (λ (p : PaymentEntry). p.last_period) next payments last
 
 -- the code of a currency: three capital letters
@@ -104,7 +104,7 @@ pub record KeepsBounds (p : Part) : Type 0 where
   pub adjusted : length p.adjusted ≡ length p.periods + 1
   pub rises : Rises p.unadjusted
   pub adjusted_rises : Rises p.adjusted
-  pub covers : Covers 1 p.payments (length p.periods)
+  pub covers : EntriesCover 1 p.payments (length p.periods)
   pub exchanges : length p.exchanges ≤ most_exchanges
   pub exchanged : Every (λ x. IsAmount p.currency x.amount) p.exchanges
   pub paid : Every (HasAmount p.currency) p.payments

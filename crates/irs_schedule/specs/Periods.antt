@@ -12,8 +12,8 @@ use Rattle.irs_base.specs.Members.{day_at}
 use Rattle.irs_schedule.specs.Schedules.{observed_of}
 
 -- how many periods lie between boundaries
-abbrev pub count_of : List ℤ → ℕ
-count_of boundaries = length boundaries - 1
+abbrev pub period_count : List ℤ → ℕ
+period_count boundaries = length boundaries - 1
 
 -- period i starts on boundary i - 1
 abbrev pub start_of : List ℤ → ℕ → ℤ
@@ -33,10 +33,10 @@ entry_by terms from to last start observed overnight = record {
 -- start
 abbrev pub period_by : KeptTerms → List ℤ → List ℤ → List Reset → List OvernightRate → ℕ → PeriodEntry
 period_by terms unadjusted adjusted resets rates i =
-    entry_by terms (start_of adjusted i) (day_at adjusted i) (i == count_of adjusted) (start_of unadjusted i)
+    entry_by terms (start_of adjusted i) (day_at adjusted i) (i == period_count adjusted) (start_of unadjusted i)
     (observed_of resets i) (slice_get rates (i - 1))
 
 -- the periods between adjusted boundaries
 abbrev pub periods_by : KeptTerms → List ℤ → List ℤ → List Reset → List OvernightRate → List PeriodEntry
 periods_by terms unadjusted adjusted resets rates =
-    map (period_by terms unadjusted adjusted resets rates) (range_with_len 1 (count_of adjusted))
+    map (period_by terms unadjusted adjusted resets rates) (range_with_len 1 (period_count adjusted))

@@ -37,39 +37,39 @@ rate_or_dash None = codes "-"
 rate_or_dash (Some v) = dec_text v 9
 
 -- the fields of a line, with one space between them
-abbrev pub fields_of : Row → List ℕ
-fields_of (Stream k currency day_count floating) =
+abbrev pub schedule_row_fields : Row → List ℕ
+schedule_row_fields (Stream k currency day_count floating) =
     codes "stream" ++ 32 ∷ decimal k ++ 32 ∷ currency.letters ++ 32 ∷ code_text day_count ++ 32 ∷ kind_text floating
-fields_of (Exchange k j unadjusted adjusted amount) =
+schedule_row_fields (Exchange k j unadjusted adjusted amount) =
     codes "x" ++ 32 ∷ decimal k ++ 32 ∷ decimal j ++ 32 ∷ day_text unadjusted ++ 32 ∷ day_text adjusted
     ++ 32 ∷ dec_text amount.units amount.places
-fields_of (Payment k j unadjusted adjusted first last amount) =
+schedule_row_fields (Payment k j unadjusted adjusted first last amount) =
     codes "p" ++ 32 ∷ decimal k ++ 32 ∷ decimal j ++ 32 ∷ day_text unadjusted ++ 32 ∷ day_text adjusted
     ++ 32 ∷ decimal first ++ 32 ∷ decimal last ++ 32 ∷ dec_or_dash amount
-fields_of (Period k i start end adjusted_start adjusted_end days frac notional rate) =
+schedule_row_fields (Period k i start end adjusted_start adjusted_end days frac notional rate) =
     codes "c" ++ 32 ∷ decimal k ++ 32 ∷ decimal i ++ 32 ∷ day_text start ++ 32 ∷ day_text end
     ++ 32 ∷ day_text adjusted_start ++ 32 ∷ day_text adjusted_end
     ++ 32 ∷ signed_decimal days ++ 32 ∷ signed_decimal frac.num ++ 47 ∷ signed_decimal frac.den
     ++ 32 ∷ dec_text notional 4 ++ 32 ∷ rate_or_dash rate
-fields_of (Reset k i reset fixing observed) =
+schedule_row_fields (Reset k i reset fixing observed) =
     codes "r" ++ 32 ∷ decimal k ++ 32 ∷ decimal i ++ 32 ∷ day_text reset ++ 32 ∷ day_text fixing
     ++ 32 ∷ rate_or_dash observed
 
 -- the line of a row, with its LF
 unfoldable pub row_text_of : Row → List ℕ
-row_text_of row = fields_of row ++ codes "\n"
+row_text_of row = schedule_row_fields row ++ codes "\n"
 
 -- at most 12 decimals
 abbrev pub IsFew : Dec → Type 0
 IsFew v = v.places ≤ 12
 
 -- an amount in the row has at most 12 decimals
-abbrev pub HasPlaces : Row → Type 0
-HasPlaces (Stream k currency day_count floating) = Unit {0}
-HasPlaces (Exchange k j unadjusted adjusted amount) = IsFew amount
-HasPlaces (Payment k j unadjusted adjusted first last amount) = IfSome amount IsFew
-HasPlaces (Period k i start end adjusted_start adjusted_end days frac notional rate) = Unit {0}
-HasPlaces (Reset k i reset fixing observed) = Unit {0}
+abbrev pub RowHasPlaces : Row → Type 0
+RowHasPlaces (Stream k currency day_count floating) = Unit {0}
+RowHasPlaces (Exchange k j unadjusted adjusted amount) = IsFew amount
+RowHasPlaces (Payment k j unadjusted adjusted first last amount) = IfSome amount IsFew
+RowHasPlaces (Period k i start end adjusted_start adjusted_end days frac notional rate) = Unit {0}
+RowHasPlaces (Reset k i reset fixing observed) = Unit {0}
 
 -- the first line
 abbrev pub header : List ℕ
@@ -84,5 +84,5 @@ abbrev pub text_from : List Row → List ℕ
 text_from rows = flat_map row_text_of rows ++ footer
 
 -- the text of a schedule
-abbrev pub text_of : List Part → List ℕ
-text_of s = header ++ text_from (rows_of s)
+abbrev pub schedule_text : List Part → List ℕ
+schedule_text s = header ++ text_from (rows_of s)

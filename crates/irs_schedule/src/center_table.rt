@@ -2,7 +2,7 @@
 //! however many elements and streams have it.
 ghost use Rattle.std.specs.Prelude.{◌≡◌, ◌↔◌, ℕ, Contains, Some, option_copied, IfOk, IsSome, IsTrue, IfSome, OnOk};
 ghost use Rattle.std.specs.Prelude.{slice_get};
-ghost use Rattle.irs_terms.specs.Lawful.{IsLawful, IsLawfulStream};
+ghost use Rattle.irs_terms.specs.Lawful.{IsLawfulSwap, IsLawfulStream};
 ghost use Rattle.irs_terms.specs.declared.stream.Stream.{Stream as StreamTerms};
 ghost use Rattle.irs_schedule.specs.DaySets.{applicable_days, boundary_days, payment_days, reset_days, fixing_days};
 ghost use Rattle.irs_schedule.specs.Private.CenterDays.{CanFind, HasMore, HasMoreOf, HasStream, HasSwap, centers_named};
@@ -79,7 +79,7 @@ impl<'cal, 'swap> CenterTable<'cal, 'swap> {
         swap: &'swap Swap,
         cal: &'cal Calendars,
     ) -> Result<CenterTable<'cal, 'swap>, Memory>
-        requires lawful { IsLawful swap.now }
+        requires lawful { IsLawfulSwap swap.now }
         requires kept { (i : ℕ) (s : StreamTerms) → slice_get swap.now.streams i ≡ Some s → TermsKept cal.now s }
         ensures { IfOk result (HasSwap cal.now swap.now) }
     {

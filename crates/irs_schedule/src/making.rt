@@ -6,7 +6,7 @@ ghost use Rattle.irs_base.specs.Faults.{in_stream};
 ghost use Rattle.irs_base.specs.Order.{Only};
 ghost use Rattle.irs_base.specs.Outcomes.{Determined, Meets, RefusesNothing, refused_as};
 ghost use Rattle.irs_base.specs.declared.places.Broken.{Broken as BrokenRule};
-ghost use Rattle.irs_terms.specs.Lawful.{IsLawful, IsLawfulStream};
+ghost use Rattle.irs_terms.specs.Lawful.{IsLawfulSwap, IsLawfulStream};
 ghost use Rattle.irs_terms.specs.declared.stream.Stream.{Stream as StreamTerms};
 ghost use Rattle.irs_calendar.specs.declared.sections.Section.{Section};
 ghost use Rattle.irs_rules.specs.TermsKept.{TermsKept};
@@ -42,7 +42,7 @@ pub fn make_schedule(
     cal: &Calendars,
     fix: &Fixings,
 ) -> Result<Schedule, SchedErr>
-    requires lawful { IsLawful swap.now }
+    requires lawful { IsLawfulSwap swap.now }
     // `check_terms` finds nothing.
     requires terms { (f : BrokenRule) → BreaksTerms swap.now cal.now f → ⊥ }
     ensures meets { Meets (schedule_of swap.now cal.now fix.now) result }
@@ -60,7 +60,7 @@ pub fn find_centers<'cal, 'swap>(
     swap: &'swap Swap,
     cal: &'cal Calendars,
 ) -> Result<CenterTable<'cal, 'swap>, Memory>
-    requires lawful { IsLawful swap.now }
+    requires lawful { IsLawfulSwap swap.now }
     requires terms { (f : BrokenRule) → BreaksTerms swap.now cal.now f → ⊥ }
     ensures { IfOk result (λ t. t.sections ≡ cal.now) }
 {
@@ -76,7 +76,7 @@ pub fn make_schedule_by(
     table: &CenterTable<'_, '_>,
     fix: &Fixings,
 ) -> Result<Schedule, SchedErr>
-    requires lawful { IsLawful swap.now }
+    requires lawful { IsLawfulSwap swap.now }
     requires terms { (f : BrokenRule) → BreaksTerms swap.now table.now.sections f → ⊥ }
     ensures meets { Meets (schedule_of swap.now table.now.sections fix.now) result }
     ensures ok { IfOk result (IsSchedule swap.now table.now.sections fix.now) }
@@ -91,7 +91,7 @@ pub fn make_schedule_by(
 /// A law: a swap has one schedule, or one first rule that it breaks. Where it breaks none, exactly one
 /// list of parts is its schedule.
 pub fn schedule_is_determined(swap: &Swap, cal: &Calendars, fix: &Fixings)
-    requires lawful { IsLawful swap.now }
+    requires lawful { IsLawfulSwap swap.now }
     requires terms { (f : BrokenRule) → BreaksTerms swap.now cal.now f → ⊥ }
     ensures outcome { Determined (schedule_of swap.now cal.now fix.now) }
     ensures only { RefusesNothing (schedule_of swap.now cal.now fix.now)
@@ -105,7 +105,7 @@ fn schedule_by(
     table: &CenterTable<'_, '_>,
     fix: &Fixings,
 ) -> Result<Schedule, SchedErr>
-    requires lawful { IsLawful swap.now }
+    requires lawful { IsLawfulSwap swap.now }
     requires kept { (i : ℕ) (s : StreamTerms) → slice_get swap.now.streams i ≡ Some s → TermsKept table.now.sections s }
     requires table { HasSwap table.now.sections swap.now table.now }
     ensures { Meets (schedule_of swap.now table.now.sections fix.now) result }

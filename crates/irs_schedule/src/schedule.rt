@@ -3,7 +3,7 @@ ghost use Rattle.std.specs.Prelude.{◌≡◌, ◌+◌, ◌≤◌, length};
 ghost use Rattle.std.specs.Iterator.{YieldsFirst, item_count};
 ghost use Rattle.irs_schedule.specs.Parts.{IsWithin};
 ghost use Rattle.irs_schedule.specs.RowsOf.{most_schedule_rows, rows_of};
-ghost use Rattle.irs_schedule.specs.RowTexts.{HasPlaces};
+ghost use Rattle.irs_schedule.specs.RowTexts.{RowHasPlaces};
 ghost use Rattle.irs_base.specs.Members.{Every};
 
 use crate::Row;
@@ -65,7 +65,7 @@ impl Schedule {
     #[tactic(auto, using(crate::proofs::PlaceLemmas::rows_few, crate::proofs::CountLemmas::rows_count), unfolding(crate::specs::RowsOf::rows_of))]
     pub fn rows(&self) -> Rows<'_>
         ensures rows { result ≡ rows_of self.now }
-        ensures places { Every HasPlaces result }
+        ensures places { Every RowHasPlaces result }
         ensures count { length (rows_of self.now) ≤ most_schedule_rows }
         ensures bounds { IsWithin self.now }
     {

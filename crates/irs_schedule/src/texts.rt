@@ -5,8 +5,9 @@
 ghost use Rattle.std.specs.Prelude.{◌≡◌, ◌+◌, ◌<◌, ◌≤◌, [], ◌∷◌, ◌++◌, length, IfSome};
 ghost use Rattle.std.specs.Fmt.{decimal, signed_decimal};
 ghost use Rattle.irs_base.specs.Texts.{day_text, dec_text};
-ghost use Rattle.irs_schedule.specs.RowTexts.{row_text_of, fields_of, code_text, kind_text, dec_or_dash, rate_or_dash};
-ghost use Rattle.irs_schedule.specs.RowTexts.{HasPlaces, IsFew};
+ghost use Rattle.irs_schedule.specs.RowTexts.{row_text_of, schedule_row_fields, code_text, kind_text, dec_or_dash};
+ghost use Rattle.irs_schedule.specs.RowTexts.{rate_or_dash};
+ghost use Rattle.irs_schedule.specs.RowTexts.{RowHasPlaces, IsFew};
 
 use crate::Row;
 use irs_base::{Day, Dec, Line, day_digits};
@@ -112,7 +113,7 @@ fn put_rate(line: &mut Line, v: Option<i64>)
 /// Replaces what the line holds with the text of a row and its line feed.
 #[tactic(auto, unfolding(crate::specs::RowTexts::row_text_of))]
 pub fn row_text(row: &Row, line: &mut Line)
-    requires { HasPlaces row.now }
+    requires { RowHasPlaces row.now }
     ensures { line.new ≡ row_text_of row.now }
 {
     line.clear();
@@ -122,9 +123,9 @@ pub fn row_text(row: &Row, line: &mut Line)
 
 // Writes the fields of a row to an empty line.
 fn put_fields(row: &Row, line: &mut Line)
-    requires places { HasPlaces row.now }
+    requires places { RowHasPlaces row.now }
     requires empty { line.old ≡ [] }
-    ensures text { line.new ≡ fields_of row.now }
+    ensures text { line.new ≡ schedule_row_fields row.now }
     ensures fits { length line.new < 512 }
 {
     match *row {

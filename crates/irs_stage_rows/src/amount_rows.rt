@@ -5,7 +5,7 @@
 //! decimals of the amount. A period is its notional, its base rate and its rate, or `unknown`, and
 //! its day count fraction. `8000 * ` before a period repeats it that number of times.
 ghost use Rattle.std.specs.Prelude.{IsTrue, All};
-ghost use Rattle.irs_compound.specs.Amounts.{IsFraction, IsPayment, IsTerm};
+ghost use Rattle.irs_compound.specs.Amounts.{IsDayCountFraction, IsPaymentOfTerms, IsTermOver};
 ghost use Rattle.irs_terms.specs.Lawful.{IsNotional};
 
 use crate::telling::Told;
@@ -27,19 +27,19 @@ fn is_notional(value: i128) -> bool
 
 // A row has no numerator above that of a leap year.
 fn is_fraction(frac: Frac) -> bool
-    ensures { IsTrue result → IsFraction frac }
+    ensures { IsTrue result → IsDayCountFraction frac }
 {
     0 <= frac.num && frac.num <= 366 && 1 <= frac.den && frac.den <= 133_590
 }
 
 fn is_term(den: i64, p: &PeriodTerm) -> bool
-    ensures { IsTrue result → IsTerm den p.now }
+    ensures { IsTrue result → IsTermOver den p.now }
 {
     is_notional(p.notional) && is_fraction(p.frac) && p.frac.den == den
 }
 
 fn are_terms(den: i64, periods: &[PeriodTerm]) -> bool
-    ensures { IsTrue result → All (IsTerm den) periods.now }
+    ensures { IsTrue result → All (IsTermOver den) periods.now }
 {
     match periods {
         [] => true,
@@ -49,7 +49,7 @@ fn are_terms(den: i64, periods: &[PeriodTerm]) -> bool
 
 // Whether there is a period, there are not too many, and all have one denominator.
 fn is_payment(periods: &[PeriodTerm]) -> bool
-    ensures { IsTrue result → IsPayment periods.now }
+    ensures { IsTrue result → IsPaymentOfTerms periods.now }
 {
     match periods {
         [] => false,

@@ -1,6 +1,6 @@
 //! Swaps of the streams that rows change.
 ghost use Rattle.std.specs.Prelude.{IfSome};
-ghost use Rattle.irs_terms.specs.Lawful.{IsLawful, IsLawfulStream};
+ghost use Rattle.irs_terms.specs.Lawful.{IsLawfulSwap, IsLawfulStream};
 
 use crate::edits::make_edits;
 use crate::sources::Sources;
@@ -44,7 +44,7 @@ fn document_of(rt: &HostRuntime, sources: &Sources, file: &str, edits: &str) -> 
 
 /// The swap whose streams are the file's after edits, `//` between those of each stream.
 pub fn swap_of(rt: &HostRuntime, sources: &Sources, file: &str, edits: &str) -> Option<Swap>
-    ensures { IfSome result IsLawful }
+    ensures { IfSome result IsLawfulSwap }
 {
     let document = document_of(rt, sources, file, edits)?;
     match read_swap(rt.alloc(), &document) {
@@ -55,7 +55,7 @@ pub fn swap_of(rt: &HostRuntime, sources: &Sources, file: &str, edits: &str) -> 
 
 /// The one stream of a swap.
 pub fn one_stream(swap: &Swap) -> Option<&Stream>
-    requires { IsLawful swap.now }
+    requires { IsLawfulSwap swap.now }
     ensures { IfSome result (λ s. IsLawfulStream s.now) }
 {
     match swap.streams.as_slice() {

@@ -8,7 +8,7 @@
 //! whole number. `numbers` has two numbers, in a line that held a text and was cleared. `path` has
 //! the name of an element, whose path is reported.
 ghost use Rattle.std.specs.Prelude.{◌≤◌, IfSome};
-ghost use Rattle.irs_accrue.specs.Accruals.{HasPlaces};
+ghost use Rattle.irs_accrue.specs.Accruals.{AccrualHasPlaces};
 
 use crate::boundaries::day;
 use crate::telling::Told;
@@ -45,7 +45,7 @@ fn known_amount(text: &str) -> Option<Option<Dec>>
 }
 
 fn accrual_of(text: &str) -> Option<Accrual>
-    ensures { IfSome result HasPlaces }
+    ensures { IfSome result AccrualHasPlaces }
 {
     if text == "none" {
         return Some(Accrual::Outside);

@@ -1,6 +1,6 @@
 //! What is reported of the rules of the terms: the first that a swap breaks, after the number of
 //! its stream, or `kept`.
-ghost use Rattle.irs_terms.specs.Lawful.{IsLawful};
+ghost use Rattle.irs_terms.specs.Lawful.{IsLawfulSwap};
 
 use crate::telling::Told;
 use irs_base::Fault;
@@ -10,7 +10,7 @@ use irs_terms::Swap;
 
 /// The first rule of the terms that is broken.
 pub fn rule_lines(told: &mut Told, calendars: &Calendars, swap: &Swap)
-    requires { IsLawful swap.now }
+    requires { IsLawfulSwap swap.now }
 {
     let Some(broken) = check_terms(swap, calendars) else {
         told.line("kept");

@@ -1,5 +1,5 @@
 //! What each stage reports of what a row gives it.
-ghost use Rattle.irs_terms.specs.Lawful.{IsLawful, IsLawfulStream};
+ghost use Rattle.irs_terms.specs.Lawful.{IsLawfulSwap, IsLawfulStream};
 
 use crate::amount_rows::amount_lines;
 use crate::calendar_rows::calendar_lines;
@@ -143,7 +143,7 @@ fn tell_one(
 
 // Reports the rules of the terms, by the calendars of a file.
 fn tell_rules_by(told: &mut Told, rt: &HostRuntime, swap: &Swap, file: &str) -> Option<()>
-    requires { IsLawful swap.now }
+    requires { IsLawfulSwap swap.now }
 {
     let bytes = file_of(rt, file)?;
     let calendars = calendars_of(rt.alloc(), &bytes)?;

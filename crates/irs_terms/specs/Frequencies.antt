@@ -7,8 +7,8 @@ use Rattle.irs_terms.specs.declared.stream.Stream.{Stream}
 use Rattle.irs_terms.specs.Lengths.{length_of, same_length, IsTimes}
 
 -- a whole multiple
-abbrev pub IsMultiple : ℕ → ℕ → Type 0
-IsMultiple whole part = (times : ℕ) × IsTimes whole part times
+abbrev pub IsWholeMultiple : ℕ → ℕ → Type 0
+IsWholeMultiple whole part = (times : ℕ) × IsTimes whole part times
 
 -- a whole multiple, more than once
 abbrev pub IsLargerMultiple : ℕ → ℕ → Type 0
@@ -17,11 +17,11 @@ IsLargerMultiple whole part = (times : ℕ) × (1 < times) × IsTimes whole part
 -- A payment has whole calculation periods: days are a whole multiple of days, and months of months.
 -- A single payment for the whole term has them all. Where the one period is the term, so is the payment.
 abbrev pub HasWholePeriods : Length → Length → Type 0
-HasWholePeriods (Days pay) (Days calc) = IsMultiple pay calc
+HasWholePeriods (Days pay) (Days calc) = IsWholeMultiple pay calc
 HasWholePeriods (Days pay) (Months calc) = ⊥
 HasWholePeriods (Days pay) (Term calc) = ⊥
 HasWholePeriods (Months pay) (Days calc) = ⊥
-HasWholePeriods (Months pay) (Months calc) = IsMultiple pay calc
+HasWholePeriods (Months pay) (Months calc) = IsWholeMultiple pay calc
 HasWholePeriods (Months pay) (Term calc) = ⊥
 HasWholePeriods (Term pay) (Days calc) = pay ≡ 1
 HasWholePeriods (Term pay) (Months calc) = pay ≡ 1

@@ -165,5 +165,5 @@ pub record IsLawfulStream (s : Stream) : Type 0 where
   pub stubs : IfSome s.stubs IsLawfulStubs
 
 -- 1 to 8 lawful streams
-abbrev pub IsLawful : Swap → Type 0
-IsLawful swap = (1 ≤ length swap.streams) × (length swap.streams ≤ most_streams) × All IsLawfulStream swap.streams
+abbrev pub IsLawfulSwap : Swap → Type 0
+IsLawfulSwap swap = (1 ≤ length swap.streams) × (length swap.streams ≤ most_streams) × All IsLawfulStream swap.streams

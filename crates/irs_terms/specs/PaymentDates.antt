@@ -7,7 +7,7 @@ use Rattle.irs_terms.specs.declared.dates.PayTerms.{PayTerms}
 use Rattle.irs_terms.specs.declared.stream.Stream.{Stream}
 use Rattle.irs_terms.specs.FirstDay.{first_day_of}
 use Rattle.irs_terms.specs.TermDates.{termination_of}
-use Rattle.irs_terms.specs.Suiting.{IsTerm}
+use Rattle.irs_terms.specs.Suiting.{IsWholeTerm}
 use Rattle.irs_terms.specs.Lengths.{length_of}
 use Rattle.irs_terms.specs.Frequencies.{GroupsPeriods}
 
@@ -16,20 +16,20 @@ abbrev pub StartsLater : Stream → Type 0
 StartsLater s = IsSomeAnd s.first_regular (λ d. d ≢ first_day_of s)
 
 -- the stub type is ShortInitial or LongInitial
-abbrev pub IsInitial : Option StubKind → Type 0
-IsInitial None = ⊥
-IsInitial (Some ShortInitial) = Unit {0}
-IsInitial (Some LongInitial) = Unit {0}
-IsInitial (Some ShortFinal) = ⊥
-IsInitial (Some LongFinal) = ⊥
+abbrev pub IsInitialKind : Option StubKind → Type 0
+IsInitialKind None = ⊥
+IsInitialKind (Some ShortInitial) = Unit {0}
+IsInitialKind (Some LongInitial) = Unit {0}
+IsInitialKind (Some ShortFinal) = ⊥
+IsInitialKind (Some LongFinal) = ⊥
 
 -- no regular date is given, and the stub type is that of an initial stub
 abbrev pub HasInitialKind : Stream → Type 0
-HasInitialKind s = IsNone s.first_regular × IsNone s.last_regular × IsInitial s.stub
+HasInitialKind s = IsNone s.first_regular × IsNone s.last_regular × IsInitialKind s.stub
 
 -- the terms call for an initial stub, by a later start or by the stub type; for frequency T they never do
 abbrev pub AsksInitialStub : Stream → Type 0
-AsksInitialStub s = (IsTerm s.freq → ⊥) × (StartsLater s ⊎ HasInitialKind s)
+AsksInitialStub s = (IsWholeTerm s.freq → ⊥) × (StartsLater s ⊎ HasInitialKind s)
 
 -- Payments have more than one period and the terms call for an initial stub. Then the first payment date
 -- alone says how many periods the first payment has.
@@ -38,7 +38,7 @@ NeedsFirstPayment s = GroupsPeriods (length_of s.pay.freq) (length_of s.freq) ×
 
 -- regular payment dates go with payments at the periods' ends, and with more than one payment
 abbrev pub HasRegularPayments : PayTerms → Type 0
-HasRegularPayments p = (p.relative ≡ End) × (IsTerm p.freq → ⊥)
+HasRegularPayments p = (p.relative ≡ End) × (IsWholeTerm p.freq → ⊥)
 
 -- the day is after the first day of the first period, and not after the termination date
 abbrev pub IsPaymentInside : Stream → ℤ → Type 0

@@ -37,12 +37,12 @@ abbrev pub Suits : Frequency → RollCode → Type 0
 Suits freq roll = SuitsBy freq.unit roll
 
 -- the frequency is the whole term
-abbrev pub IsTerm : Frequency → Type 0
-IsTerm freq = freq.unit ≡ T
+abbrev pub IsWholeTerm : Frequency → Type 0
+IsWholeTerm freq = freq.unit ≡ T
 
 -- K14 isn't broken: the roll suits the frequency; the term counts once, and has no regular date
 pub record FrequencySuits (s : Stream) : Type 0 where
   pub suits : Suits s.freq s.roll
-  pub once : IsTerm s.freq → s.freq.count ≡ 1
-  pub no_first : IsTerm s.freq → s.first_regular ≡ None
-  pub no_last : IsTerm s.freq → s.last_regular ≡ None
+  pub once : IsWholeTerm s.freq → s.freq.count ≡ 1
+  pub no_first : IsWholeTerm s.freq → s.first_regular ≡ None
+  pub no_last : IsWholeTerm s.freq → s.last_regular ≡ None

@@ -19,7 +19,7 @@ use Rattle.irs_calendar.specs.GoodDays.{DaySet}
 use Rattle.irs_calendar.specs.declared.sections.Section.{Section}
 use Rattle.irs_periods.specs.Spans.{Regular}
 use Rattle.irs_periods.proofs.OneSpan.{one_span}
-use Rattle.irs_resets.specs.ObservedRates.{ComesFrom, IsKind, IsObserved, Line, RateSource, Stated, rate_from}
+use Rattle.irs_resets.specs.ObservedRates.{ComesFrom, IsPeriodKind, IsObserved, Line, RateSource, Stated, rate_from}
 use Rattle.irs_resets.specs.Private.ObservedRates.{source_by}
 use Rattle.irs_resets.specs.Rates.{RateTable, rate_at}
 use Rattle.irs_resets.specs.Resets.{HasResets, IsReset, IsResets, IsResetsOf, ResetSource}
@@ -27,7 +27,7 @@ use Rattle.irs_resets.specs.declared.observed.PeriodKind.{PeriodKind}
 use Rattle.irs_resets.proofs.KindLaws.{one_kind}
 use Rattle.irs_resets.proofs.ObservedLaws.{observed_is}
 use Rattle.irs_observed.specs.DailyRates.{DailyRates, daily_rates, one_day}
-use Rattle.irs_observed.specs.ObservationRules.{Lacks}
+use Rattle.irs_observed.specs.ObservationRules.{LacksObservations}
 use Rattle.irs_observed.specs.OvernightRates.{IsOvernightRate, IsRateOf, IsRateOver, observation_fault, period_of}
 use Rattle.irs_observed.specs.OvernightResets.{AreOvernightResets, BreaksOvernight, DailySource, daily_source}
 use Rattle.irs_observed.specs.RateOrigins.{HasOwnRate}
@@ -90,7 +90,7 @@ pub record ResetGap (fix : RateTable) (s : Stream) (p : Part) (n : ℕ) (float :
   pub span : Span
   pub regular : Regular s span
   pub kind : PeriodKind
-  pub is_kind : IsKind s span (length p.periods) n kind
+  pub is_kind : IsPeriodKind s span (length p.periods) n kind
   pub observed : IsObserved kind float s.stubs fix row.fixing None
 
 has_resets : (source : ResetSource) (fix : RateTable) (rows : List Reset) (float : FloatTerms)
@@ -164,7 +164,7 @@ module _ (cal : List Section) (fix : RateTable) (s : Stream) (p : Part) (n : ℕ
                 span = stages.span;
                 regular = stages.regular;
                 kind = reset.kind;
-                is_kind = subst (λ (m : ℕ). IsKind s stages.span m n reset.kind) (sym count) reset.is_kind;
+                is_kind = subst (λ (m : ℕ). IsPeriodKind s stages.span m n reset.kind) (sym count) reset.is_kind;
                 observed = subst (IsObserved reset.kind float s.stubs fix row.fixing) none reset.observed;
               }
           | inr w ↦ absurd (let past = w.0 in omega (arith, past, low, top, count, same))
@@ -178,13 +178,13 @@ module _ (cal : List Section) (fix : RateTable) (s : Stream) (p : Part) (n : ℕ
         omega (arith, low, within)
 
     module _ (span : Span) (regular : Regular s span) (kind : PeriodKind)
-        (is_kind : IsKind s span (length p.periods) n kind) where
+        (is_kind : IsPeriodKind s span (length p.periods) n kind) where
       same_kind : reset_gap.kind ≡ kind
       same_kind =
           let g = reset_gap in
           let one : g.span ≡ span = one_span s g.span span g.regular regular in
           one_kind s span (length p.periods) n g.kind kind
-          (subst (λ (x : Span). IsKind s x (length p.periods) n g.kind) one g.is_kind) is_kind
+          (subst (λ (x : Span). IsPeriodKind s x (length p.periods) n g.kind) one g.is_kind) is_kind
 
       -- the rate of its source is absent on its fixing date
       source_absent : None ≡ rate_from (source_by kind float s.stubs) fix reset_gap.row.fixing
@@ -267,7 +267,7 @@ module _ (cal : List Section) (fix : RateTable) (s : Stream) (p : Part) (n : ℕ
     rate_over = own_or_over overnight.kind overnight.is_rate
 
     -- it has its observations
-    pub observed : (why : NoObservations) → Lacks (daily_period cal s parameters p n) why → ⊥
+    pub observed : (why : NoObservations) → LacksObservations (daily_period cal s parameters p n) why → ⊥
     observed why lacks =
         let low = h.unrated.from_one in
         let top = high in
@@ -311,7 +311,7 @@ module _ (cal : List Section) (fix : RateTable) (s : Stream) (p : Part) (n : ℕ
           regular = stages.regular;
           kind = overnight.kind;
           is_kind =
-              subst (λ (m : ℕ). IsKind s stages.span m n overnight.kind) (sym many) overnight.is_kind;
+              subst (λ (m : ℕ). IsPeriodKind s stages.span m n overnight.kind) (sym many) overnight.is_kind;
           rests = rests;
         } in
         let none = absent_none fixings day.observations f.day day.first in

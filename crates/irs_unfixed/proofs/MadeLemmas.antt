@@ -15,7 +15,7 @@ use Rattle.irs_observed.specs.declared.overnight_rate.OvernightRate.{OvernightRa
 use Rattle.irs_compound.specs.OvernightRates.{AreRatesIn, rates_in}
 use Rattle.irs_compound.specs.declared.periods.Rates.{Rates}
 use Rattle.irs_schedule.specs.DaySets.{applicable_days, stream_sets}
-use Rattle.irs_schedule.specs.KeptTerms.{kept_of}
+use Rattle.irs_schedule.specs.KeptTerms.{kept_terms_of}
 use Rattle.irs_schedule.specs.Outcomes.{resets_over, stream_of}
 use Rattle.irs_schedule.specs.Parts.{Part}
 use Rattle.irs_schedule.specs.Schedules.{IsAmountFor, IsPeriodTerm, observed_of, StreamDates, part_dates, rate_in}
@@ -30,7 +30,8 @@ use Rattle.irs_schedule.proofs.LayoutRules.{layout_kept}
 use Rattle.irs_schedule.proofs.PaidEntries.{entries_are}
 use Rattle.irs_schedule.proofs.PeriodLemmas.{entry_at, length_periods}
 use Rattle.irs_schedule.proofs.RateLemmas.{with_rates}
-use Rattle.irs_unfixed.specs.Private.Made.{HasSpan, IsMade, reset_source}
+use Rattle.irs_periods.specs.Outcomes.{HasSpan}
+use Rattle.irs_unfixed.specs.Private.Made.{IsMade, reset_source}
 use Rattle.irs_unfixed.specs.Unfixed.{IsUnrated, LacksRate}
 use Rattle.irs_unfixed.proofs.RateLemmas.{IsUnknown, map_none, rates_none, unknown_by}
 
@@ -42,7 +43,7 @@ pub record Stages (cal : List Section) (fix : RateTable) (s : Stream) (p : Part)
   pub rates : List OvernightRate
   pub resets_made : (resets_in s.leg (reset_source cal s p span) (applicable_days cal s) fix).Answers (with_rates p.resets rates)
   pub amounts : Every (IsPaymentEntry (part_dates s p rates)) p.payments
-  pub periods : p.periods ≡ periods_by (kept_of s) p.unadjusted p.adjusted p.resets rates
+  pub periods : p.periods ≡ periods_by (kept_terms_of s) p.unadjusted p.adjusted p.resets rates
 
 -- what a lawful stream comes to has them
 pub stages_of : (cal : List Section) (fix : RateTable) (s : Stream) (p : Part) → IsMade cal fix s p
@@ -70,7 +71,7 @@ stages_of cal fix s p h =
           subst (λ (q : Part). Every (IsPaymentEntry (part_dates s q events.rates)) q.payments) is
           (entries_are (layout_dates s l events.resets events.rates) events.payments m.2.2.0 m.2.2.1.1).1;
       periods =
-          subst (λ (q : Part). q.periods ≡ periods_by (kept_of s) q.unadjusted q.adjusted q.resets events.rates) is refl;
+          subst (λ (q : Part). q.periods ≡ periods_by (kept_terms_of s) q.unadjusted q.adjusted q.resets events.rates) is refl;
     }
 
 module _ (cal : List Section) (fix : RateTable) (s : Stream) (p : Part) (h : IsMade cal fix s p)
@@ -83,18 +84,18 @@ module _ (cal : List Section) (fix : RateTable) (s : Stream) (p : Part) (h : IsM
   rates_at n = rates_in s.leg (day_at p.unadjusted (n - 1)) (observed_of p.resets n) (slice_get g.rates (n - 1))
 
   abbrev entry_of : ℕ → PeriodEntry
-  entry_of n = period_by (kept_of s) p.unadjusted p.adjusted p.resets g.rates n
+  entry_of n = period_by (kept_terms_of s) p.unadjusted p.adjusted p.resets g.rates n
 
   -- the period with a number
   period_there : (n : ℕ) → 1 ≤ n → n ≤ length p.periods → slice_get p.periods (n - 1) ≡ Some (entry_of n)
   period_there n low high =
-      let all = periods_by (kept_of s) p.unadjusted p.adjusted p.resets g.rates in
+      let all = periods_by (kept_terms_of s) p.unadjusted p.adjusted p.resets g.rates in
       let many = h.bounds.adjusted in
-      let same = length_periods (kept_of s) p.unadjusted p.adjusted p.resets g.rates in
+      let same = length_periods (kept_terms_of s) p.unadjusted p.adjusted p.resets g.rates in
       let within : n - 1 < length all = omega (arith, low, high, many, same) in
       ap (λ (es : List PeriodEntry). slice_get es (n - 1)) g.periods ∙ slice_get-get_or all (n - 1) no_period within
       ∙ ap (λ (e : PeriodEntry). Some e)
-      (entry_at (kept_of s) p.unadjusted p.adjusted p.resets g.rates n (omega (arith, low)) (omega (arith, high, many)))
+      (entry_at (kept_terms_of s) p.unadjusted p.adjusted p.resets g.rates n (omega (arith, low)) (omega (arith, high, many)))
 
   -- ---- a payment without an amount
 

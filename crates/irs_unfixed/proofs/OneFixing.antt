@@ -15,7 +15,7 @@ use Rattle.irs_terms.specs.declared.results.Span.{Span}
 use Rattle.irs_terms.specs.declared.stream.Stream.{Stream}
 use Rattle.irs_calendar.specs.declared.sections.Section.{Section}
 use Rattle.irs_periods.proofs.OneSpan.{one_span}
-use Rattle.irs_resets.specs.ObservedRates.{IsKind, Line}
+use Rattle.irs_resets.specs.ObservedRates.{IsPeriodKind, Line}
 use Rattle.irs_resets.specs.Rates.{RateTable}
 use Rattle.irs_resets.specs.declared.observed.PeriodKind.{PeriodKind}
 use Rattle.irs_resets.proofs.KindLaws.{one_kind}
@@ -93,7 +93,7 @@ module _ (cal : List Section) (rates : RateTable) (s : Stream) (p : Part) (n : �
       let span : k.span ≡ h.span = one_span s k.span h.span k.regular h.regular in
       let kind : k.kind ≡ h.kind =
       one_kind s h.span (length p.periods) n k.kind h.kind
-      (subst (λ (x : Span). IsKind s x (length p.periods) n k.kind) span k.is_kind) h.is_kind in
+      (subst (λ (x : Span). IsPeriodKind s x (length p.periods) n k.kind) span k.is_kind) h.is_kind in
       one_by float.parameters float h.kind h.rests
       (subst (λ (x : PeriodKind). RestsBy float.parameters float cal rates s p n x g) kind k.rests)
 

@@ -12,7 +12,7 @@ use Rattle.irs_terms.specs.declared.results.Span.{Span}
 use Rattle.irs_terms.specs.declared.stream.Stream.{Stream}
 use Rattle.irs_calendar.specs.declared.sections.Section.{Section}
 use Rattle.irs_periods.specs.Spans.{Regular}
-use Rattle.irs_resets.specs.ObservedRates.{ComesFrom, IsKind, Line}
+use Rattle.irs_resets.specs.ObservedRates.{ComesFrom, IsPeriodKind, Line}
 use Rattle.irs_resets.specs.Rates.{RateTable, rate_at}
 use Rattle.irs_resets.specs.declared.observed.PeriodKind.{PeriodKind}
 use Rattle.irs_observed.specs.DailyRates.{daily_rates, one_day}
@@ -72,7 +72,7 @@ pub record FloatsOn (float : FloatTerms) (cal : List Section) (rates : RateTable
   pub span : Span
   pub regular : Regular s span
   pub kind : PeriodKind
-  pub is_kind : IsKind s span (length p.periods) i kind
+  pub is_kind : IsPeriodKind s span (length p.periods) i kind
   pub rests : RestsBy float.parameters float cal rates s p i kind f
 
 -- by what the stream pays: a fixed rate rests on no fixing

@@ -1,7 +1,7 @@
 -- The first payment of a schedule without an amount, and the fixing that it lacks.
 use Rattle.std.specs.Prelude.{◌≡◌, ℕ, ◌-◌, nat_lt, List, Some, slice_get}
 use Rattle.irs_base.specs.Order.{First}
-use Rattle.irs_terms.specs.Lawful.{IsLawful}
+use Rattle.irs_terms.specs.Lawful.{IsLawfulSwap}
 use Rattle.irs_terms.specs.declared.stream.Stream.{Stream}
 use Rattle.irs_terms.specs.declared.stream_list.Swap.{Swap}
 use Rattle.irs_calendar.specs.declared.sections.Section.{Section}
@@ -28,7 +28,7 @@ made_from swap cal rates = record { swap = swap; cal = cal; rates = rates }
 
 -- a lawful swap breaks no rule, and this is its schedule
 pub record IsMadeFrom (x : MadeFrom) (parts : List Part) : Type 0 where
-  pub lawful : IsLawful x.swap
+  pub lawful : IsLawfulSwap x.swap
   pub terms : BreaksNone x.swap x.cal
   pub dated : DatedKept x.swap x.cal x.rates
   pub schedule : IsSchedule x.swap x.cal x.rates parts
@@ -53,13 +53,13 @@ pub record IsFirstLacking (x : MadeFrom) (parts : List Part) (u : PaymentPlace) 
 -- ---- what the code hands on
 
 -- the fixing that is missing
-abbrev pub fixing_of : Missing → Fixing
-fixing_of m = record { index = m.index.now; tenor = m.tenor; day = m.day }
+abbrev pub missing_fixing : Missing → Fixing
+missing_fixing m = record { index = m.index.now; tenor = m.tenor; day = m.day }
 
 -- the place of the payment that lacks it
-abbrev pub place_of : Missing → PaymentPlace
-place_of m = record { stream = m.stream; payment = m.payment }
+abbrev pub missing_place : Missing → PaymentPlace
+missing_place m = record { stream = m.stream; payment = m.payment }
 
 -- m names the first payment of the schedule without an amount, and the fixing that it lacks
 abbrev pub IsFirstMissing : MadeFrom → List Part → Missing → Type 0
-IsFirstMissing x parts m = IsFirstLacking x parts (place_of m) (fixing_of m)
+IsFirstMissing x parts m = IsFirstLacking x parts (missing_place m) (missing_fixing m)

@@ -2,7 +2,7 @@
 ghost use Rattle.std.specs.Prelude.{◌<ℤ◌, ℤ, IfNone, IfOk, IfSome};
 ghost use Rattle.irs_observed.specs.DailyRates.{AreKnown, daily_rates, rates_by};
 ghost use Rattle.irs_observed.specs.ObservationPeriods.{observed_period};
-ghost use Rattle.irs_observed.specs.ObservationRules.{Lacks};
+ghost use Rattle.irs_observed.specs.ObservationRules.{LacksObservations};
 ghost use Rattle.irs_observed.specs.declared.observation.NoObservations.{NoObservations as Reason};
 ghost use Rattle.irs_unfixed.specs.AbsentDays.{FirstAbsent, IsAbsentDay};
 ghost use Rattle.irs_unfixed.specs.Private.AbsentDays.{HasAbsentDay};
@@ -39,7 +39,7 @@ pub(crate) fn absent_day<G: GoodDays>(
     index: &Text,
 ) -> Result<Day, Memory>
     requires order { start <ℤ end }
-    requires observed { let p = observed_period offset (G.days days.now) start end in (why : Reason) → Lacks p why → ⊥ }
+    requires observed { let p = observed_period offset (G.days days.now) start end in (why : Reason) → LacksObservations p why → ⊥ }
     requires absent { let p = observed_period offset (G.days days.now) start end in
         HasAbsentDay (daily_rates fixings.now index.now) p }
     ensures { let p = observed_period offset (G.days days.now) start end in

@@ -4,7 +4,8 @@
 //! it is that of its observation days. Where a line is absent, the rate isn't known, and neither is the amount
 //! of the payment. The first such payment names the fixing to look for first: that is our rule.
 ghost use Rattle.std.specs.Prelude.{◌≡◌, IfNone, IfOk, IfSome};
-ghost use Rattle.irs_unfixed.specs.Missing.{IsFirstMissing, IsMadeFrom, PaymentLacks, fixing_of, place_of, made_from};
+ghost use Rattle.irs_unfixed.specs.Missing.{IsFirstMissing, IsMadeFrom, PaymentLacks, missing_fixing, missing_place};
+ghost use Rattle.irs_unfixed.specs.Missing.{made_from};
 ghost use Rattle.irs_unfixed.specs.Unfixed.{EachHasAmount, UnfixedAt};
 
 use crate::needed::needed_fixing;
@@ -74,9 +75,9 @@ fn missing_at<'a>(
 ) -> Result<Missing<'a>, Memory>
     requires made { IsMadeFrom (made_from swap.now calendars.now fixings.now) schedule.now }
     requires unfixed { UnfixedAt schedule.now place }
-    ensures at { IfOk result (λ m. place_of m ≡ place) }
+    ensures at { IfOk result (λ m. missing_place m ≡ place) }
     ensures lacks { let x = made_from swap.now calendars.now fixings.now in
-        IfOk result (λ m. PaymentLacks x schedule.now place (fixing_of m)) }
+        IfOk result (λ m. PaymentLacks x schedule.now place (missing_fixing m)) }
 {
     let index = place.stream as usize - 1;
     let stream = &swap.streams.as_slice()[index];

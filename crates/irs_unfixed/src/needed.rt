@@ -11,7 +11,8 @@ ghost use Rattle.irs_resets.specs.ObservedRates.{Line as LineOf, Stated};
 ghost use Rattle.irs_resets.specs.Private.ObservedRates.{source_by};
 ghost use Rattle.irs_unfixed.specs.AbsentDays.{IsAbsentDay};
 ghost use Rattle.irs_unfixed.specs.Fixings.{LacksFixing, daily_period};
-ghost use Rattle.irs_unfixed.specs.Private.Made.{HasSpan, IsGap};
+ghost use Rattle.irs_periods.specs.Outcomes.{HasSpan};
+ghost use Rattle.irs_unfixed.specs.Private.Made.{IsGap};
 ghost use Rattle.irs_unfixed.specs.Private.Missing.{fixing_in};
 ghost use Rattle.irs_observed.specs.DailyRates.{daily_rates};
 

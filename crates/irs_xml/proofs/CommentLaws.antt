@@ -6,8 +6,9 @@ use Rattle.std.proofs.lemmas.List.{append-nil}
 use Rattle.std.specs.Char.{encode_utf8}
 use Rattle.std.specs.Prelude.{codes, is_none}
 use Rattle.std.specs.Str.{encode_utf8_all}
-use Rattle.irs_xml.specs.Characters.{is_space, is_white, is_gap}
-use Rattle.irs_xml.specs.Comments.{after, lacks, is_comment, comment_text, is_cdata, cdata_text, Instruction, is_apart, is_xml, is_instruction, instruction_text}
+use Rattle.irs_xml.specs.Characters.{is_white_space, is_white, is_gap}
+use Rattle.irs_xml.specs.Comments.{rest_after, lacks, is_comment_text, comment_text, is_cdata, cdata_text, Instruction}
+use Rattle.irs_xml.specs.Comments.{is_apart, is_xml, is_instruction, instruction_text}
 use Rattle.irs_xml.specs.Names.{is_name_char, is_name_start, is_nc_name}
 use Rattle.irs_xml.specs.Private.Reading.{◌>>=◌, choose, name_at, gap_at, skip_space, past, comment_at, instruction_at}
 use Rattle.irs_xml.specs.Private.Reading.{data_at}
@@ -21,7 +22,7 @@ nothing = None
 -- the mark begins nowhere in the text, whatever follows it being this
 abbrev pub NoneBefore : List ℕ → List ℕ → List ℕ → Type 0
 NoneBefore mark [] tail = Unit {0}
-NoneBefore mark (c ∷ cs) tail = (after mark ((c ∷ cs) ++ tail) ≡ None) × NoneBefore mark cs tail
+NoneBefore mark (c ∷ cs) tail = (rest_after mark ((c ∷ cs) ++ tail) ≡ None) × NoneBefore mark cs tail
 
 -- the first place of a mark
 pub record First (mark cs rest : List ℕ) : Type 0 where
@@ -33,7 +34,7 @@ pub record First (mark cs rest : List ℕ) : Type 0 where
 pub past_sound : (mark cs rest : List ℕ) → past mark cs ≡ Some rest → First mark cs rest
 past_sound mark [] rest e = record { text = []; spelt = after_sound mark [] rest e; first = tt }
 past_sound mark (c ∷ cs) rest e =
-    elim (choose_some (after mark (c ∷ cs)) (λ rest. Some rest) (past mark cs) rest e) [
+    elim (choose_some (rest_after mark (c ∷ cs)) (λ rest. Some rest) (past mark cs) rest e) [
       | inl h ↦ record {
         text = [];
         spelt = after_sound mark (c ∷ cs) rest (h.1 ∙ ap (λ t. Some t) (same_some h.2));
@@ -43,7 +44,7 @@ past_sound mark (c ∷ cs) rest e =
           let f = past_sound mark cs rest h.1 in record {
             text = c ∷ f.text;
             spelt = ap (λ t. c ∷ t) f.spelt;
-            first = (ap (λ t. after mark (c ∷ t)) (sym f.spelt) ∙ h.0, f.first);
+            first = (ap (λ t. rest_after mark (c ∷ t)) (sym f.spelt) ∙ h.0, f.first);
           }
     ]
 
@@ -60,7 +61,7 @@ is_none_of : {A : Type 0} (o : Option A) → o ≡ None → is_none o ≡ true
 is_none_of o e = rw e refl
 
 -- a mark of two characters looks at two
-two : (a b c d : ℕ) (xs ys : List ℕ) → after (a ∷ b ∷ []) (c ∷ d ∷ xs) ≡ None → after (a ∷ b ∷ []) (c ∷ d ∷ ys) ≡ None
+two : (a b c d : ℕ) (xs ys : List ℕ) → rest_after (a ∷ b ∷ []) (c ∷ d ∷ xs) ≡ None → rest_after (a ∷ b ∷ []) (c ∷ d ∷ ys) ≡ None
 two a b c d xs ys e = by_tests (nat_eq c a) (nat_eq d b) e
   where
     by_tests : (s t : Bool) → cond s (cond t (Some xs) None) None ≡ None → cond s (cond t (Some ys) None) None ≡ None
@@ -68,7 +69,7 @@ two a b c d xs ys e = by_tests (nat_eq c a) (nat_eq d b) e
     by_tests true false e = refl
     by_tests false t e = refl
 
-three : (a b k c d e : ℕ) (xs ys : List ℕ) → after (a ∷ b ∷ k ∷ []) (c ∷ d ∷ e ∷ xs) ≡ None → after (a ∷ b ∷ k ∷ []) (c ∷ d ∷ e ∷ ys) ≡ None
+three : (a b k c d e : ℕ) (xs ys : List ℕ) → rest_after (a ∷ b ∷ k ∷ []) (c ∷ d ∷ e ∷ xs) ≡ None → rest_after (a ∷ b ∷ k ∷ []) (c ∷ d ∷ e ∷ ys) ≡ None
 three a b k c d e xs ys h = by_tests (nat_eq c a) (nat_eq d b) (nat_eq e k) h
   where
     by_tests : (s t u : Bool) → cond s (cond t (cond u (Some xs) None) None) None ≡ None → cond s (cond t (cond u (Some ys) None) None) None ≡ None
@@ -79,36 +80,36 @@ three a b k c d e xs ys h = by_tests (nat_eq c a) (nat_eq d b) (nat_eq e k) h
 
 -- comments
 
-comment_first : (text rest : List ℕ) → is_comment text ≡ true → NoneBefore (codes "--") text (codes "--" ++ rest)
+comment_first : (text rest : List ℕ) → is_comment_text text ≡ true → NoneBefore (codes "--") text (codes "--" ++ rest)
 comment_first [] rest h = tt
 comment_first (c ∷ []) rest h =
-    let b = both_true (is_none (after (codes "--") (c ∷ codes "-"))) (lacks (codes "--") (codes "-")) h in
+    let b = both_true (is_none (rest_after (codes "--") (c ∷ codes "-"))) (lacks (codes "--") (codes "-")) h in
     (two 45 45 c 45 [] (45 ∷ rest) (none_is _ b.0), tt)
 comment_first (c ∷ d ∷ ds) rest h =
-    let b = both_true (is_none (after (codes "--") (c ∷ d ∷ (ds ++ codes "-")))) (lacks (codes "--") (d ∷ (ds ++ codes "-"))) h in
+    let b = both_true (is_none (rest_after (codes "--") (c ∷ d ∷ (ds ++ codes "-")))) (lacks (codes "--") (d ∷ (ds ++ codes "-"))) h in
     (two 45 45 c d (ds ++ codes "-") (ds ++ (codes "--" ++ rest)) (none_is _ b.0), comment_first (d ∷ ds) rest b.1)
 
-first_comment : (text rest : List ℕ) → NoneBefore (codes "--") text (codes "--" ++ rest) → is_comment text ≡ true
+first_comment : (text rest : List ℕ) → NoneBefore (codes "--") text (codes "--" ++ rest) → is_comment_text text ≡ true
 first_comment [] rest n = refl
 first_comment (c ∷ []) rest n =
-    true_both (is_none (after (codes "--") (c ∷ codes "-"))) (lacks (codes "--") (codes "-"))
-    (is_none_of (after (codes "--") (c ∷ codes "-")) (two 45 45 c 45 (45 ∷ rest) [] n.0)) refl
+    true_both (is_none (rest_after (codes "--") (c ∷ codes "-"))) (lacks (codes "--") (codes "-"))
+    (is_none_of (rest_after (codes "--") (c ∷ codes "-")) (two 45 45 c 45 (45 ∷ rest) [] n.0)) refl
 first_comment (c ∷ d ∷ ds) rest n =
-    true_both (is_none (after (codes "--") (c ∷ d ∷ (ds ++ codes "-")))) (lacks (codes "--") (d ∷ (ds ++ codes "-")))
-    (is_none_of (after (codes "--") (c ∷ d ∷ (ds ++ codes "-"))) (two 45 45 c d (ds ++ (codes "--" ++ rest)) (ds ++ codes "-") n.0))
+    true_both (is_none (rest_after (codes "--") (c ∷ d ∷ (ds ++ codes "-")))) (lacks (codes "--") (d ∷ (ds ++ codes "-")))
+    (is_none_of (rest_after (codes "--") (c ∷ d ∷ (ds ++ codes "-"))) (two 45 45 c d (ds ++ (codes "--" ++ rest)) (ds ++ codes "-") n.0))
     (first_comment (d ∷ ds) rest n.1)
 
 -- a comment that was read after its `<!--`
 pub record ReadComment (cs rest : List ℕ) : Type 0 where
   pub text : List ℕ
-  pub is_comment : is_comment text ≡ true
+  pub is_comment : is_comment_text text ≡ true
   pub spelt : codes "<!--" ++ cs ≡ comment_text text ++ rest
 
 -- what is read as a comment is spelt as one
 pub comment_sound : (cs rest : List ℕ) → comment_at cs ≡ Some rest → ReadComment cs rest
 unfolding comment_at
 comment_sound cs rest e =
-    let b = bind_some (past (codes "--") cs) (after (codes ">")) rest e in
+    let b = bind_some (past (codes "--") cs) (rest_after (codes ">")) rest e in
     let f = past_sound (codes "--") cs b.0 b.1 in record {
       text = f.text;
       is_comment = first_comment f.text b.0 f.first;
@@ -117,7 +118,7 @@ comment_sound cs rest e =
     }
 
 -- every comment is read
-pub comment_complete : (text rest : List ℕ) → is_comment text ≡ true → comment_at (text ++ (codes "-->" ++ rest)) ≡ Some rest
+pub comment_complete : (text rest : List ℕ) → is_comment_text text ≡ true → comment_at (text ++ (codes "-->" ++ rest)) ≡ Some rest
 unfolding comment_at
 comment_complete text rest h =
     let read = past_complete (codes "--") text (62 ∷ rest) (comment_first text (62 ∷ rest) h) in
@@ -143,7 +144,7 @@ data_first (c ∷ d ∷ []) rest h = (first_two (nat_eq c 93) (nat_eq d 93), (on
     one true = refl
     one false = refl
 data_first (c ∷ d ∷ e ∷ es) rest h =
-    let b = both_true (is_none (after (codes "]]>") (c ∷ d ∷ e ∷ es))) (lacks (codes "]]>") (d ∷ e ∷ es)) h in
+    let b = both_true (is_none (rest_after (codes "]]>") (c ∷ d ∷ e ∷ es))) (lacks (codes "]]>") (d ∷ e ∷ es)) h in
     (three 93 93 62 c d e es (es ++ (codes "]]>" ++ rest)) (none_is _ b.0), data_first (d ∷ e ∷ es) rest b.1)
 
 one_short : (c : ℕ) → lacks (codes "]]>") (c ∷ []) ≡ true
@@ -154,7 +155,7 @@ one_short c = by_test (nat_eq c 93)
     by_test false = refl
 
 two_short : (c d : ℕ) → lacks (codes "]]>") (c ∷ d ∷ []) ≡ true
-two_short c d = true_both (is_none (after (codes "]]>") (c ∷ d ∷ []))) (lacks (codes "]]>") (d ∷ [])) (by_tests (nat_eq c 93) (nat_eq d 93)) (one_short d)
+two_short c d = true_both (is_none (rest_after (codes "]]>") (c ∷ d ∷ []))) (lacks (codes "]]>") (d ∷ [])) (by_tests (nat_eq c 93) (nat_eq d 93)) (one_short d)
   where
     by_tests : (s t : Bool) → is_none (cond s (cond t nothing None) None) ≡ true
     by_tests true true = refl
@@ -166,8 +167,8 @@ first_data [] rest n = refl
 first_data (c ∷ []) rest n = one_short c
 first_data (c ∷ d ∷ []) rest n = two_short c d
 first_data (c ∷ d ∷ e ∷ es) rest n =
-    true_both (is_none (after (codes "]]>") (c ∷ d ∷ e ∷ es))) (lacks (codes "]]>") (d ∷ e ∷ es))
-    (is_none_of (after (codes "]]>") (c ∷ d ∷ e ∷ es)) (three 93 93 62 c d e (es ++ (codes "]]>" ++ rest)) es n.0))
+    true_both (is_none (rest_after (codes "]]>") (c ∷ d ∷ e ∷ es))) (lacks (codes "]]>") (d ∷ e ∷ es))
+    (is_none_of (rest_after (codes "]]>") (c ∷ d ∷ e ∷ es)) (three 93 93 62 c d e (es ++ (codes "]]>" ++ rest)) es n.0))
     (first_data (d ∷ e ∷ es) rest n.1)
 
 -- the data up to the first `]]>`, appended to a text
@@ -180,7 +181,7 @@ record ReadFirst (text cs out rest : List ℕ) : Type 0 where
 data_to : (text cs out rest : List ℕ) → data_at text cs ≡ Some (out, rest) → ReadFirst text cs out rest
 data_to text [] out rest e = absurd (cc e)
 data_to text (c ∷ cs) out rest e =
-    elim (choose_some (after (codes "]]>") (c ∷ cs)) (λ rest. Some (text, rest)) (data_at (text ++ encode_utf8 c) cs) (out, rest) e) [
+    elim (choose_some (rest_after (codes "]]>") (c ∷ cs)) (λ rest. Some (text, rest)) (data_at (text ++ encode_utf8 c) cs) (out, rest) e) [
       | inl h ↦
           let is = same_some h.2 in record {
             data_text = [];
@@ -192,7 +193,7 @@ data_to text (c ∷ cs) out rest e =
           let f = data_to (text ++ encode_utf8 c) cs out rest h.1 in record {
             data_text = c ∷ f.data_text;
             spelt = ap (λ t. c ∷ t) f.spelt;
-            first = (ap (λ t. after (codes "]]>") (c ∷ t)) (sym f.spelt) ∙ h.0, f.first);
+            first = (ap (λ t. rest_after (codes "]]>") (c ∷ t)) (sym f.spelt) ∙ h.0, f.first);
             says = f.says ∙ append_assoc text (encode_utf8 c) (encode_utf8_all f.data_text);
           }
     ]
@@ -236,7 +237,7 @@ instruction_first (c ∷ []) rest h = (one (nat_eq c 63), tt)
     one true = refl
     one false = refl
 instruction_first (c ∷ d ∷ ds) rest h =
-    let b = both_true (is_none (after (codes "?>") (c ∷ d ∷ ds))) (lacks (codes "?>") (d ∷ ds)) h in
+    let b = both_true (is_none (rest_after (codes "?>") (c ∷ d ∷ ds))) (lacks (codes "?>") (d ∷ ds)) h in
     (two 63 62 c d ds (ds ++ (codes "?>" ++ rest)) (none_is _ b.0), instruction_first (d ∷ ds) rest b.1)
 
 first_instruction : (body rest : List ℕ) → NoneBefore (codes "?>") body (codes "?>" ++ rest) → lacks (codes "?>") body ≡ true
@@ -247,12 +248,12 @@ first_instruction (c ∷ []) rest n = by_test (nat_eq c 63)
     by_test true = refl
     by_test false = refl
 first_instruction (c ∷ d ∷ ds) rest n =
-    true_both (is_none (after (codes "?>") (c ∷ d ∷ ds))) (lacks (codes "?>") (d ∷ ds))
-    (is_none_of (after (codes "?>") (c ∷ d ∷ ds)) (two 63 62 c d (ds ++ (codes "?>" ++ rest)) ds n.0))
+    true_both (is_none (rest_after (codes "?>") (c ∷ d ∷ ds))) (lacks (codes "?>") (d ∷ ds))
+    (is_none_of (rest_after (codes "?>") (c ∷ d ∷ ds)) (two 63 62 c d (ds ++ (codes "?>" ++ rest)) ds n.0))
     (first_instruction (d ∷ ds) rest n.1)
 
-space_no_mark : (c : ℕ) → is_space c ≡ true → nat_eq c 63 ≡ false
-unfolding is_space
+space_no_mark : (c : ℕ) → is_white_space c ≡ true → nat_eq c 63 ≡ false
+unfolding is_white_space
 space_no_mark c h = grind (arith, nat_tests)
 
 -- white space in front holds no mark
@@ -260,7 +261,7 @@ white_first : (s text rest : List ℕ) → is_white s ≡ true → NoneBefore (c
     → NoneBefore (codes "?>") (s ++ text) (codes "?>" ++ rest)
 white_first [] text rest w n = n
 white_first (c ∷ s) text rest w n =
-    let b = both_true (is_space c) (is_white s) w in
+    let b = both_true (is_white_space c) (is_white s) w in
     let e = space_no_mark c b.0 in
     (rw e refl, white_first s text rest b.1 n)
 
@@ -270,7 +271,7 @@ gap_white (c ∷ s) h = h
 
 gap_apart : (s text : List ℕ) → is_gap s ≡ true → is_apart (s ++ text) ≡ true
 gap_apart [] text h = absurd (cc h)
-gap_apart (c ∷ s) text h = (both_true (is_space c) (is_white s) h).0
+gap_apart (c ∷ s) text h = (both_true (is_white_space c) (is_white s) h).0
 
 -- a processing instruction that was read after its `<?`
 pub record ReadInstruction (cs rest : List ℕ) : Type 0 where
@@ -296,14 +297,14 @@ pub instruction_sound : (cs rest : List ℕ) → instruction_at cs ≡ Some rest
 unfolding instruction_at
 instruction_sound cs rest e =
     let b = bind_some (name_at cs) (λ target. cond (is_xml target.0) None
-    (choose (after (codes "?>") target.1) (λ rest. Some rest) (gap_at target.1 >>= past (codes "?>")))) rest e in
+    (choose (rest_after (codes "?>") target.1) (λ rest. Some rest) (gap_at target.1 >>= past (codes "?>")))) rest e in
     let n = name_sound cs b.0.0 b.0.1 b.1 in
-    elim (chosen (is_xml b.0.0) None (choose (after (codes "?>") b.0.1) (λ rest. Some rest) (gap_at b.0.1 >>= past (codes "?>"))) (Some rest) b.2) [
+    elim (chosen (is_xml b.0.0) None (choose (rest_after (codes "?>") b.0.1) (λ rest. Some rest) (gap_at b.0.1 >>= past (codes "?>"))) (Some rest) b.2) [
       | inl h ↦ absurd (let k = h.1 in cc k)
       | inr h ↦
           let other : not (is_xml (encode_utf8_all n.name)) ≡ true = not_false (is_xml (encode_utf8_all n.name)) (ap is_xml (sym n.says) ∙ h.0) in
           let named = true_both (is_nc_name n.name) (not (is_xml (encode_utf8_all n.name))) n.is_name other in
-          elim (choose_some (after (codes "?>") b.0.1) (λ rest. Some rest) (gap_at b.0.1 >>= past (codes "?>")) rest h.1) [
+          elim (choose_some (rest_after (codes "?>") b.0.1) (λ rest. Some rest) (gap_at b.0.1 >>= past (codes "?>")) rest h.1) [
             | inl k ↦ record {
               instruction = record { target = n.name; body = [] };
               is_instruction = true_both (is_nc_name n.name && not (is_xml (encode_utf8_all n.name))) true named refl;
@@ -330,24 +331,24 @@ unfolding is_name_char is_name_start
 mark_no_name rest = refl
 
 -- white space isn't a character of a name
-pub space_no_name : (c : ℕ) → is_space c ≡ true → is_name_char c ≡ false
-unfolding is_space is_name_char is_name_start
+pub space_no_name : (c : ℕ) → is_white_space c ≡ true → is_name_char c ≡ false
+unfolding is_white_space is_name_char is_name_start
 space_no_name c h = grind (arith, nat_tests)
 
-mark_no_space : is_space 63 ≡ false
-unfolding is_space
+mark_no_space : is_white_space 63 ≡ false
+unfolding is_white_space
 mark_no_space = refl
 
 past_white : (cs rest : List ℕ) → NoneBefore (codes "?>") cs (codes "?>" ++ rest)
     → past (codes "?>") (skip_space (cs ++ (codes "?>" ++ rest))) ≡ Some rest
 past_white [] rest n = let e = mark_no_space in rw e (past_complete (codes "?>") [] rest tt)
-past_white (c ∷ cs) rest n = elim (cases_Bool (is_space c)) [
+past_white (c ∷ cs) rest n = elim (cases_Bool (is_white_space c)) [
   | inl h ↦ rw h (past_white cs rest n.1)
   | inr h ↦ rw h (past_complete (codes "?>") (c ∷ cs) rest n)
 ]
 
 body_complete : (body rest : List ℕ) → is_apart body ≡ true → lacks (codes "?>") body ≡ true
-    → choose (after (codes "?>") (body ++ (codes "?>" ++ rest))) (λ rest. Some rest) (gap_at (body ++ (codes "?>" ++ rest)) >>= past (codes "?>")) ≡ Some rest
+    → choose (rest_after (codes "?>") (body ++ (codes "?>" ++ rest))) (λ rest. Some rest) (gap_at (body ++ (codes "?>" ++ rest)) >>= past (codes "?>")) ≡ Some rest
 body_complete [] rest a l = refl
 body_complete (c ∷ body) rest a l =
     let n = instruction_first (c ∷ body) rest l in

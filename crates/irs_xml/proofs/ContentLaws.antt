@@ -9,8 +9,9 @@ use Rattle.std.specs.List.{list_all}
 use Rattle.std.specs.Prelude.{codes}
 use Rattle.std.specs.Str.{encode_utf8_all, all_scalars}
 use Rattle.serde_json.specs.Data.{Data, Members, string}
-use Rattle.irs_xml.specs.Characters.{is_space, is_white, ends_after}
-use Rattle.irs_xml.specs.Comments.{after, comment_text, is_comment, cdata_text, is_cdata, Instruction, is_instruction, instruction_text}
+use Rattle.irs_xml.specs.Characters.{is_white_space, is_white, ends_after}
+use Rattle.irs_xml.specs.Comments.{rest_after, comment_text, is_comment_text, cdata_text, is_cdata, Instruction}
+use Rattle.irs_xml.specs.Comments.{is_instruction, instruction_text}
 use Rattle.irs_xml.specs.Content.{Element, empty, full, Content, nothing, character, reference, cdata, comment, instruction, child, element_text, content_text, is_char_data, IsTagIn, IsElement, IsContent}
 use Rattle.irs_xml.specs.Document.{tag_of}
 use Rattle.irs_xml.specs.Names.{is_name_start, is_name_char, is_nc_name, name_text, prefixed, is_prefix, is_qname}
@@ -19,7 +20,8 @@ use Rattle.irs_xml.specs.References.{Reference, reference_text, character_of, is
 use Rattle.irs_xml.specs.Private.Reading.{Got, ◌>>=◌, choose, skip_space, Inside, Mark, ending, commented, sectioned, instructed, nested, referred, standing, mark_at, markup_at, piece_at, content_at, closing_name_at, closing_at, filled_at, element_at, child_at, as_child, finished, begun, with_one, with_text, with_character, comment_at, instruction_at, data_at, reference_at, tag_at}
 use Rattle.irs_xml.specs.Seen.{seen}
 use Rattle.irs_xml.specs.Tags.{Tag, tag_text, is_tag, attributes_text}
-use Rattle.irs_xml.specs.Values.{Child, is_ours, key_of, named, both, element_data, element_child, children_in, text_in, with_children}
+use Rattle.irs_xml.specs.Values.{Child, is_ours, key_of, named_child, both, element_data, element_child, children_in}
+use Rattle.irs_xml.specs.Values.{text_inside, with_children}
 use Rattle.irs_xml.proofs.Steps.{same_some, bind_some, choose_some, chosen, both_true, true_both, eq_true, false_eq, after_sound, after_complete, after-append, begins, white_run, run_white, skip_sound, skip-white}
 use Rattle.irs_xml.proofs.NameReads.{char_no_return}
 use Rattle.irs_xml.proofs.ReferenceLaws.{reference_sound, reference_complete, tail}
@@ -70,22 +72,22 @@ not_empty c cs =
     let d = (len_utf8_bounds c).0 in
     false_eq (length (encode_utf8_all (c ∷ cs))) 0 (λ e. absurd (omega (arith, a, b, d, e)))
 
-bind_after : (a b d cs : List ℕ) → (after a cs >>= after b >>= after d) ≡ after (a ++ (b ++ d)) cs
-bind_after a b d cs = regroup (after a cs) ∙ sym (after-append a (b ++ d) cs)
+bind_after : (a b d cs : List ℕ) → (rest_after a cs >>= rest_after b >>= rest_after d) ≡ rest_after (a ++ (b ++ d)) cs
+bind_after a b d cs = regroup (rest_after a cs) ∙ sym (after-append a (b ++ d) cs)
   where
-    regroup : (o : Option (List ℕ)) → (o >>= after b >>= after d) ≡ (o >>= after (b ++ d))
+    regroup : (o : Option (List ℕ)) → (o >>= rest_after b >>= rest_after d) ≡ (o >>= rest_after (b ++ d))
     regroup None = refl
     regroup (Some x) = sym (after-append b d x)
 
 closing_name_is : (p l cs : List ℕ) → is_prefix p && is_nc_name l ≡ true
-    → closing_name_at (encode_utf8_all p) (encode_utf8_all l) cs ≡ after (prefixed p l) cs
+    → closing_name_at (encode_utf8_all p) (encode_utf8_all l) cs ≡ rest_after (prefixed p l) cs
 unfolding closing_name_at
-closing_name_is [] l cs h = ap (λ w. after w cs) (seen_name l h)
+closing_name_is [] l cs h = ap (λ w. rest_after w cs) (seen_name l h)
 closing_name_is (c ∷ p) l cs h =
     let b = both_true (is_nc_name (c ∷ p)) (is_nc_name l) h in
     let filled = not_empty c p in
-    rw filled (ap (λ w. after w cs >>= after (codes ":") >>= after (seen (encode_utf8_all l))) (seen_name (c ∷ p) b.0)
-    ∙ ap (λ w. after (c ∷ p) cs >>= after (codes ":") >>= after w) (seen_name l b.1)
+    rw filled (ap (λ w. rest_after w cs >>= rest_after (codes ":") >>= rest_after (seen (encode_utf8_all l))) (seen_name (c ∷ p) b.0)
+    ∙ ap (λ w. rest_after (c ∷ p) cs >>= rest_after (codes ":") >>= rest_after w) (seen_name l b.1)
     ∙ bind_after (c ∷ p) (codes ":") l cs)
 
 -- the end tag of this start tag, read after its `</`
@@ -105,8 +107,8 @@ closing_sound t cs rest h e =
       spelt = name ∙ ap (λ t'. name_text t.name ++ t') (skip_sound b.0 ∙ ap (λ x. white_run b.0 ++ x) (after_sound (codes ">") (skip_space b.0) rest b.2));
     }
 
-end_no_space : (rest : List ℕ) → begins is_space (62 ∷ rest) ≡ false
-unfolding is_space
+end_no_space : (rest : List ℕ) → begins is_white_space (62 ∷ rest) ≡ false
+unfolding is_white_space
 end_no_space rest = refl
 
 closing_complete : (t : Tag) (space rest : List ℕ) → is_qname t.name ≡ true → is_white space ≡ true
@@ -138,14 +140,14 @@ Keeps sectioned cs = Unit {0}
 Keeps instructed cs = Unit {0}
 Keeps nested cs = Unit {0}
 Keeps referred cs = Unit {0}
-Keeps (standing c) cs = (is_char_data c ≡ true) × (after (codes "]]>") (c ∷ cs) ≡ None)
+Keeps (standing c) cs = (is_char_data c ≡ true) × (rest_after (codes "]]>") (c ∷ cs) ≡ None)
 
 -- a mark that was read
 record ReadMark (cs : List ℕ) (m : Mark) (mid : List ℕ) : Type 0 where
   spelt : cs ≡ mark_text m ++ mid
   keeps : Keeps m mid
 
-markup_word : (k m : Mark) (w cs x mid : List ℕ) → mark_text k ≡ 60 ∷ w → Keeps k x → after w cs ≡ Some x
+markup_word : (k m : Mark) (w cs x mid : List ℕ) → mark_text k ≡ 60 ∷ w → Keeps k x → rest_after w cs ≡ Some x
     → ◌≡◌ {A = Got Mark} (Some (k, x)) (Some (m, mid)) → ReadMark (60 ∷ cs) m mid
 markup_word k m w cs x mid text keeps found is =
     let same : ◌≡◌ {A = Mark × List ℕ} (k, x) (m, mid) = same_some is in
@@ -155,13 +157,13 @@ markup_word k m w cs x mid text keeps found is =
 markup_sound : (cs : List ℕ) (m : Mark) (mid : List ℕ) → markup_at cs ≡ Some (m, mid) → ReadMark (60 ∷ cs) m mid
 unfolding markup_at
 markup_sound cs m mid e =
-    elim (choose_some (after (codes "/") cs) (λ rest. Some (ending, rest)) _ (m, mid) e) [
+    elim (choose_some (rest_after (codes "/") cs) (λ rest. Some (ending, rest)) _ (m, mid) e) [
       | inl h ↦ markup_word ending m (codes "/") cs h.0 mid refl tt h.1 h.2
-      | inr a ↦ elim (choose_some (after (codes "!--") cs) (λ rest. Some (commented, rest)) _ (m, mid) a.1) [
+      | inr a ↦ elim (choose_some (rest_after (codes "!--") cs) (λ rest. Some (commented, rest)) _ (m, mid) a.1) [
         | inl h ↦ markup_word commented m (codes "!--") cs h.0 mid refl tt h.1 h.2
-        | inr b ↦ elim (choose_some (after (codes "![CDATA[") cs) (λ rest. Some (sectioned, rest)) _ (m, mid) b.1) [
+        | inr b ↦ elim (choose_some (rest_after (codes "![CDATA[") cs) (λ rest. Some (sectioned, rest)) _ (m, mid) b.1) [
           | inl h ↦ markup_word sectioned m (codes "![CDATA[") cs h.0 mid refl tt h.1 h.2
-          | inr d ↦ elim (choose_some (after (codes "?") cs) (λ rest. Some (instructed, rest)) (Some (nested, cs)) (m, mid) d.1) [
+          | inr d ↦ elim (choose_some (rest_after (codes "?") cs) (λ rest. Some (instructed, rest)) (Some (nested, cs)) (m, mid) d.1) [
             | inl h ↦ markup_word instructed m (codes "?") cs h.0 mid refl tt h.1 h.2
             | inr h ↦ markup_word nested m [] cs cs mid refl tt refl h.1
           ]
@@ -169,7 +171,7 @@ markup_sound cs m mid e =
       ]
     ]
 
-standing_word : (c x : ℕ) (m : Mark) (cs mid : List ℕ) → is_char_data c ≡ true → after (codes "]]>") (c ∷ cs) ≡ None
+standing_word : (c x : ℕ) (m : Mark) (cs mid : List ℕ) → is_char_data c ≡ true → rest_after (codes "]]>") (c ∷ cs) ≡ None
     → ◌≡◌ {A = Got Mark} (Some (standing c, cs)) (Some (m, mid)) → ReadMark (c ∷ cs) m mid
 standing_word c x m cs mid plain none is =
     let same : ◌≡◌ {A = Mark × List ℕ} (standing c, cs) (m, mid) = same_some is in
@@ -182,10 +184,10 @@ not_true : (b : Bool) → not b ≡ true → b ≡ false
 not_true true e = absurd (cc e)
 not_true false e = refl
 
-no_bracket : (c : ℕ) (cs : List ℕ) → nat_eq c 93 ≡ false → after (codes "]]>") (c ∷ cs) ≡ None
+no_bracket : (c : ℕ) (cs : List ℕ) → nat_eq c 93 ≡ false → rest_after (codes "]]>") (c ∷ cs) ≡ None
 no_bracket c cs e = rw e refl
 
-bracket_after : (cs : List ℕ) → after (codes "]]>") (93 ∷ cs) ≡ after (codes "]>") cs
+bracket_after : (cs : List ℕ) → rest_after (codes "]]>") (93 ∷ cs) ≡ rest_after (codes "]>") cs
 bracket_after cs = refl
 
 mark_sound : (cs : List ℕ) (m : Mark) (mid : List ℕ) → mark_at cs ≡ Some (m, mid) → ReadMark cs m mid
@@ -200,8 +202,8 @@ mark_sound (c ∷ cs) m mid e =
             subst (λ (p : Mark × List ℕ). ReadMark (c ∷ cs) p.0 p.1) same (record { spelt = ap (λ x. x ∷ cs) (eq_true c 38 h.0); keeps = tt })
         | inr b ↦
             let plain = true_both (not (nat_eq c 60)) (not (nat_eq c 38)) (not_false (nat_eq c 60) a.0) (not_false (nat_eq c 38) b.0) in
-            elim (chosen (nat_eq c 93) (choose (after (codes "]>") cs) (λ rest. None) (Some (standing 93, cs))) (Some (standing c, cs)) (Some (m, mid)) b.1) [
-              | inl h ↦ elim (choose_some (after (codes "]>") cs) (λ rest. None) (Some (standing 93, cs)) (m, mid) h.1) [
+            elim (chosen (nat_eq c 93) (choose (rest_after (codes "]>") cs) (λ rest. None) (Some (standing 93, cs))) (Some (standing c, cs)) (Some (m, mid)) b.1) [
+              | inl h ↦ elim (choose_some (rest_after (codes "]>") cs) (λ rest. None) (Some (standing 93, cs)) (m, mid) h.1) [
                 | inl k ↦ absurd (let x = k.2 in cc x)
                 | inr k ↦ subst (λ x. ReadMark (x ∷ cs) m mid) (sym (eq_true c 93 h.0)) (standing_word 93 0 m cs mid refl k.0 k.1)
               ]
@@ -260,15 +262,15 @@ pub record ReadContent (root : List ℕ) (levels : ℕ) (kept : Bool) (scope : S
   pub children : List Child
   pub ok : IsContent levels scope content
   pub means : children_in root kept scope content ≡ Some children
-  pub is : j ≡ with_content i (text_in content) children
+  pub is : j ≡ with_content i (text_inside content) children
   pub spelt : cs ≡ content_text content ++ (codes "</" ++ rest)
 
-after_less : (w cs t : List ℕ) → after w (cs ++ t) ≡ None → after w cs ≡ None
+after_less : (w cs t : List ℕ) → rest_after w (cs ++ t) ≡ None → rest_after w cs ≡ None
 after_less [] cs t e = absurd (cc e)
 after_less (x ∷ w) [] t e = refl
 after_less (x ∷ w) (c ∷ cs) t e = by_test (nat_eq c x) (after_less w cs t) e
   where
-    by_test : (b : Bool) → (after w (cs ++ t) ≡ None → after w cs ≡ None) → cond b (after w (cs ++ t)) None ≡ None → cond b (after w cs) None ≡ None
+    by_test : (b : Bool) → (rest_after w (cs ++ t) ≡ None → rest_after w cs ≡ None) → cond b (rest_after w (cs ++ t)) None ≡ None → cond b (rest_after w cs) None ≡ None
     by_test true f h = f h
     by_test false f h = refl
 
@@ -282,11 +284,11 @@ module _ (root : List ℕ) (levels : ℕ) (kept : Bool) (scope : Scope) where
     ok = (
       k.0,
       after_less (codes "]]>") (x ∷ content_text r.content) (codes "</" ++ rest)
-          (ap (λ t. after (codes "]]>") (x ∷ t)) (sym r.spelt) ∙ k.1),
+          (ap (λ t. rest_after (codes "]]>") (x ∷ t)) (sym r.spelt) ∙ k.1),
       r.ok,
     );
     means = r.means;
-    is = r.is ∙ text_more i (encode_utf8 x) (text_in r.content) r.children;
+    is = r.is ∙ text_more i (encode_utf8 x) (text_inside r.content) r.children;
     spelt = e ∙ ap (λ t. x ∷ t) r.spelt;
   }
 
@@ -297,7 +299,7 @@ module _ (root : List ℕ) (levels : ℕ) (kept : Bool) (scope : Scope) where
     children = r.children;
     ok = (k, r.ok);
     means = r.means;
-    is = r.is ∙ text_more i (encode_utf8 (character_of x)) (text_in r.content) r.children;
+    is = r.is ∙ text_more i (encode_utf8 (character_of x)) (text_inside r.content) r.children;
     spelt = e ∙ ap (λ t. reference_text x ++ t) r.spelt ∙ sym (append_assoc (reference_text x) (content_text r.content) (codes "</" ++ rest));
   }
 
@@ -308,11 +310,11 @@ module _ (root : List ℕ) (levels : ℕ) (kept : Bool) (scope : Scope) where
     children = r.children;
     ok = (k, r.ok);
     means = r.means;
-    is = r.is ∙ text_more i (encode_utf8_all x) (text_in r.content) r.children;
+    is = r.is ∙ text_more i (encode_utf8_all x) (text_inside r.content) r.children;
     spelt = e ∙ ap (λ t. cdata_text x ++ t) r.spelt ∙ sym (append_assoc (cdata_text x) (content_text r.content) (codes "</" ++ rest));
   }
 
-  with_comment_front : (i : Inside) (x : List ℕ) (mid : List ℕ) (j : Inside) (rest cs : List ℕ) → cs ≡ comment_text x ++ mid → is_comment x ≡ true
+  with_comment_front : (i : Inside) (x : List ℕ) (mid : List ℕ) (j : Inside) (rest cs : List ℕ) → cs ≡ comment_text x ++ mid → is_comment_text x ≡ true
       → ReadContent root levels kept scope i mid j rest → ReadContent root levels kept scope i cs j rest
   with_comment_front i x mid j rest cs e k r = record {
     content = comment x r.content;
@@ -345,7 +347,7 @@ module _ (root : List ℕ) (levels : ℕ) (kept : Bool) (scope : Scope) where
     children = c ∷ r.children;
     ok = (ok, r.ok);
     means = both_some (element_child root kept scope x) c (children_in root kept scope r.content) r.children means r.means;
-    is = r.is ∙ child_more i c (text_in r.content) r.children;
+    is = r.is ∙ child_more i c (text_inside r.content) r.children;
     spelt = e ∙ ap (λ t. element_text x ++ t) r.spelt ∙ sym (append_assoc (element_text x) (content_text r.content) (codes "</" ++ rest));
   }
 
@@ -426,11 +428,11 @@ finished_is true ss text [] = refl
 finished_is true ss text (c ∷ cs) = refl
 
 as_child_named : (ours : Bool) (o : Opening) (d : Option Data) (cs : List ℕ) (c : Child) (rest : List ℕ) → as_child ours o d cs ≡ Some (c, rest)
-    → (named (key_of ours o.local) d ≡ Some c) × (cs ≡ rest)
+    → (named_child (key_of ours o.local) d ≡ Some c) × (cs ≡ rest)
 as_child_named ours o None cs c rest e = absurd (cc e)
 as_child_named ours o (Some d) cs c rest e = let is = same_some e in (ap (λ p. Some p.0) is, ap (λ p. p.1) is)
 
-named_as_child : (ours : Bool) (o : Opening) (d : Option Data) (cs : List ℕ) (c : Child) → named (key_of ours o.local) d ≡ Some c
+named_as_child : (ours : Bool) (o : Opening) (d : Option Data) (cs : List ℕ) (c : Child) → named_child (key_of ours o.local) d ≡ Some c
     → as_child ours o d cs ≡ Some (c, cs)
 named_as_child ours o None cs c e = absurd (cc e)
 named_as_child ours o (Some d) cs c e = ap (λ x. Some (x, cs)) (same_some e)
@@ -455,7 +457,7 @@ element_sound root levels kept outer cs t true mid c rest ok spelt r e =
       read = record {
         element = empty t;
         ok = ok;
-        means = ap (named (key_of ours o.local)) (sym (finished_is (kept && ours) o.settings [] [])) ∙ n.0;
+        means = ap (named_child (key_of ours o.local)) (sym (finished_is (kept && ours) o.settings [] [])) ∙ n.0;
         spelt = spelt ∙ sym (append_assoc (tag_text t) (codes "/>") mid) ∙ ap (λ x. (tag_text t ++ codes "/>") ++ x) n.1;
       };
       tag = refl;
@@ -474,14 +476,14 @@ element_sound root levels kept outer cs t false mid c rest ok spelt r e =
     let closing = closing_sound t a.0.1 b.0 name b.1 in
     let same : ◌≡◌ {A = Inside × List ℕ} (a.0.0, b.0) f.0 = same_some b.2 in
     let n = as_child_named ours o (finished k f.0.0) f.0.1 c rest f.2 in
-    let says : finished k f.0.0 ≡ element_data k o.settings (text_in content.content) (Some content.children) =
-    ap (λ p. finished k p.0) (sym same) ∙ ap (finished k) content.is ∙ finished_is k o.settings (text_in content.content) content.children in
+    let says : finished k f.0.0 ≡ element_data k o.settings (text_inside content.content) (Some content.children) =
+    ap (λ p. finished k p.0) (sym same) ∙ ap (finished k) content.is ∙ finished_is k o.settings (text_inside content.content) content.children in
     record {
       read = record {
         element = full t content.content closing.space;
         ok = (ok, content.ok, closing.white);
-        means = ap (λ co. named (key_of ours o.local) (element_data k o.settings (text_in content.content) co)) content.means
-            ∙ ap (named (key_of ours o.local)) (sym says) ∙ n.0;
+        means = ap (λ co. named_child (key_of ours o.local) (element_data k o.settings (text_inside content.content) co)) content.means
+            ∙ ap (named_child (key_of ours o.local)) (sym says) ∙ n.0;
         spelt = spelt ∙ ap (λ x. tag_text t ++ (62 ∷ x)) (content.spelt ∙ ap (λ x. content_text content.content ++ (codes "</" ++ x)) (closing.spelt
             ∙ ap (λ x. name_text t.name ++ (closing.space ++ (codes ">" ++ x))) (ap (λ p. p.1) same ∙ n.1)))
             ∙ regroup_element (tag_text t) (content_text content.content) (name_text t.name) closing.space rest;
@@ -554,15 +556,15 @@ mark_other c mid h e =
     let b = both_true (not (nat_eq c 60)) (not (nat_eq c 38)) h in
     let x = not_true (nat_eq c 60) b.0 in let y = not_true (nat_eq c 38) b.1 in rw (x, y, e) refl
 
-mark_bracket : (mid : List ℕ) → after (codes "]>") mid ≡ None → mark_at (93 ∷ mid) ≡ Some (standing 93, mid)
+mark_bracket : (mid : List ℕ) → rest_after (codes "]>") mid ≡ None → mark_at (93 ∷ mid) ≡ Some (standing 93, mid)
 unfolding mark_at
 mark_bracket mid e = rw e refl
 
-mark_standing : (c : ℕ) (mid : List ℕ) → is_char_data c ≡ true → after (codes "]]>") (c ∷ mid) ≡ None → mark_at (c ∷ mid) ≡ Some (standing c, mid)
+mark_standing : (c : ℕ) (mid : List ℕ) → is_char_data c ≡ true → rest_after (codes "]]>") (c ∷ mid) ≡ None → mark_at (c ∷ mid) ≡ Some (standing c, mid)
 mark_standing c mid h e = elim (cases_Bool (nat_eq c 93)) [
   | inl b ↦
       let is = eq_true c 93 b in
-      let none : after (codes "]>") mid ≡ None = ap (λ x. after (codes "]]>") (x ∷ mid)) (sym is) ∙ e in
+      let none : rest_after (codes "]>") mid ≡ None = ap (λ x. rest_after (codes "]]>") (x ∷ mid)) (sym is) ∙ e in
       subst (λ x. mark_at (x ∷ mid) ≡ Some (standing x, mid)) (sym is) (mark_bracket mid none)
   | inr b ↦ mark_other c mid h b
 ]
@@ -572,7 +574,7 @@ abbrev no_word : Option (List ℕ)
 no_word = None
 
 -- `]]>` doesn't begin in text and end in a mark that begins with `<`
-after_mark : (x : ℕ) (cs t : List ℕ) → after (codes "]]>") (x ∷ cs) ≡ None → after (codes "]]>") (x ∷ (cs ++ (60 ∷ t))) ≡ None
+after_mark : (x : ℕ) (cs t : List ℕ) → rest_after (codes "]]>") (x ∷ cs) ≡ None → rest_after (codes "]]>") (x ∷ (cs ++ (60 ∷ t))) ≡ None
 after_mark x [] t e = one (nat_eq x 93)
   where
     one : (s : Bool) → cond s None None ≡ no_word
@@ -673,7 +675,7 @@ module _ (root : List ℕ) (levels : ℕ) (kept : Bool) (scope : Scope) (reads :
   unfolding piece_at
   piece_section i x mid h = let e = data_complete i.text x mid h in rw e refl
 
-  piece_comment : (i : Inside) (x mid : List ℕ) → is_comment x ≡ true → piece_at reads i commented (x ++ (codes "-->" ++ mid)) ≡ Some ((false, i), mid)
+  piece_comment : (i : Inside) (x mid : List ℕ) → is_comment_text x ≡ true → piece_at reads i commented (x ++ (codes "-->" ++ mid)) ≡ Some ((false, i), mid)
   unfolding piece_at
   piece_comment i x mid h = let e = comment_complete x mid h in rw e refl
 
@@ -689,7 +691,7 @@ module _ (root : List ℕ) (levels : ℕ) (kept : Bool) (scope : Scope) (reads :
 
   content_complete : (n : ℕ) (i : Inside) (c : Content) (children : List Child) (rest : List ℕ) → IsContent levels scope c
       → children_in root kept scope c ≡ Some children → length (content_text c ++ (codes "</" ++ rest)) ≤ n
-      → content_at reads n i (content_text c ++ (codes "</" ++ rest)) ≡ Some (with_content i (text_in c) children, rest)
+      → content_at reads n i (content_text c ++ (codes "</" ++ rest)) ≡ Some (with_content i (text_inside c) children, rest)
   content_complete zero i c children rest ok means l =
       absurd (let k = length-append (content_text c) (codes "</" ++ rest) in omega (arith, l, k))
   content_complete (suc n) i nothing children rest ok means l =
@@ -699,7 +701,7 @@ module _ (root : List ℕ) (levels : ℕ) (kept : Bool) (scope : Scope) (reads :
       content_step reads n i (x ∷ left) (standing x) left (with_character i x) left
       (mark_standing x left ok.0 (after_mark x (content_text c) (47 ∷ rest) ok.1)) (piece_character i x left)
       ∙ content_complete n (with_character i x) c children rest ok.2 means (omega (arith, l))
-      ∙ ap (λ j. Some (j, rest)) (text_more i (encode_utf8 x) (text_in c) children)
+      ∙ ap (λ j. Some (j, rest)) (text_more i (encode_utf8 x) (text_inside c) children)
   content_complete (suc n) i (reference x c) children rest ok means l =
       let left = content_text c ++ (codes "</" ++ rest) in
       let whole = append_assoc (reference_text x) (content_text c) (codes "</" ++ rest) ∙ reference_begins x left in
@@ -708,7 +710,7 @@ module _ (root : List ℕ) (levels : ℕ) (kept : Bool) (scope : Scope) (reads :
       ∙ content_step reads n i (38 ∷ tail (reference_text x ++ left)) referred (tail (reference_text x ++ left)) (with_character i (character_of x)) left
       (mark_reference (tail (reference_text x ++ left))) (piece_reference i x left ok.0)
       ∙ content_complete n (with_character i (character_of x)) c children rest ok.1 means (omega (arith, l, long, short))
-      ∙ ap (λ j. Some (j, rest)) (text_more i (encode_utf8 (character_of x)) (text_in c) children)
+      ∙ ap (λ j. Some (j, rest)) (text_more i (encode_utf8 (character_of x)) (text_inside c) children)
   content_complete (suc n) i (cdata x c) children rest ok means l =
       let left = content_text c ++ (codes "</" ++ rest) in
       let whole : cdata_text x ++ content_text c ++ (codes "</" ++ rest) ≡ codes "<![CDATA[" ++ (x ++ (codes "]]>" ++ left)) =
@@ -718,7 +720,7 @@ module _ (root : List ℕ) (levels : ℕ) (kept : Bool) (scope : Scope) (reads :
       ∙ content_step reads n i (codes "<![CDATA[" ++ (x ++ (codes "]]>" ++ left))) sectioned (x ++ (codes "]]>" ++ left))
       (with_text i (i.text ++ encode_utf8_all x)) left (mark_section (x ++ (codes "]]>" ++ left))) (piece_section i x left ok.0)
       ∙ content_complete n (with_text i (i.text ++ encode_utf8_all x)) c children rest ok.1 means (omega (arith, l, long, long2))
-      ∙ ap (λ j. Some (j, rest)) (text_more i (encode_utf8_all x) (text_in c) children)
+      ∙ ap (λ j. Some (j, rest)) (text_more i (encode_utf8_all x) (text_inside c) children)
   content_complete (suc n) i (comment x c) children rest ok means l =
       let left = content_text c ++ (codes "</" ++ rest) in
       let whole : comment_text x ++ content_text c ++ (codes "</" ++ rest) ≡ codes "<!--" ++ (x ++ (codes "-->" ++ left)) =
@@ -749,7 +751,7 @@ module _ (root : List ℕ) (levels : ℕ) (kept : Bool) (scope : Scope) (reads :
       ∙ content_step reads n i (60 ∷ behind e left) nested (behind e left) (with_one i b.0) left
       (mark_element levels scope e left ok.0) (piece_child i e b.0 left ok.0 b.2)
       ∙ content_complete n (with_one i b.0) c b.1 rest ok.1 b.3 (omega (arith, l, long, long2, long3))
-      ∙ ap (λ j. Some (j, rest)) (child_more i b.0 (text_in c) b.1) ∙ ap (λ cs. Some (with_content i (text_in c) cs, rest)) b.4
+      ∙ ap (λ j. Some (j, rest)) (child_more i b.0 (text_inside c) b.1) ∙ ap (λ cs. Some (with_content i (text_inside c) cs, rest)) b.4
 
 -- elements on the way back
 
@@ -812,7 +814,7 @@ has_children root true scope c ss text d e = by_option (children_in root true sc
     by_option None e = absurd (cc e)
     by_option (Some cs) e = (cs, refl, e)
 
-named_data : (key : List ℕ) (d : Option Data) (c : Child) → named key d ≡ Some c → (x : Data) × (d ≡ Some x) × (named key (Some x) ≡ Some c)
+named_data : (key : List ℕ) (d : Option Data) (c : Child) → named_child key d ≡ Some c → (x : Data) × (d ≡ Some x) × (named_child key (Some x) ≡ Some c)
 named_data key None c e = absurd (cc e)
 named_data key (Some x) c e = (x, refl, e)
 
@@ -827,23 +829,23 @@ element_back root levels kept outer (empty t) c rest ok means r =
     let o = opening_of t in
     let ours = is_ours root (scope_in outer o.settings) o in
     named_as_child ours o (finished (kept && ours) (begun o.settings)) rest c
-    (ap (named (key_of ours o.local)) (finished_is (kept && ours) o.settings [] []) ∙ means)
+    (ap (named_child (key_of ours o.local)) (finished_is (kept && ours) o.settings [] []) ∙ means)
 element_back root levels kept outer (full t content space) c rest ok means r =
     let o = opening_of t in
     let inner = scope_in outer o.settings in
     let ours = is_ours root inner o in
     let k = kept && ours in
-    let d = named_data (key_of ours o.local) (element_data k o.settings (text_in content) (children_in root k inner content)) c means in
-    let h = has_children root k inner content o.settings (text_in content) d.0 d.1 in
+    let d = named_data (key_of ours o.local) (element_data k o.settings (text_inside content) (children_in root k inner content)) c means in
+    let h = has_children root k inner content o.settings (text_inside content) d.0 d.1 in
     let closing_text = name_text t.name ++ (space ++ (codes ">" ++ rest)) in
     let name = (both_true (is_qname t.name) _ ok.0.spelt).0 in
     let read = content_complete root levels k inner (child_at root levels k inner) (r k inner) (length (content_text content ++ (codes "</" ++ closing_text)))
     (begun o.settings) content h.0 closing_text ok.1 h.1 (omega arith) in
     let close = closing_complete t space rest name ok.2 in
-    let says : finished k (with_content (begun o.settings) (text_in content) h.0) ≡ Some d.0 =
-    finished_is k o.settings (text_in content) h.0 ∙ h.2 in
-    rw read (rw close (named_as_child ours o (finished k (with_content (begun o.settings) (text_in content) h.0)) rest c
-    (ap (named (key_of ours o.local)) says ∙ d.2)))
+    let says : finished k (with_content (begun o.settings) (text_inside content) h.0) ≡ Some d.0 =
+    finished_is k o.settings (text_inside content) h.0 ∙ h.2 in
+    rw read (rw close (named_as_child ours o (finished k (with_content (begun o.settings) (text_inside content) h.0)) rest c
+    (ap (named_child (key_of ours o.local)) says ∙ d.2)))
 
 -- an element that follows the rules and has a value is read after its `<`
 pub child_complete : (root : List ℕ) (levels : ℕ) (kept : Bool) (outer : Scope) → ReadsEach root levels kept outer (child_at root levels kept outer)

@@ -4,8 +4,8 @@ use Rattle.std.proofs.lemmas.Slice.Eq.{bytes_eq-Decides}
 use Rattle.std.specs.Char.{to_ascii_lowercase}
 use Rattle.std.specs.Prelude.{codes}
 use Rattle.std.specs.Str.{bytes_eq}
-use Rattle.irs_xml.specs.Characters.{is_space, is_white, is_gap}
-use Rattle.irs_xml.specs.Comments.{after}
+use Rattle.irs_xml.specs.Characters.{is_white_space, is_white, is_gap}
+use Rattle.irs_xml.specs.Comments.{rest_after}
 use Rattle.irs_xml.specs.Document.{Pair, pair_text, is_pair, is_version, is_encoding, is_standalone, Declaration, pair_text_if, is_pair_if, declaration_text, is_xml_declaration}
 use Rattle.irs_xml.specs.Private.Reading.{◌>>=◌, choose, skip_space, gap_at, equals_at, quote_at, after_any_case, quoted_at, version_at, encoding_at, standalone_at, name_behind, pair_at, declared_at, opening_at, declaration_at}
 use Rattle.irs_xml.specs.Tags.{is_quote}
@@ -59,7 +59,7 @@ no_complete rest = refl
 
 standalone_words : ReadsWord is_standalone standalone_at
 standalone_words = record {
-  sound = λ cs rest e. elim (choose_some (after (codes "yes") cs) (λ rest. Some rest) (after (codes "no") cs) rest e) [
+  sound = λ cs rest e. elim (choose_some (rest_after (codes "yes") cs) (λ rest. Some rest) (rest_after (codes "no") cs) rest e) [
     | inl h ↦ (codes "yes", refl, after_sound (codes "yes") cs rest (h.1 ∙ ap (λ t. Some t) (same_some h.2)))
     | inr h ↦ (codes "no", refl, after_sound (codes "no") cs rest h.1)
   ];
@@ -89,7 +89,7 @@ unfolding quoted_at
 quoted_sound test reads cs rest r e =
     let a = bind_some (equals_at cs) _ rest e in
     let q = bind_some (quote_at a.0) _ rest a.2 in
-    let w = bind_some (reads q.0.1) (after (q.0.0 ∷ [])) rest q.2 in
+    let w = bind_some (reads q.0.1) (rest_after (q.0.0 ∷ [])) rest q.2 in
     let eq = equals_sound cs a.0 a.1 in
     let quote = quote_sound a.0 q.0.0 q.0.1 q.1 in
     let word = r.sound q.0.1 w.0 w.1 in
@@ -143,7 +143,7 @@ unfolding pair_at
 pair_sound name test reads cs rest r e =
     elim (choose_some (name_behind name cs) (λ rest. quoted_at reads rest) (Some cs) rest e) [
       | inl h ↦
-          let g = bind_some (gap_at cs) (after name) h.0 h.1 in
+          let g = bind_some (gap_at cs) (rest_after name) h.0 h.1 in
           let gap = gap_sound cs g.0 g.1 in
           let p = one_pair name test gap.0 cs h.0 rest gap.1 (gap.2 ∙ ap (λ t. gap.0 ++ t) (after_sound name g.0 h.0 g.2)) (quoted_sound test reads h.0 rest r h.2) in
           record { pair = Some p.0; is_pair = p.1; spelt = p.2 }
@@ -168,7 +168,7 @@ lawful_pair test p h =
 
 -- a name that white space may be followed by
 pair_complete : (name : List ℕ) (test : List ℕ → Bool) (reads : List ℕ → Option (List ℕ)) (p : Pair) (rest : List ℕ) → ReadsWord test reads
-    → is_pair test p ≡ true → ((mid : List ℕ) → begins is_space (name ++ mid) ≡ false)
+    → is_pair test p ≡ true → ((mid : List ℕ) → begins is_white_space (name ++ mid) ≡ false)
     → pair_at name reads (pair_text name p ++ rest) ≡ Some rest
 unfolding pair_at
 pair_complete name test reads p rest r h plain =
@@ -185,24 +185,24 @@ unfolding pair_at
 no_pair name reads cs e = rw e refl
 
 -- white space and what comes after it
-gap_to : (s cs : List ℕ) (name : List ℕ) → is_white s ≡ true → begins is_space cs ≡ false → after name cs ≡ None → name_behind name (s ++ cs) ≡ None
+gap_to : (s cs : List ℕ) (name : List ℕ) → is_white s ≡ true → begins is_white_space cs ≡ false → rest_after name cs ≡ None → name_behind name (s ++ cs) ≡ None
 gap_to [] cs name w b e = let g = gap_none cs b in rw g refl
 gap_to (c ∷ s) cs name w b e = let g = gap_complete (c ∷ s) cs w b in rw g e
 
-mark_no_space : (rest : List ℕ) → begins is_space (codes "?>" ++ rest) ≡ false
-unfolding is_space
+mark_no_space : (rest : List ℕ) → begins is_white_space (codes "?>" ++ rest) ≡ false
+unfolding is_white_space
 mark_no_space rest = refl
 
-word_no_space : (rest : List ℕ) → begins is_space (codes "standalone" ++ rest) ≡ false
-unfolding is_space
+word_no_space : (rest : List ℕ) → begins is_white_space (codes "standalone" ++ rest) ≡ false
+unfolding is_white_space
 word_no_space rest = refl
 
-encoding_no_space : (rest : List ℕ) → begins is_space (codes "encoding" ++ rest) ≡ false
-unfolding is_space
+encoding_no_space : (rest : List ℕ) → begins is_white_space (codes "encoding" ++ rest) ≡ false
+unfolding is_white_space
 encoding_no_space rest = refl
 
-version_no_space : (rest : List ℕ) → begins is_space (codes "version" ++ rest) ≡ false
-unfolding is_space
+version_no_space : (rest : List ℕ) → begins is_white_space (codes "version" ++ rest) ≡ false
+unfolding is_white_space
 version_no_space rest = refl
 
 gap_white : (s : List ℕ) → is_gap s ≡ true → is_white s ≡ true
@@ -220,7 +220,7 @@ no_encoding (Some p) space rest h w =
     ∙ gap_to p.gap (codes "standalone" ++ mid) (codes "encoding") (gap_white p.gap l.gap) (word_no_space mid) refl
 
 pair_if_complete : (name : List ℕ) (test : List ℕ → Bool) (reads : List ℕ → Option (List ℕ)) (o : Option Pair) (rest : List ℕ) → ReadsWord test reads
-    → is_pair_if test o ≡ true → ((mid : List ℕ) → begins is_space (name ++ mid) ≡ false) → (o ≡ None → name_behind name rest ≡ None)
+    → is_pair_if test o ≡ true → ((mid : List ℕ) → begins is_white_space (name ++ mid) ≡ false) → (o ≡ None → name_behind name rest ≡ None)
     → pair_at name reads (pair_text_if name o ++ rest) ≡ Some rest
 pair_if_complete name test reads None rest r h plain none = no_pair name reads rest (none refl)
 pair_if_complete name test reads (Some p) rest r h plain none = pair_complete name test reads p rest r h plain
@@ -239,14 +239,14 @@ unfolding declaration_at declared_at
 declaration_sound cs rest e =
     elim (choose_some (opening_at cs) (λ rest. declared_at rest) (Some cs) rest e) [
       | inl h ↦
-          let o = bind_some (after (codes "<?xml") cs) gap_at h.0 h.1 in
+          let o = bind_some (rest_after (codes "<?xml") cs) gap_at h.0 h.1 in
           let gap = gap_sound o.0 h.0 o.2 in
-          let d = bind_some (after (codes "version") h.0 >>= quoted_at version_at >>= pair_at (codes "encoding") encoding_at
-          >>= pair_at (codes "standalone") standalone_at) (λ rest. after (codes "?>") (skip_space rest)) rest h.2 in
-          let c = bind_some (after (codes "version") h.0 >>= quoted_at version_at >>= pair_at (codes "encoding") encoding_at)
+          let d = bind_some (rest_after (codes "version") h.0 >>= quoted_at version_at >>= pair_at (codes "encoding") encoding_at
+          >>= pair_at (codes "standalone") standalone_at) (λ rest. rest_after (codes "?>") (skip_space rest)) rest h.2 in
+          let c = bind_some (rest_after (codes "version") h.0 >>= quoted_at version_at >>= pair_at (codes "encoding") encoding_at)
           (pair_at (codes "standalone") standalone_at) d.0 d.1 in
-          let b = bind_some (after (codes "version") h.0 >>= quoted_at version_at) (pair_at (codes "encoding") encoding_at) c.0 c.1 in
-          let a = bind_some (after (codes "version") h.0) (quoted_at version_at) b.0 b.1 in
+          let b = bind_some (rest_after (codes "version") h.0 >>= quoted_at version_at) (pair_at (codes "encoding") encoding_at) c.0 c.1 in
+          let a = bind_some (rest_after (codes "version") h.0) (quoted_at version_at) b.0 b.1 in
           let version = one_pair (codes "version") is_version gap.0 o.0 a.0 b.0 gap.1
           (gap.2 ∙ ap (λ t. gap.0 ++ t) (after_sound (codes "version") h.0 a.0 a.1)) (quoted_sound is_version version_at a.0 b.0 version_words a.2) in
           let encoding = pair_sound (codes "encoding") is_encoding encoding_at b.0 c.0 encoding_words b.2 in

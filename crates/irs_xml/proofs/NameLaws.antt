@@ -5,7 +5,7 @@ use Rattle.std.specs.Char.{encode_utf8}
 use Rattle.std.specs.List.{list_all}
 use Rattle.std.specs.Prelude.{codes}
 use Rattle.std.specs.Str.{encode_utf8_all}
-use Rattle.irs_xml.specs.Comments.{after}
+use Rattle.irs_xml.specs.Comments.{rest_after}
 use Rattle.irs_xml.specs.Names.{is_name_start, is_name_char, is_nc_name, QName, name_text, prefixed, is_prefix, is_qname}
 use Rattle.irs_xml.specs.Private.Reading.{◌>>=◌, choose, name_run, name_rest, name_at, qname_at}
 use Rattle.irs_xml.proofs.Steps.{same_some, bind_some, choose_some, chosen, both_true, true_both, after_sound, begins}
@@ -84,7 +84,7 @@ no_name_begins (c ∷ cs) h = either (is_name_char c) (nat_eq c 58) h
     either true b e = absurd (cc e)
     either false b e = refl
 
-no_colon_begins : (cs : List ℕ) → begins is_qname_char cs ≡ false → after (codes ":") cs ≡ None
+no_colon_begins : (cs : List ℕ) → begins is_qname_char cs ≡ false → rest_after (codes ":") cs ≡ None
 no_colon_begins [] h = refl
 no_colon_begins (c ∷ cs) h = let e = other (is_name_char c) (nat_eq c 58) h in rw e refl
   where
@@ -117,12 +117,12 @@ pub record ReadQName (cs prefix local rest : List ℕ) : Type 0 where
 pub qname_sound : (cs prefix local rest : List ℕ) → qname_at cs ≡ Some ((prefix, local), rest) → ReadQName cs prefix local rest
 unfolding qname_at
 qname_sound cs prefix local rest e =
-    let b = bind_some (name_at cs) (λ first. choose (after (codes ":") first.1)
+    let b = bind_some (name_at cs) (λ first. choose (rest_after (codes ":") first.1)
     (λ rest. name_at rest >>= λ local. Some ((first.0, local.0), local.1)) (Some (([], first.0), first.1)))
     ((prefix, local), rest) e in
     let first = b.0 in
     let n = name_sound cs first.0 first.1 b.1 in
-    elim (choose_some (after (codes ":") first.1) (λ rest. name_at rest >>= λ local. Some ((first.0, local.0), local.1))
+    elim (choose_some (rest_after (codes ":") first.1) (λ rest. name_at rest >>= λ local. Some ((first.0, local.0), local.1))
     (Some (([], first.0), first.1)) ((prefix, local), rest) b.2) [
       | inl h ↦
           let m = bind_some (name_at h.0) (λ local. Some ((first.0, local.0), local.1)) ((prefix, local), rest) h.2 in

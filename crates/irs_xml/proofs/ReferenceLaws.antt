@@ -6,8 +6,9 @@ use Rattle.std.specs.Char.{is_digit, digit_value}
 use Rattle.std.specs.List.{list_all}
 use Rattle.std.specs.Prelude.{codes}
 use Rattle.irs_xml.specs.Characters.{is_char}
-use Rattle.irs_xml.specs.Comments.{after}
-use Rattle.irs_xml.specs.References.{Reference, less, greater, ampersand, apostrophe, quotation, decimal, hexadecimal, reference_text, number_after, character_of, are_digits, is_reference}
+use Rattle.irs_xml.specs.Comments.{rest_after}
+use Rattle.irs_xml.specs.References.{Reference, less, greater, ampersand, apostrophe, quotation, decimal, hexadecimal}
+use Rattle.irs_xml.specs.References.{reference_text, number_after_in_base, character_of, are_digits, is_reference}
 use Rattle.irs_xml.specs.Private.Reading.{Got, capped, digits_at, number_at, character_at, reference_at}
 use Rattle.irs_xml.proofs.Steps.{same_some, bind_some, choose_some, chosen, both_true, true_both, eq_true, after_sound}
 
@@ -41,7 +42,7 @@ capped_step n base d h = elim (cases_Bool (nat_lt n 0x11_0000)) [
 record ReadDigits (base n : ℕ) (cs : List ℕ) (m : ℕ) (rest : List ℕ) : Type 0 where
   digits : List ℕ
   are : list_all (λ x. is_digit x base) digits ≡ true
-  says : m ≡ capped (number_after base n digits)
+  says : m ≡ capped (number_after_in_base base n digits)
   spelt : cs ≡ digits ++ 59 ∷ rest
 
 digits_sound : (base n k : ℕ) (cs : List ℕ) (m : ℕ) (rest : List ℕ) → 1 ≤ base → k ≡ capped n
@@ -79,7 +80,7 @@ small_digit c base h e = let l : digit_value c < base = grind (arith, nat_tests)
 record ReadNumber (base : ℕ) (cs : List ℕ) (m : ℕ) (rest : List ℕ) : Type 0 where
   digits : List ℕ
   are : are_digits base digits ≡ true
-  says : m ≡ capped (number_after base 0 digits)
+  says : m ≡ capped (number_after_in_base base 0 digits)
   spelt : cs ≡ digits ++ 59 ∷ rest
 
 number_sound : (base : ℕ) (cs : List ℕ) (m : ℕ) (rest : List ℕ) → 1 ≤ base → base ≤ 36
@@ -103,8 +104,8 @@ number_sound base (c ∷ cs) m rest low high e =
 -- a character that was read by its number
 record ReadCharacter (base : ℕ) (cs : List ℕ) (m : ℕ) (rest : List ℕ) : Type 0 where
   digits : List ℕ
-  are : are_digits base digits && is_char (number_after base 0 digits) ≡ true
-  says : m ≡ number_after base 0 digits
+  are : are_digits base digits && is_char (number_after_in_base base 0 digits) ≡ true
+  says : m ≡ number_after_in_base base 0 digits
   spelt : cs ≡ digits ++ 59 ∷ rest
 
 character_sound : (base : ℕ) (cs : List ℕ) (m : ℕ) (rest : List ℕ) → 1 ≤ base → base ≤ 36
@@ -116,10 +117,10 @@ character_sound base cs m rest low high e =
       | inl t ↦
           let is = same_some t.1 in
           let r = number_sound base cs b.0.0 b.0.1 low high b.1 in
-          let allowed : is_char (capped (number_after base 0 r.digits)) ≡ true = ap is_char (sym r.says) ∙ t.0 in
-          let exact = capped_allowed (number_after base 0 r.digits) allowed in record {
+          let allowed : is_char (capped (number_after_in_base base 0 r.digits)) ≡ true = ap is_char (sym r.says) ∙ t.0 in
+          let exact = capped_allowed (number_after_in_base base 0 r.digits) allowed in record {
             digits = r.digits;
-            are = true_both (are_digits base r.digits) (is_char (number_after base 0 r.digits)) r.are
+            are = true_both (are_digits base r.digits) (is_char (number_after_in_base base 0 r.digits)) r.are
                 (ap is_char (sym exact) ∙ allowed);
             says = sym (ap (λ p. p.0) is) ∙ r.says ∙ exact;
             spelt = r.spelt ∙ ap (λ p. r.digits ++ 59 ∷ p.1) is;
@@ -135,7 +136,7 @@ pub record ReadReference (cs : List ℕ) (c : ℕ) (rest : List ℕ) : Type 0 wh
   pub spelt : 38 ∷ cs ≡ reference_text reference ++ rest
 
 named_sound : (r : Reference) (c n : ℕ) (w cs x rest : List ℕ) → is_reference r ≡ true → n ≡ character_of r
-    → reference_text r ≡ 38 ∷ w → after w cs ≡ Some x → ◌≡◌ {A = Got ℕ} (Some (n, x)) (Some (c, rest)) → ReadReference cs c rest
+    → reference_text r ≡ 38 ∷ w → rest_after w cs ≡ Some x → ◌≡◌ {A = Got ℕ} (Some (n, x)) (Some (c, rest)) → ReadReference cs c rest
 named_sound r c n w cs x rest ok says text found is =
     let same = same_some is in record {
       reference = r;
@@ -148,17 +149,17 @@ named_sound r c n w cs x rest ok says text found is =
 pub reference_sound : (cs : List ℕ) (c : ℕ) (rest : List ℕ) → reference_at cs ≡ Some (c, rest) → ReadReference cs c rest
 unfolding reference_at
 reference_sound cs c rest e =
-    elim (choose_some (after (codes "lt;") cs) (λ rest. Some (60, rest)) _ (c, rest) e) [
+    elim (choose_some (rest_after (codes "lt;") cs) (λ rest. Some (60, rest)) _ (c, rest) e) [
       | inl h ↦ named_sound less c 60 (codes "lt;") cs h.0 rest refl refl refl h.1 h.2
-      | inr no_lt ↦ elim (choose_some (after (codes "gt;") cs) (λ rest. Some (62, rest)) _ (c, rest) no_lt.1) [
+      | inr no_lt ↦ elim (choose_some (rest_after (codes "gt;") cs) (λ rest. Some (62, rest)) _ (c, rest) no_lt.1) [
         | inl h ↦ named_sound greater c 62 (codes "gt;") cs h.0 rest refl refl refl h.1 h.2
-        | inr no_gt ↦ elim (choose_some (after (codes "amp;") cs) (λ rest. Some (38, rest)) _ (c, rest) no_gt.1) [
+        | inr no_gt ↦ elim (choose_some (rest_after (codes "amp;") cs) (λ rest. Some (38, rest)) _ (c, rest) no_gt.1) [
           | inl h ↦ named_sound ampersand c 38 (codes "amp;") cs h.0 rest refl refl refl h.1 h.2
-          | inr no_amp ↦ elim (choose_some (after (codes "apos;") cs) (λ rest. Some (39, rest)) _ (c, rest) no_amp.1) [
+          | inr no_amp ↦ elim (choose_some (rest_after (codes "apos;") cs) (λ rest. Some (39, rest)) _ (c, rest) no_amp.1) [
             | inl h ↦ named_sound apostrophe c 39 (codes "apos;") cs h.0 rest refl refl refl h.1 h.2
-            | inr no_apos ↦ elim (choose_some (after (codes "quot;") cs) (λ rest. Some (34, rest)) _ (c, rest) no_apos.1) [
+            | inr no_apos ↦ elim (choose_some (rest_after (codes "quot;") cs) (λ rest. Some (34, rest)) _ (c, rest) no_apos.1) [
               | inl h ↦ named_sound quotation c 34 (codes "quot;") cs h.0 rest refl refl refl h.1 h.2
-              | inr no_quot ↦ elim (choose_some (after (codes "#x") cs) (λ rest. character_at 16 rest) _ (c, rest) no_quot.1) [
+              | inr no_quot ↦ elim (choose_some (rest_after (codes "#x") cs) (λ rest. character_at 16 rest) _ (c, rest) no_quot.1) [
                 | inl h ↦
                     let r = character_sound 16 h.0 c rest (omega arith) (omega arith) h.2 in record {
                       reference = hexadecimal r.digits;
@@ -167,7 +168,7 @@ reference_sound cs c rest e =
                       spelt = ap (λ t. 38 ∷ t) (after_sound (codes "#x") cs h.0 h.1) ∙ ap (λ t. codes "&#x" ++ t) r.spelt
                           ∙ ap (λ t. codes "&#x" ++ t) (sym (append_assoc r.digits (codes ";") rest));
                     }
-                | inr no_hex ↦ elim (choose_some (after (codes "#") cs) (λ rest. character_at 10 rest) None (c, rest) no_hex.1) [
+                | inr no_hex ↦ elim (choose_some (rest_after (codes "#") cs) (λ rest. character_at 10 rest) None (c, rest) no_hex.1) [
                   | inl h ↦
                       let r = character_sound 10 h.0 c rest (omega arith) (omega arith) h.2 in record {
                         reference = decimal r.digits;
@@ -198,7 +199,7 @@ digit_no_semicolon c base h e = elim (cases_Bool (nat_eq c 59)) [
 ]
 
 digits_complete : (base n k : ℕ) (ds rest : List ℕ) → 1 ≤ base → base ≤ 36 → k ≡ capped n
-    → list_all (λ x. is_digit x base) ds ≡ true → digits_at base k (ds ++ 59 ∷ rest) ≡ Some (capped (number_after base n ds), rest)
+    → list_all (λ x. is_digit x base) ds ≡ true → digits_at base k (ds ++ 59 ∷ rest) ≡ Some (capped (number_after_in_base base n ds), rest)
 digits_complete base n k [] rest low high is all = ap (λ m. Some (m, rest)) is
 digits_complete base n k (d ∷ ds) rest low high is all =
     let b = both_true (is_digit d base) (list_all (λ x. is_digit x base) ds) all in
@@ -209,20 +210,20 @@ digits_complete base n k (d ∷ ds) rest low high is all =
     rw (other, digit) (digits_complete base (n * base + digit_value d) (capped (k * base + digit_value d)) ds rest low high next b.1)
 
 character_complete : (base : ℕ) (ds rest : List ℕ) → 1 ≤ base → base ≤ 36
-    → are_digits base ds && is_char (number_after base 0 ds) ≡ true
-    → character_at base (ds ++ 59 ∷ rest) ≡ Some (number_after base 0 ds, rest)
+    → are_digits base ds && is_char (number_after_in_base base 0 ds) ≡ true
+    → character_at base (ds ++ 59 ∷ rest) ≡ Some (number_after_in_base base 0 ds, rest)
 unfolding character_at
 character_complete base [] rest low high h = absurd (cc h)
 character_complete base (d ∷ ds) rest low high h =
-    let a = both_true (are_digits base (d ∷ ds)) (is_char (number_after base 0 (d ∷ ds))) h in
+    let a = both_true (are_digits base (d ∷ ds)) (is_char (number_after_in_base base 0 (d ∷ ds))) h in
     let b = both_true (is_digit d base) (list_all (λ x. is_digit x base) ds) a.0 in
     let digit = b.0 in
     let zero_before : digit_value d ≡ 0 * base + digit_value d = omega arith in
     let first : digit_value d ≡ capped (0 * base + digit_value d) =
     sym (small_digit d base high b.0) ∙ ap capped zero_before in
     let read = digits_complete base (0 * base + digit_value d) (digit_value d) ds rest low high first b.1 in
-    let exact : capped (number_after base 0 (d ∷ ds)) ≡ number_after base 0 (d ∷ ds) =
-    capped_small (number_after base 0 (d ∷ ds)) (allowed_small (number_after base 0 (d ∷ ds)) a.1) in
+    let exact : capped (number_after_in_base base 0 (d ∷ ds)) ≡ number_after_in_base base 0 (d ∷ ds) =
+    capped_small (number_after_in_base base 0 (d ∷ ds)) (allowed_small (number_after_in_base base 0 (d ∷ ds)) a.1) in
     let allowed = a.1 in
     rw digit (rw read (rw exact (rw allowed refl)))
 
@@ -254,7 +255,7 @@ reference_complete (hexadecimal ds) rest h =
     ap (character_at 16) (append_assoc ds (codes ";") rest) ∙ character_complete 16 ds rest (omega arith) (omega arith) h
 reference_complete (decimal []) rest h = absurd (cc h)
 reference_complete (decimal (d ∷ ds)) rest h =
-    let a = both_true (are_digits 10 (d ∷ ds)) (is_char (number_after 10 0 (d ∷ ds))) h in
+    let a = both_true (are_digits 10 (d ∷ ds)) (is_char (number_after_in_base 10 0 (d ∷ ds))) h in
     let b = both_true (is_digit d 10) (list_all (λ x. is_digit x 10) ds) a.0 in
     let other = decimal_no_hex d b.0 in
     rw other (ap (character_at 10) (append_assoc (d ∷ ds) (codes ";") rest)

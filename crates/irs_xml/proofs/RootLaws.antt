@@ -6,8 +6,10 @@ use Rattle.std.proofs.lemmas.List.{append-nil}
 use Rattle.std.specs.Char.{encode_utf8}
 use Rattle.std.specs.Prelude.{codes}
 use Rattle.serde_json.specs.Data.{Data, object, member, no_members}
-use Rattle.irs_xml.specs.Characters.{is_space, is_white}
-use Rattle.irs_xml.specs.Comments.{after, is_comment, comment_text, Instruction, is_instruction, instruction_text, is_apart, lacks}
+use Rattle.irs_xml.specs.Characters.{is_white_space, is_white}
+use Rattle.irs_xml.specs.Comments.{rest_after, is_comment_text, comment_text, Instruction, is_instruction}
+use Rattle.irs_xml.specs.Comments.{instruction_text}
+use Rattle.irs_xml.specs.Comments.{is_apart, lacks}
 use Rattle.irs_xml.specs.Content.{Element, element_text, IsElement, IsTagIn, most_levels}
 use Rattle.irs_xml.specs.Document.{Declaration, declaration_text, is_xml_declaration, Misc, blank, comment, instruction, misc_text, is_misc, Document, document_text, tag_of, root_namespace, is_fpml, IsDocument, root_key, rooted, root_value, document_value}
 use Rattle.irs_xml.specs.Names.{is_name_char, is_name_start, is_nc_name}
@@ -35,7 +37,7 @@ blanks_text (c ∷ s) ms = ap (λ t. c ∷ t) (blanks_text s ms)
 are_blanks : (s : List ℕ) (ms : List Misc) → is_white s ≡ true → is_misc ms ≡ true → is_misc (blanks s ms) ≡ true
 are_blanks [] ms w h = h
 are_blanks (c ∷ s) ms w h =
-    let b = both_true (is_space c) (is_white s) w in true_both (is_space c) (is_misc (blanks s ms)) b.0 (are_blanks s ms b.1 h)
+    let b = both_true (is_white_space c) (is_white s) w in true_both (is_white_space c) (is_misc (blanks s ms)) b.0 (are_blanks s ms b.1 h)
 
 -- comments, instructions and white space that were read
 record ReadMisc (cs rest : List ℕ) : Type 0 where
@@ -55,15 +57,15 @@ misc_sound : (n : ℕ) (cs rest : List ℕ) → misc_at n cs ≡ Some rest → R
 unfolding misc_at
 misc_sound zero cs rest e = absurd (cc e)
 misc_sound (suc n) cs rest e =
-    elim (choose_some (after (codes "<!--") (skip_space cs)) (λ rest. comment_at rest >>= misc_at n) _ rest e) [
+    elim (choose_some (rest_after (codes "<!--") (skip_space cs)) (λ rest. comment_at rest >>= misc_at n) _ rest e) [
       | inl h ↦
           let b = bind_some (comment_at h.0) (misc_at n) rest h.2 in
           let c = comment_sound h.0 b.0 b.1 in
           let r = misc_sound n b.0 rest b.2 in
-          behind_white cs rest (comment c.text ∷ r.misc) (true_both (is_comment c.text) (is_misc r.misc) c.is_comment r.are)
+          behind_white cs rest (comment c.text ∷ r.misc) (true_both (is_comment_text c.text) (is_misc r.misc) c.is_comment r.are)
           (after_sound (codes "<!--") (skip_space cs) h.0 h.1 ∙ c.spelt ∙ ap (λ t. comment_text c.text ++ t) r.spelt
           ∙ sym (append_assoc (comment_text c.text) (misc_text r.misc) rest))
-      | inr a ↦ elim (choose_some (after (codes "<?") (skip_space cs)) (λ rest. instruction_at rest >>= misc_at n) (Some (skip_space cs)) rest a.1) [
+      | inr a ↦ elim (choose_some (rest_after (codes "<?") (skip_space cs)) (λ rest. instruction_at rest >>= misc_at n) (Some (skip_space cs)) rest a.1) [
         | inl h ↦
             let b = bind_some (instruction_at h.0) (misc_at n) rest h.2 in
             let i = instruction_sound h.0 b.0 b.1 in
@@ -77,37 +79,37 @@ misc_sound (suc n) cs rest e =
 
 -- what ends the comments, instructions and white space
 record Stops (rest : List ℕ) : Type 0 where
-  no_space : begins is_space rest ≡ false
-  no_comment : after (codes "<!--") rest ≡ None
-  no_instruction : after (codes "<?") rest ≡ None
+  no_space : begins is_white_space rest ≡ false
+  no_comment : rest_after (codes "<!--") rest ≡ None
+  no_instruction : rest_after (codes "<?") rest ≡ None
 
 misc_stop : (n : ℕ) (rest : List ℕ) → Stops rest → misc_at (suc n) rest ≡ Some rest
 unfolding misc_at
 misc_stop n rest s =
     let skip = skip-stop rest s.no_space in let a = s.no_comment in let b = s.no_instruction in rw (skip, a, b) refl
 
-misc_blank : (n c : ℕ) (cs : List ℕ) → is_space c ≡ true → misc_at (suc n) (c ∷ cs) ≡ misc_at (suc n) cs
+misc_blank : (n c : ℕ) (cs : List ℕ) → is_white_space c ≡ true → misc_at (suc n) (c ∷ cs) ≡ misc_at (suc n) cs
 unfolding misc_at
 misc_blank n c cs h = rw h refl
 
-misc_comment : (n : ℕ) (text left : List ℕ) → is_comment text ≡ true → misc_at (suc n) (codes "<!--" ++ (text ++ (codes "-->" ++ left))) ≡ misc_at n left
-unfolding misc_at is_space
+misc_comment : (n : ℕ) (text left : List ℕ) → is_comment_text text ≡ true → misc_at (suc n) (codes "<!--" ++ (text ++ (codes "-->" ++ left))) ≡ misc_at n left
+unfolding misc_at is_white_space
 misc_comment n text left h = let e = comment_complete text left h in rw e refl
 
 misc_instruction : (n : ℕ) (i : Instruction) (left : List ℕ) → is_instruction i ≡ true
     → misc_at (suc n) (codes "<?" ++ (i.target ++ (i.body ++ (codes "?>" ++ left)))) ≡ misc_at n left
-unfolding misc_at is_space
+unfolding misc_at is_white_space
 misc_instruction n i left h = let e = instruction_complete i left h in rw e refl
 
 misc_complete : (n : ℕ) (ms : List Misc) (rest : List ℕ) → is_misc ms ≡ true → Stops rest → length (misc_text ms ++ rest) ≤ n
     → misc_at (suc n) (misc_text ms ++ rest) ≡ Some rest
 misc_complete n [] rest h s l = misc_stop n rest s
 misc_complete n (blank c ∷ ms) rest h s l =
-    let b = both_true (is_space c) (is_misc ms) h in
+    let b = both_true (is_white_space c) (is_misc ms) h in
     misc_blank n c (misc_text ms ++ rest) b.0 ∙ misc_complete n ms rest b.1 s (omega (arith, l))
 misc_complete zero (comment text ∷ ms) rest h s l = absurd (omega (arith, l))
 misc_complete (suc n) (comment text ∷ ms) rest h s l =
-    let b = both_true (is_comment text) (is_misc ms) h in
+    let b = both_true (is_comment_text text) (is_misc ms) h in
     let left = misc_text ms ++ rest in
     let whole : misc_text (comment text ∷ ms) ++ rest ≡ codes "<!--" ++ (text ++ (codes "-->" ++ left)) =
     append_assoc (comment_text text) (misc_text ms) rest ∙ ap (λ t. codes "<!--" ++ t) (append_assoc text (codes "-->") left) in
@@ -126,8 +128,8 @@ misc_complete (suc n) (instruction i ∷ ms) rest h s l =
 
 -- a root ends what comes before it
 
-less_no_space : (cs : List ℕ) → begins is_space (60 ∷ cs) ≡ false
-unfolding is_space
+less_no_space : (cs : List ℕ) → begins is_white_space (60 ∷ cs) ≡ false
+unfolding is_white_space
 less_no_space cs = refl
 
 root_stops : (levels : ℕ) (scope : Scope) (e : Element) (tail : List ℕ) → IsElement levels scope e → Stops (element_text e ++ tail)
@@ -161,13 +163,13 @@ root_no_declaration levels scope e tail ok =
     no_mark : (c : ℕ) (cs : List ℕ) → nat_eq c 63 ≡ false → opening_at (60 ∷ (c ∷ cs)) ≡ None
     no_mark c cs x = rw x refl
 
-space_no_less : (c : ℕ) → is_space c ≡ true → nat_eq c 60 ≡ false
-unfolding is_space
+space_no_less : (c : ℕ) → is_white_space c ≡ true → nat_eq c 60 ≡ false
+unfolding is_white_space
 space_no_less c h = grind (arith, nat_tests)
 
 -- a target that isn't `xml` begins no declaration
-space_apart : (c : ℕ) → is_space c ≡ true → (nat_eq c 109 ≡ false) × (nat_eq c 108 ≡ false)
-unfolding is_space
+space_apart : (c : ℕ) → is_white_space c ≡ true → (nat_eq c 109 ≡ false) × (nat_eq c 108 ≡ false)
+unfolding is_white_space
 space_apart c h = (grind (arith, nat_tests), grind (arith, nat_tests))
 
 fourth : (a b c d : ℕ) (ds : List ℕ) → is_nc_name (a ∷ b ∷ c ∷ d ∷ ds) ≡ true → is_name_char d ≡ true
@@ -193,8 +195,8 @@ behind_target : (body rest : List ℕ) → is_apart body ≡ true
 behind_target [] rest h = (63, 62 ∷ rest, refl, refl, refl)
 behind_target (c ∷ body) rest h = let s = space_apart c h in (c, body ++ (codes "?>" ++ rest), refl, s.0, s.1)
 
-name_no_space : (c : ℕ) → is_name_char c ≡ true → is_space c ≡ false
-name_no_space c h = elim (cases_Bool (is_space c)) [
+name_no_space : (c : ℕ) → is_name_char c ≡ true → is_white_space c ≡ false
+name_no_space c h = elim (cases_Bool (is_white_space c)) [
   | inl s ↦ absurd (let k = sym (space_no_name c s) ∙ h in cc k)
   | inr s ↦ s
 ]
@@ -215,20 +217,20 @@ second_test true false = refl
 second_test false y = refl
 
 target_no_xml : (target body rest : List ℕ) → is_instruction (record { target = target; body = body }) ≡ true
-    → (after (codes "xml") (target ++ (body ++ (codes "?>" ++ rest))) >>= gap_at) ≡ None
+    → (rest_after (codes "xml") (target ++ (body ++ (codes "?>" ++ rest))) >>= gap_at) ≡ None
 target_no_xml [] body rest h = absurd (cc h)
 target_no_xml (a ∷ []) body rest h =
     let b = behind_target body rest (both_true (is_apart body) (lacks (codes "?>") body) (both_true _ (is_apart body && lacks (codes "?>") body) h).1).0 in
     let other = b.3 in
-    ap (λ t. after (codes "xml") (a ∷ t) >>= gap_at) b.2 ∙ one a b.0 b.1 b.3
+    ap (λ t. rest_after (codes "xml") (a ∷ t) >>= gap_at) b.2 ∙ one a b.0 b.1 b.3
   where
-    one : (a c : ℕ) (cs : List ℕ) → nat_eq c 109 ≡ false → (after (codes "xml") (a ∷ (c ∷ cs)) >>= gap_at) ≡ None
+    one : (a c : ℕ) (cs : List ℕ) → nat_eq c 109 ≡ false → (rest_after (codes "xml") (a ∷ (c ∷ cs)) >>= gap_at) ≡ None
     one a c cs e = rw e (first_test (nat_eq a 120))
 target_no_xml (a ∷ d ∷ []) body rest h =
     let b = behind_target body rest (both_true (is_apart body) (lacks (codes "?>") body) (both_true _ (is_apart body && lacks (codes "?>") body) h).1).0 in
-    ap (λ t. after (codes "xml") (a ∷ (d ∷ t)) >>= gap_at) b.2 ∙ two a d b.0 b.1 b.4
+    ap (λ t. rest_after (codes "xml") (a ∷ (d ∷ t)) >>= gap_at) b.2 ∙ two a d b.0 b.1 b.4
   where
-    two : (a d c : ℕ) (cs : List ℕ) → nat_eq c 108 ≡ false → (after (codes "xml") (a ∷ (d ∷ (c ∷ cs))) >>= gap_at) ≡ None
+    two : (a d c : ℕ) (cs : List ℕ) → nat_eq c 108 ≡ false → (rest_after (codes "xml") (a ∷ (d ∷ (c ∷ cs))) >>= gap_at) ≡ None
     two a d c cs e = rw e (second_test (nat_eq a 120) (nat_eq d 109))
 target_no_xml (a ∷ d ∷ f ∷ []) body rest h = by_tests (nat_eq a 120) (nat_eq d 109) (nat_eq f 108) refl refl refl
   where
@@ -246,7 +248,7 @@ target_no_xml (a ∷ d ∷ f ∷ g ∷ gs) body rest h =
 no_declaration : (ms : List Misc) (levels : ℕ) (scope : Scope) (e : Element) (tail : List ℕ) → is_misc ms ≡ true → IsElement levels scope e
     → opening_at (misc_text ms ++ (element_text e ++ tail)) ≡ None
 no_declaration [] levels scope e tail h ok = root_no_declaration levels scope e tail ok
-no_declaration (blank c ∷ ms) levels scope e tail h ok = let x = space_no_less c (both_true (is_space c) (is_misc ms) h).0 in rw x refl
+no_declaration (blank c ∷ ms) levels scope e tail h ok = let x = space_no_less c (both_true (is_white_space c) (is_misc ms) h).0 in rw x refl
 no_declaration (comment text ∷ ms) levels scope e tail h ok = refl
 no_declaration (instruction i ∷ ms) levels scope e tail h ok =
     let b = both_true (is_instruction i) (is_misc ms) h in
@@ -355,7 +357,7 @@ unfolding document_at
 document_sound cs d e =
     let a = bind_some (declaration_at cs) _ d e in
     let b = bind_some (misc_at (suc (length a.0)) a.0) _ d a.2 in
-    let c = bind_some (after (codes "<") b.0) _ d b.2 in
+    let c = bind_some (rest_after (codes "<") b.0) _ d b.2 in
     let r = bind_some (root_at c.0) _ d c.2 in
     let m = bind_some (misc_at (suc (length r.0.1)) r.0.1) _ d r.2 in
     let end = ended_is r.0.0 m.0 d m.2 in
@@ -380,7 +382,7 @@ document_complete doc d is means =
     let front = misc_text doc.before ++ (element_text doc.root ++ last) in
     let declared = declaration_complete doc.declaration doc.before most_levels first_scope doc.root last is.declared is.before is.root in
     let before = misc_complete (length front) doc.before (element_text doc.root ++ last) is.before (root_stops most_levels first_scope doc.root last is.root) (omega arith) in
-    let less : after (codes "<") (element_text doc.root ++ last) ≡ Some (behind doc.root last) = ap (after (codes "<")) (element_begins doc.root last) in
+    let less : rest_after (codes "<") (element_text doc.root ++ last) ≡ Some (behind doc.root last) = ap (rest_after (codes "<")) (element_begins doc.root last) in
     let root = root_complete doc.root d last is.root is.fpml means in
     let end : misc_at (suc (length last)) last ≡ Some [] =
     ap (misc_at (suc (length last))) (sym (append-nil last))

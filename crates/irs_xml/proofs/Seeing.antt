@@ -6,7 +6,7 @@ use Rattle.std.specs.List.{slice_get}
 use Rattle.std.specs.Str.{chars, encode_utf8_all, IsUtf8, IsCharBoundary}
 use Rattle.std.specs.Char.{encode_utf8}
 use Rattle.irs_xml.specs.Characters.{ends_after}
-use Rattle.irs_xml.specs.Comments.{after}
+use Rattle.irs_xml.specs.Comments.{rest_after}
 use Rattle.irs_xml.specs.Seen.{seen}
 use Rattle.irs_xml.proofs.Steps.{after_complete}
 
@@ -106,15 +106,15 @@ unfolding seen
 seen_split xs rest u h = ap (ends_after false) (chars-append xs rest u) ∙ ends_split false (chars xs) (chars rest) h
 
 behind_word : (text word rest : List ℕ) → text ≡ word ++ rest → IsUtf8 word → IsUtf8 rest → ((more : List ℕ) → rest ≡ 10 ∷ more → ⊥)
-    → after (seen word) (seen text) ≡ Some (seen rest)
+    → rest_after (seen word) (seen text) ≡ Some (seen rest)
 behind_word text word rest e u v h =
-    ap (λ t. after (seen word) (seen t)) e ∙ ap (after (seen word)) (seen_split word rest u (behind_alone rest v h))
+    ap (λ t. rest_after (seen word) (seen t)) e ∙ ap (rest_after (seen word)) (seen_split word rest u (behind_alone rest v h))
     ∙ after_complete (seen word) (seen rest)
 
 -- a name in front is taken, where no LF follows it
 pub behind_cut : (text word rest : List ℕ) (n : ℕ) → n ≡ length word → text ≡ word ++ drop n text → IsCharBoundary text (length word)
     → rest ≡ drop n text → IsUtf8 text → IsUtf8 word → ((more : List ℕ) → rest ≡ 10 ∷ more → ⊥)
-    → after (seen word) (seen text) ≡ Some (seen rest)
+    → rest_after (seen word) (seen text) ≡ Some (seen rest)
 behind_cut text word rest n k e b r u w h =
     let utf8 : IsUtf8 rest = subst IsUtf8 (sym (r ∙ ap (λ i. drop i text) k)) (IsUtf8-drop text (length word) u b) in
     behind_word text word rest (e ∙ ap (λ t. word ++ t) (sym r)) w utf8 h

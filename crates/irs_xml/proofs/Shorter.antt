@@ -2,7 +2,7 @@
 use Rattle.std.proofs.Common.{◌≡◌, inl, inr, ℕ, zero, suc, ◌<◌, ◌≤◌, Bool, true, false, List, [], ◌∷◌, ◌++◌, length, Option, Some, None, nat_eq, ap, ◌∙◌, arith, length-append}
 use Rattle.std.specs.Prelude.{codes}
 use Rattle.serde_json.specs.Data.{Data}
-use Rattle.irs_xml.specs.Comments.{after, comment_text, cdata_text, instruction_text}
+use Rattle.irs_xml.specs.Comments.{rest_after, comment_text, cdata_text, instruction_text}
 use Rattle.irs_xml.specs.Namespaces.{Scope, Opening, is_opened, scope_in}
 use Rattle.irs_xml.specs.Private.Reading.{Got, ◌>>=◌, choose, skip_space, Inside, Mark, ending, commented, sectioned, instructed, nested, referred, standing, mark_at, markup_at, piece_at, content_at, closing_name_at, closing_at, filled_at, element_at, child_at, as_child, begun, with_one, with_text, with_character, comment_at, instruction_at, data_at, reference_at, tag_at}
 use Rattle.irs_xml.specs.Seen.{seen}
@@ -13,7 +13,7 @@ use Rattle.irs_xml.proofs.CommentLaws.{comment_sound, data_sound, instruction_so
 use Rattle.irs_xml.proofs.TagLaws.{end_text, tag_sound}
 use Rattle.irs_xml.proofs.ValueSteps.{reference_short}
 
-after_short : (w cs rest : List ℕ) → after w cs ≡ Some rest → length rest ≤ length cs
+after_short : (w cs rest : List ℕ) → rest_after w cs ≡ Some rest → length rest ≤ length cs
 after_short w cs rest e = let l = length_after w cs rest e in omega (arith, l)
 
 -- skipping white space makes nothing longer
@@ -44,13 +44,13 @@ tag_short cs o b rest e =
 markup_short : (cs : List ℕ) (m : Mark) (rest : List ℕ) → markup_at cs ≡ Some (m, rest) → length rest ≤ length cs
 unfolding markup_at
 markup_short cs m rest e =
-    elim (choose_some (after (codes "/") cs) (λ rest. Some (ending, rest)) _ (m, rest) e) [
+    elim (choose_some (rest_after (codes "/") cs) (λ rest. Some (ending, rest)) _ (m, rest) e) [
       | inl h ↦ by_word (codes "/") ending h.0 h.1 h.2
-      | inr a ↦ elim (choose_some (after (codes "!--") cs) (λ rest. Some (commented, rest)) _ (m, rest) a.1) [
+      | inr a ↦ elim (choose_some (rest_after (codes "!--") cs) (λ rest. Some (commented, rest)) _ (m, rest) a.1) [
         | inl h ↦ by_word (codes "!--") commented h.0 h.1 h.2
-        | inr b ↦ elim (choose_some (after (codes "![CDATA[") cs) (λ rest. Some (sectioned, rest)) _ (m, rest) b.1) [
+        | inr b ↦ elim (choose_some (rest_after (codes "![CDATA[") cs) (λ rest. Some (sectioned, rest)) _ (m, rest) b.1) [
           | inl h ↦ by_word (codes "![CDATA[") sectioned h.0 h.1 h.2
-          | inr d ↦ elim (choose_some (after (codes "?") cs) (λ rest. Some (instructed, rest)) (Some (nested, cs)) (m, rest) d.1) [
+          | inr d ↦ elim (choose_some (rest_after (codes "?") cs) (λ rest. Some (instructed, rest)) (Some (nested, cs)) (m, rest) d.1) [
             | inl h ↦ by_word (codes "?") instructed h.0 h.1 h.2
             | inr h ↦ let l = ap (λ p. length p.1) (same_some h.1) in omega (arith, l)
           ]
@@ -58,7 +58,7 @@ markup_short cs m rest e =
       ]
     ]
   where
-    by_word : (w : List ℕ) (k : Mark) (x : List ℕ) → after w cs ≡ Some x → ◌≡◌ {A = Got Mark} (Some (k, x)) (Some (m, rest)) → length rest ≤ length cs
+    by_word : (w : List ℕ) (k : Mark) (x : List ℕ) → rest_after w cs ≡ Some x → ◌≡◌ {A = Got Mark} (Some (k, x)) (Some (m, rest)) → length rest ≤ length cs
     by_word w k x found is =
         let s = after_short w cs x found in let l = ap (λ p. length p.1) (same_some is) in omega (arith, s, l)
 
@@ -71,8 +71,8 @@ mark_short (c ∷ cs) m rest e =
       | inl h ↦ let s = markup_short cs m rest h.1 in omega (arith, s)
       | inr a ↦ elim (chosen (nat_eq c 38) (Some (referred, cs)) _ (Some (m, rest)) a.1) [
         | inl h ↦ let l = ap (λ p. length p.1) (same_some h.1) in omega (arith, l)
-        | inr b ↦ elim (chosen (nat_eq c 93) (choose (after (codes "]>") cs) (λ rest. None) (Some (standing 93, cs))) (Some (standing c, cs)) (Some (m, rest)) b.1) [
-          | inl h ↦ elim (choose_some (after (codes "]>") cs) (λ rest. None) (Some (standing 93, cs)) (m, rest) h.1) [
+        | inr b ↦ elim (chosen (nat_eq c 93) (choose (rest_after (codes "]>") cs) (λ rest. None) (Some (standing 93, cs))) (Some (standing c, cs)) (Some (m, rest)) b.1) [
+          | inl h ↦ elim (choose_some (rest_after (codes "]>") cs) (λ rest. None) (Some (standing 93, cs)) (m, rest) h.1) [
             | inl k ↦ absurd (let x = k.2 in cc x)
             | inr k ↦ let l = ap (λ p. length p.1) (same_some k.1) in omega (arith, l)
           ]
@@ -124,11 +124,11 @@ content_short child (suc n) i cs j rest s e =
 closing_name_short : (p l cs rest : List ℕ) → closing_name_at p l cs ≡ Some rest → length rest ≤ length cs
 unfolding closing_name_at
 closing_name_short p l cs rest e =
-    elim (chosen (nat_eq (length p) 0) (after (seen l) cs) (after (seen p) cs >>= after (codes ":") >>= after (seen l)) (Some rest) e) [
+    elim (chosen (nat_eq (length p) 0) (rest_after (seen l) cs) (rest_after (seen p) cs >>= rest_after (codes ":") >>= rest_after (seen l)) (Some rest) e) [
       | inl h ↦ after_short (seen l) cs rest h.1
       | inr h ↦
-          let a = bind_some (after (seen p) cs >>= after (codes ":")) (after (seen l)) rest h.1 in
-          let b = bind_some (after (seen p) cs) (after (codes ":")) a.0 a.1 in
+          let a = bind_some (rest_after (seen p) cs >>= rest_after (codes ":")) (rest_after (seen l)) rest h.1 in
+          let b = bind_some (rest_after (seen p) cs) (rest_after (codes ":")) a.0 a.1 in
           let x = after_short (seen p) cs b.0 b.1 in
           let y = after_short (codes ":") b.0 a.0 b.2 in
           let z = after_short (seen l) a.0 rest a.2 in

@@ -7,7 +7,7 @@ use Rattle.std.specs.Ordering.{match_ordering}
 use Rattle.std.specs.Str.{encode_utf8_all}
 use Rattle.serde_json.specs.Data.{Data, null, boolean, number, string, array, object, Items, no_items, item, Members, no_members, member, put}
 use Rattle.serde_json.specs.Find.{get_member}
-use Rattle.irs_xml.specs.Characters.{is_white, is_space, ends_after, without_mark}
+use Rattle.irs_xml.specs.Characters.{is_white, is_white_space, ends_after, without_mark}
 use Rattle.irs_xml.specs.Sizes.{text_size, items_size, members_size}
 use Rattle.irs_xml.specs.Comments.{cdata_text, comment_text, instruction_text}
 use Rattle.irs_xml.specs.Content.{Element, empty, full, element_text, Content, nothing, character, reference, cdata, comment, instruction, child, content_text}
@@ -15,8 +15,11 @@ use Rattle.irs_xml.specs.Document.{Document, document_text, document_value, decl
 use Rattle.irs_xml.specs.Names.{name_text}
 use Rattle.irs_xml.specs.Namespaces.{Setting, Scope, settings_of, first_scope}
 use Rattle.irs_xml.specs.References.{Reference, less, greater, ampersand, apostrophe, quotation, decimal, hexadecimal, reference_text, character_of}
-use Rattle.irs_xml.specs.Tags.{Piece, plain, refers, piece_text, piece_character, pieces_text, pieces_value, Attribute, attribute_text, attributes_text, Tag, tag_text}
-use Rattle.irs_xml.specs.Values.{item_last, joined, without, with_child, with_children, Child, with_settings, is_counted, leaf_value, value_from, element_data, named, both, element_child, children_in, text_in}
+use Rattle.irs_xml.specs.Tags.{ValuePiece, plain, refers, piece_text, piece_character, pieces_text, pieces_value}
+use Rattle.irs_xml.specs.Tags.{Attribute, attribute_text, attributes_text, Tag, tag_text}
+use Rattle.irs_xml.specs.Values.{item_last, joined_values, without, with_child, with_children, Child, with_settings}
+use Rattle.irs_xml.specs.Values.{is_counted, leaf_value, value_from, element_data, named_child, both, element_child}
+use Rattle.irs_xml.specs.Values.{children_in, text_inside}
 use Rattle.irs_xml.proofs.Steps.{same_some, chosen}
 
 -- values
@@ -58,7 +61,7 @@ last_size : (ds : Items) (d : Data) → items_size (item_last ds d) ≡ items_si
 last_size no_items d = omega arith
 last_size (item e ds) d = let more = last_size ds d in omega (arith, more)
 
-joined_size : (o : Option Data) (d : Data) → text_size (joined o d) ≡ option_size o + text_size d
+joined_size : (o : Option Data) (d : Data) → text_size (joined_values o d) ≡ option_size o + text_size d
 joined_size None d = omega arith
 joined_size (Some null) d = omega arith
 joined_size (Some (boolean b)) d = omega arith
@@ -69,7 +72,7 @@ joined_size (Some (object ms)) d = omega arith
 
 child_size : (c : Child) (ms : Members) → members_size (with_child c ms) ≤ members_size ms + text_size c.1
 child_size c ms =
-    let a = put_size c.0 (joined (get_member c.0 ms) c.1) (without c.0 ms) in
+    let a = put_size c.0 (joined_values (get_member c.0 ms) c.1) (without c.0 ms) in
     let b = joined_size (get_member c.0 ms) c.1 in
     let t = taken_size c.0 ms in omega (arith, a, b, t)
 
@@ -148,8 +151,8 @@ reference_most (hexadecimal (d ∷ ds)) =
 
 -- attributes
 
-piece_most : (p : Piece) → length (encode_utf8 (piece_character p)) ≤ width (piece_text p)
-piece_most (plain c) = by_space (is_space c)
+piece_most : (p : ValuePiece) → length (encode_utf8 (piece_character p)) ≤ width (piece_text p)
+piece_most (plain c) = by_space (is_white_space c)
   where
     by_space : (b : Bool) → length (encode_utf8 (cond b 32 c)) ≤ width (c ∷ [])
     by_space true =
@@ -159,7 +162,7 @@ piece_most (plain c) = by_space (is_space c)
     by_space false = let a = width-cons c [] in omega (arith, a)
 piece_most (refers r) = reference_most r
 
-pieces_most : (ps : List Piece) → length (pieces_value ps) ≤ width (pieces_text ps)
+pieces_most : (ps : List ValuePiece) → length (pieces_value ps) ≤ width (pieces_text ps)
 pieces_most [] = omega arith
 pieces_most (p ∷ ps) =
     let a = piece_most p in
@@ -249,7 +252,7 @@ data_most true ss text (Some cs) n d f e =
     let h = f cs refl in omega (arith, v, h)
 
 named_most : (key : List ℕ) (o : Option Data) (n : ℕ) (c : Child) → ((d : Data) → o ≡ Some d → text_size d ≤ n)
-    → named key o ≡ Some c → text_size c.1 ≤ n
+    → named_child key o ≡ Some c → text_size c.1 ≤ n
 named_most key None n c f e = absurd (cc e)
 named_most key (Some d) n c f e = subst (λ x. text_size x.1 ≤ n) (same_some e) (f d refl)
 
@@ -281,27 +284,27 @@ mutual
       let a = ahead (tag_text t) (codes "/>") in omega (arith, m, g, a)) e
   element_most root kept scope (full t content space) c e =
       named_most _ _ _ c (λ d q.
-      let m = data_most _ (settings_of t.attributes) (text_in content) _ (width (content_text content)) d
+      let m = data_most _ (settings_of t.attributes) (text_inside content) _ (width (content_text content)) d
       (λ cs p. content_most root _ _ content cs p) q in
       let g = tag_most t in
       let a = full_most (tag_text t) (content_text content) (codes "</" ++ (name_text t.name ++ (space ++ codes ">"))) in
       omega (arith, m, g, a)) e
 
   content_most : (root : List ℕ) (kept : Bool) (scope : Scope) (c : Content) (cs : List Child)
-      → children_in root kept scope c ≡ Some cs → length (text_in c) + children_size cs ≤ width (content_text c)
+      → children_in root kept scope c ≡ Some cs → length (text_inside c) + children_size cs ≤ width (content_text c)
   content_most root kept scope nothing cs e = no_children cs e
   content_most root kept scope (character x c) cs e =
       let h = content_most root kept scope c cs e in
-      let a = length-append (encode_utf8 x) (text_in c) in
+      let a = length-append (encode_utf8 x) (text_inside c) in
       let w = width-cons x (content_text c) in omega (arith, h, a, w)
   content_most root kept scope (reference r c) cs e =
       let h = content_most root kept scope c cs e in
-      let a = length-append (encode_utf8 (character_of r)) (text_in c) in
+      let a = length-append (encode_utf8 (character_of r)) (text_inside c) in
       let m = reference_most r in
       let w = width-append (reference_text r) (content_text c) in omega (arith, h, a, m, w)
   content_most root kept scope (cdata ds c) cs e =
       let h = content_most root kept scope c cs e in
-      let a : length (encode_utf8_all ds ++ text_in c) ≡ width ds + length (text_in c) = length-append (encode_utf8_all ds) (text_in c) in
+      let a : length (encode_utf8_all ds ++ text_inside c) ≡ width ds + length (text_inside c) = length-append (encode_utf8_all ds) (text_inside c) in
       let m = up (ahead ds (codes "]]>")) (behind (codes "<![CDATA[") (ds ++ codes "]]>")) in
       let w = width-append (cdata_text ds) (content_text c) in omega (arith, h, a, m, w)
   content_most root kept scope (comment ds c) cs e =
@@ -310,7 +313,7 @@ mutual
       up (content_most root kept scope c cs e) (behind (instruction_text i) (content_text c))
   content_most root kept scope (child el c) cs e =
       let w = width-append (element_text el) (content_text c) in
-      let b = both_most _ _ (width (element_text el)) (width (content_text c)) (length (text_in c)) cs
+      let b = both_most _ _ (width (element_text el)) (width (content_text c)) (length (text_inside c)) cs
       (λ x p. element_most root kept scope el x p) (λ xs p. content_most root kept scope c xs p) e in omega (arith, w, b)
 
 -- documents

@@ -7,14 +7,17 @@ use Rattle.std.specs.Char.{encode_utf8}
 use Rattle.std.specs.List.{list_all}
 use Rattle.std.specs.Prelude.{codes}
 use Rattle.std.specs.Str.{encode_utf8_all}
-use Rattle.irs_xml.specs.Characters.{is_space, is_white, is_gap}
-use Rattle.irs_xml.specs.Comments.{after}
+use Rattle.irs_xml.specs.Characters.{is_white_space, is_white, is_gap}
+use Rattle.irs_xml.specs.Comments.{rest_after}
 use Rattle.irs_xml.specs.Content.{most_attributes}
 use Rattle.irs_xml.specs.Names.{is_name_start, is_name_char, is_nc_name, QName, name_text, prefixed, is_prefix, is_qname}
 use Rattle.irs_xml.specs.Namespaces.{Setting, Opening, setting_of, settings_of, opening_of}
 use Rattle.irs_xml.specs.References.{Reference, less, greater, ampersand, apostrophe, quotation, decimal, hexadecimal, reference_text, character_of, is_reference}
 use Rattle.irs_xml.specs.Private.Reading.{Got, ◌>>=◌, choose, skip_space, gap_at, qname_at, reference_at, equals_at, quote_at, value_character_at, value_at, setting_at, tag_end_at, settings_at, tag_at}
-use Rattle.irs_xml.specs.Tags.{Piece, plain, refers, piece_text, piece_character, is_piece, pieces_text, are_pieces, pieces_value, Attribute, attribute_text, is_quote, is_attribute, attributes_text, are_attributes, Tag, tag_text, is_tag}
+use Rattle.irs_xml.specs.Tags.{ValuePiece, plain, refers, piece_text, piece_character, is_piece, pieces_text}
+use Rattle.irs_xml.specs.Tags.{are_pieces}
+use Rattle.irs_xml.specs.Tags.{pieces_value, Attribute, attribute_text, is_quote, is_spaced_attribute, attributes_text}
+use Rattle.irs_xml.specs.Tags.{are_attributes, Tag, tag_text, is_tag}
 use Rattle.irs_xml.proofs.Steps.{same_some, bind_some, choose_some, chosen, both_true, true_both, eq_true, true_eq, after_sound, begins, white_run, run_white, skip_sound, skip-white, gap_sound, gap_complete}
 use Rattle.irs_xml.proofs.NameLaws.{is_qname_char, qname_sound, qname_complete}
 use Rattle.irs_xml.proofs.ReferenceLaws.{reference_sound, reference_complete, tail}
@@ -31,14 +34,14 @@ not_true false e = refl
 
 -- the rest of an attribute's value, read up to its quote and appended to a text
 pub record ReadValue (quote : ℕ) (text cs out rest : List ℕ) : Type 0 where
-  pub pieces : List Piece
+  pub pieces : List ValuePiece
   pub are : are_pieces quote pieces ≡ true
   pub says : out ≡ text ++ pieces_value pieces
   pub spelt : cs ≡ pieces_text pieces ++ quote ∷ rest
 
 -- a piece of an attribute's value that was read, whose first character isn't the quote
 record ReadPiece (c : ℕ) (cs : List ℕ) (d : ℕ) (rest : List ℕ) : Type 0 where
-  piece : Piece
+  piece : ValuePiece
   is : (quote : ℕ) → nat_eq c quote ≡ false → is_piece quote piece ≡ true
   says : d ≡ piece_character piece
   spelt : c ∷ cs ≡ piece_text piece ++ rest
@@ -46,9 +49,9 @@ record ReadPiece (c : ℕ) (cs : List ℕ) (d : ℕ) (rest : List ℕ) : Type 0 
 piece_sound : (c : ℕ) (cs : List ℕ) (d : ℕ) (rest : List ℕ) → value_character_at c cs ≡ Some (d, rest) → ReadPiece c cs d rest
 unfolding value_character_at
 piece_sound c cs d rest e =
-    elim (chosen (nat_eq c 60) None (cond (nat_eq c 38) (reference_at cs) (Some (cond (is_space c) 32 c, cs))) (Some (d, rest)) e) [
+    elim (chosen (nat_eq c 60) None (cond (nat_eq c 38) (reference_at cs) (Some (cond (is_white_space c) 32 c, cs))) (Some (d, rest)) e) [
       | inl h ↦ absurd (let k = h.1 in cc k)
-      | inr h ↦ elim (chosen (nat_eq c 38) (reference_at cs) (Some (cond (is_space c) 32 c, cs)) (Some (d, rest)) h.1) [
+      | inr h ↦ elim (chosen (nat_eq c 38) (reference_at cs) (Some (cond (is_white_space c) 32 c, cs)) (Some (d, rest)) h.1) [
         | inl k ↦
             let r = reference_sound cs d rest k.1 in record {
               piece = refers r.reference;
@@ -139,7 +142,7 @@ reference_some (decimal ds) = omega arith
 reference_some (hexadecimal ds) = omega arith
 
 -- every value that follows the rules is read up to its quote
-pub value_complete : (n quote : ℕ) (text : List ℕ) (ps : List Piece) (rest : List ℕ) → is_quote quote ≡ true → are_pieces quote ps ≡ true
+pub value_complete : (n quote : ℕ) (text : List ℕ) (ps : List ValuePiece) (rest : List ℕ) → is_quote quote ≡ true → are_pieces quote ps ≡ true
     → length (pieces_text ps ++ quote ∷ rest) ≤ n → value_at n quote text (pieces_text ps ++ quote ∷ rest) ≡ Some (text ++ pieces_value ps, rest)
 value_complete zero quote text [] rest q are l = absurd (omega (arith, l))
 value_complete zero quote text (p ∷ ps) rest q are l = absurd (let k = length-append (pieces_text (p ∷ ps)) (quote ∷ rest) in omega (arith, l, k))
@@ -170,11 +173,11 @@ value_complete (suc n) quote text (refers r ∷ ps) rest q are l =
 pub quote_sound : (cs : List ℕ) (q : ℕ) (rest : List ℕ) → quote_at cs ≡ Some (q, rest) → (is_quote q ≡ true) × (cs ≡ q ∷ rest)
 unfolding quote_at
 quote_sound cs q rest e =
-    elim (choose_some (after (codes "'") cs) (λ rest. Some (39, rest)) (choose (after (34 ∷ []) cs) (λ rest. Some (34, rest)) None) (q, rest) e) [
+    elim (choose_some (rest_after (codes "'") cs) (λ rest. Some (39, rest)) (choose (rest_after (34 ∷ []) cs) (λ rest. Some (34, rest)) None) (q, rest) e) [
       | inl h ↦
           let is = same_some h.2 in
           (ap is_quote (sym (ap (λ p. p.0) is)), after_sound (codes "'") cs h.0 h.1 ∙ ap (λ p. p.0 ∷ p.1) is)
-      | inr h ↦ elim (choose_some (after (34 ∷ []) cs) (λ rest. Some (34, rest)) None (q, rest) h.1) [
+      | inr h ↦ elim (choose_some (rest_after (34 ∷ []) cs) (λ rest. Some (34, rest)) None (q, rest) h.1) [
         | inl k ↦
             let is = same_some k.2 in
             (ap is_quote (sym (ap (λ p. p.0) is)), after_sound (34 ∷ []) cs k.0 k.1 ∙ ap (λ p. p.0 ∷ p.1) is)
@@ -211,7 +214,7 @@ pub record ReadEquals (cs rest : List ℕ) : Type 0 where
 pub equals_sound : (cs rest : List ℕ) → equals_at cs ≡ Some rest → ReadEquals cs rest
 unfolding equals_at
 equals_sound cs rest e =
-    let b = bind_some (after (codes "=") (skip_space cs)) (λ rest. Some (skip_space rest)) rest e in record {
+    let b = bind_some (rest_after (codes "=") (skip_space cs)) (λ rest. Some (skip_space rest)) rest e in record {
       before = white_run cs;
       after = white_run b.0;
       white_before = run_white cs;
@@ -220,12 +223,12 @@ equals_sound cs rest e =
           ∙ ap (λ t. 61 ∷ t) (skip_sound b.0 ∙ ap (λ t. white_run b.0 ++ t) (same_some b.2)));
     }
 
-equals_no_space : is_space 61 ≡ false
-unfolding is_space
+equals_no_space : is_white_space 61 ≡ false
+unfolding is_white_space
 equals_no_space = refl
 
 -- `=` is read with the white space round it
-pub equals_complete : (before after rest : List ℕ) → is_white before ≡ true → is_white after ≡ true → begins is_space rest ≡ false
+pub equals_complete : (before after rest : List ℕ) → is_white before ≡ true → is_white after ≡ true → begins is_white_space rest ≡ false
     → equals_at (before ++ (61 ∷ (after ++ rest))) ≡ Some rest
 unfolding equals_at
 equals_complete before after rest w v s =
@@ -239,7 +242,7 @@ record ReadSetting (cs : List ℕ) (s : Setting) (rest : List ℕ) : Type 0 wher
   before : List ℕ
   behind : List ℕ
   quote : ℕ
-  pieces : List Piece
+  pieces : List ValuePiece
   is_name : is_qname name ≡ true
   white_before : is_white before ≡ true
   white_behind : is_white behind ≡ true
@@ -289,9 +292,9 @@ end_text true = codes "/>"
 end_sound : (cs : List ℕ) (b : Bool) (rest : List ℕ) → tag_end_at cs ≡ Some (b, rest) → cs ≡ end_text b ++ rest
 unfolding tag_end_at
 end_sound cs b rest e =
-    elim (choose_some (after (codes ">") cs) (λ rest. Some (false, rest)) (choose (after (codes "/>") cs) (λ rest. Some (true, rest)) None) (b, rest) e) [
+    elim (choose_some (rest_after (codes ">") cs) (λ rest. Some (false, rest)) (choose (rest_after (codes "/>") cs) (λ rest. Some (true, rest)) None) (b, rest) e) [
       | inl h ↦ let is = same_some h.2 in after_sound (codes ">") cs h.0 h.1 ∙ ap (λ p. end_text p.0 ++ p.1) is
-      | inr h ↦ elim (choose_some (after (codes "/>") cs) (λ rest. Some (true, rest)) None (b, rest) h.1) [
+      | inr h ↦ elim (choose_some (rest_after (codes "/>") cs) (λ rest. Some (true, rest)) None (b, rest) h.1) [
         | inl k ↦ let is = same_some k.2 in after_sound (codes "/>") cs k.0 k.1 ∙ ap (λ p. end_text p.0 ++ p.1) is
         | inr k ↦ absurd (let x = k.1 in cc x)
       ]
@@ -353,7 +356,7 @@ settings_sound (suc n) ss cs out b rest e =
           record {
             attributes = a ∷ more.attributes;
             space = more.space;
-            are = true_both (is_attribute a) (are_attributes more.attributes)
+            are = true_both (is_spaced_attribute a) (are_attributes more.attributes)
                 (true_both (is_gap a.gap) (is_qname a.name && (is_white a.before && (is_white a.after && (is_quote a.quote && are_pieces a.quote a.pieces)))) gap.1
                 (true_both (is_qname a.name) (is_white a.before && (is_white a.after && (is_quote a.quote && are_pieces a.quote a.pieces))) one.is_name
                 (true_both (is_white a.before) (is_white a.after && (is_quote a.quote && are_pieces a.quote a.pieces)) one.white_before
@@ -370,11 +373,11 @@ settings_sound (suc n) ss cs out b rest e =
 
 -- what comes after a name in a tag
 
-space_no_colon : (c : ℕ) → is_space c ≡ true → nat_eq c 58 ≡ false
-unfolding is_space
+space_no_colon : (c : ℕ) → is_white_space c ≡ true → nat_eq c 58 ≡ false
+unfolding is_white_space
 space_no_colon c h = grind (arith, nat_tests)
 
-space_no_qname : (c : ℕ) → is_space c ≡ true → is_qname_char c ≡ false
+space_no_qname : (c : ℕ) → is_white_space c ≡ true → is_qname_char c ≡ false
 space_no_qname c h = both_false (is_name_char c) (nat_eq c 58) (space_no_name c h) (space_no_colon c h)
   where
     both_false : (a b : Bool) → a ≡ false → b ≡ false → a || b ≡ false
@@ -382,7 +385,7 @@ space_no_qname c h = both_false (is_name_char c) (nat_eq c 58) (space_no_name c 
 
 white_no_qname : (s rest : List ℕ) → is_white s ≡ true → begins is_qname_char rest ≡ false → begins is_qname_char (s ++ rest) ≡ false
 white_no_qname [] rest w r = r
-white_no_qname (c ∷ s) rest w r = space_no_qname c (both_true (is_space c) (is_white s) w).0
+white_no_qname (c ∷ s) rest w r = space_no_qname c (both_true (is_white_space c) (is_white s) w).0
 
 equals_no_qname : (rest : List ℕ) → begins is_qname_char (61 ∷ rest) ≡ false
 unfolding is_name_char is_name_start
@@ -393,14 +396,14 @@ unfolding is_name_char is_name_start
 end_no_qname false rest = refl
 end_no_qname true rest = refl
 
-end_no_space : (b : Bool) (rest : List ℕ) → begins is_space (end_text b ++ rest) ≡ false
-unfolding is_space
+end_no_space : (b : Bool) (rest : List ℕ) → begins is_white_space (end_text b ++ rest) ≡ false
+unfolding is_white_space
 end_no_space false rest = refl
 end_no_space true rest = refl
 
 -- a quote isn't white space
-pub quote_no_space : (q : ℕ) (rest : List ℕ) → is_quote q ≡ true → begins is_space (q ∷ rest) ≡ false
-unfolding is_space
+pub quote_no_space : (q : ℕ) (rest : List ℕ) → is_quote q ≡ true → begins is_white_space (q ∷ rest) ≡ false
+unfolding is_white_space
 quote_no_space q rest h = grind (arith, nat_tests)
 
 -- what an attribute is after its white space
@@ -417,7 +420,7 @@ record Lawful (a : Attribute) : Type 0 where
   quote : is_quote a.quote ≡ true
   pieces : are_pieces a.quote a.pieces ≡ true
 
-lawful : (a : Attribute) → is_attribute a ≡ true → Lawful a
+lawful : (a : Attribute) → is_spaced_attribute a ≡ true → Lawful a
 lawful a h =
     let x = both_true (is_gap a.gap) (is_qname a.name && (is_white a.before && (is_white a.after && (is_quote a.quote && are_pieces a.quote a.pieces)))) h in
     let y = both_true (is_qname a.name) (is_white a.before && (is_white a.after && (is_quote a.quote && are_pieces a.quote a.pieces))) x.1 in
@@ -440,8 +443,8 @@ setting_complete a rest l =
     rw name (rw eq (rw quote (rw value refl)))
 
 -- a name begins neither with `>` nor with `/`, nor with white space
-start_plain : (c : ℕ) → is_name_start c ≡ true → (nat_eq c 62 ≡ false) × (nat_eq c 47 ≡ false) × (is_space c ≡ false)
-unfolding is_name_start is_space
+start_plain : (c : ℕ) → is_name_start c ≡ true → (nat_eq c 62 ≡ false) × (nat_eq c 47 ≡ false) × (is_white_space c ≡ false)
+unfolding is_name_start is_white_space
 start_plain c h = (grind (arith, nat_tests), grind (arith, nat_tests), grind (arith, nat_tests))
 
 nc_begins : (ns : List ℕ) → is_nc_name ns ≡ true → (c : ℕ) × (cs : List ℕ) × (ns ≡ c ∷ cs) × (is_name_start c ≡ true)
@@ -464,10 +467,10 @@ name_no_end n rest h =
     let b = prefixed_begins n.prefix n.local h in
     ap (λ t. tag_end_at (t ++ rest)) b.2 ∙ plain_no_end b.0 (b.1 ++ rest) b.3
 
-name_no_space : (n : QName) (rest : List ℕ) → is_qname n ≡ true → begins is_space (name_text n ++ rest) ≡ false
+name_no_space : (n : QName) (rest : List ℕ) → is_qname n ≡ true → begins is_white_space (name_text n ++ rest) ≡ false
 name_no_space n rest h =
     let b = prefixed_begins n.prefix n.local h in
-    ap (λ t. begins is_space (t ++ rest)) b.2 ∙ (start_plain b.0 b.3).2
+    ap (λ t. begins is_white_space (t ++ rest)) b.2 ∙ (start_plain b.0 b.3).2
 
 gap_white : (s : List ℕ) → is_gap s ≡ true → is_white s ≡ true
 gap_white [] h = absurd (cc h)
@@ -504,7 +507,7 @@ pub settings_complete : (n : ℕ) (ss : List Setting) (xs : List Attribute) (spa
 settings_complete n ss [] space b rest are few w = settings_finish n ss space b rest w
 settings_complete zero ss (a ∷ xs) space b rest are few w = absurd (omega (arith, few))
 settings_complete (suc n) ss (a ∷ xs) space b rest are few w =
-    let h = both_true (is_attribute a) (are_attributes xs) are in
+    let h = both_true (is_spaced_attribute a) (are_attributes xs) are in
     let left = attributes_text xs ++ (space ++ (end_text b ++ rest)) in
     let more = settings_complete n (ss ++ setting_of a ∷ []) xs space b rest h.1 (omega (arith, few)) w in
     ap (settings_at (suc n) ss) (sym (regroup a (attributes_text xs) (space ++ (end_text b ++ rest))))
@@ -550,14 +553,14 @@ attributes_no_qname : (xs : List Attribute) (space : List ℕ) (b : Bool) (rest 
     → begins is_qname_char (attributes_text xs ++ (space ++ (end_text b ++ rest))) ≡ false
 attributes_no_qname [] space b rest are w = white_no_qname space (end_text b ++ rest) w (end_no_qname b rest)
 attributes_no_qname (a ∷ xs) space b rest are w =
-    let h = both_true (is_attribute a) (are_attributes xs) are in
+    let h = both_true (is_spaced_attribute a) (are_attributes xs) are in
     let l = lawful a h.0 in
     ap (begins is_qname_char) (sym (regroup a (attributes_text xs) (space ++ (end_text b ++ rest))))
     ∙ gap_no_qname a.gap (attribute_tail a (attributes_text xs ++ (space ++ (end_text b ++ rest)))) l.gap
   where
     gap_no_qname : (s rest : List ℕ) → is_gap s ≡ true → begins is_qname_char (s ++ rest) ≡ false
     gap_no_qname [] rest g = absurd (cc g)
-    gap_no_qname (c ∷ s) rest g = space_no_qname c (both_true (is_space c) (is_white s) g).0
+    gap_no_qname (c ∷ s) rest g = space_no_qname c (both_true (is_white_space c) (is_white s) g).0
 
 -- a tag after its `<`
 pub tag_complete : (t : Tag) (b : Bool) (rest : List ℕ) → is_tag t ≡ true → length t.attributes ≤ most_attributes

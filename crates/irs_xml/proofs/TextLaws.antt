@@ -7,7 +7,7 @@ use Rattle.std.specs.List.{list_all}
 use Rattle.std.specs.Str.{chars, IsUtf8, all_scalars}
 use Rattle.serde_json.specs.Data.{Data}
 use Rattle.irs_xml.specs.Characters.{is_char, ends_after, line_ends, without_mark, IsText}
-use Rattle.irs_xml.specs.Comments.{after}
+use Rattle.irs_xml.specs.Comments.{rest_after}
 use Rattle.irs_xml.specs.Document.{XmlReads}
 use Rattle.irs_xml.specs.Places.{ReadsNone}
 use Rattle.irs_xml.specs.Private.Places.{IsNotXml}
@@ -81,7 +81,7 @@ unfolding seen
 seen_without bytes = mark-ends (chars bytes)
 
 -- a mark that was passed over
-pub mark_passed : (b : Bool) (old new : List ℕ) → Takes b old new (after (0xFEFF ∷ []) old) → without_mark old ≡ new
+pub mark_passed : (b : Bool) (old new : List ℕ) → Takes b old new (rest_after (0xFEFF ∷ []) old) → without_mark old ≡ new
 mark_passed true [] new t = absurd (cc t)
 mark_passed true (c ∷ cs) new t = by_test (nat_eq c 0xFEFF) t
   where

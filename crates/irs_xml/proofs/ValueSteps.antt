@@ -1,7 +1,7 @@
 -- How the value of an attribute goes on, a character after another.
 use Rattle.std.proofs.Common.{◌≡◌, ◌≢◌, inl, inr, ℕ, zero, suc, ◌<◌, ◌≤◌, cond, List, [], ◌∷◌, ◌++◌, length, Some, None, nat_eq, refl, sym, ap, ◌∙◌, arith, length-append}
 use Rattle.std.specs.Char.{encode_utf8}
-use Rattle.irs_xml.specs.Characters.{is_space}
+use Rattle.irs_xml.specs.Characters.{is_white_space}
 use Rattle.irs_xml.specs.Private.Reading.{reference_at, value_at, value_character_at}
 use Rattle.irs_xml.specs.References.{Reference, less, greater, ampersand, apostrophe, quotation, decimal, hexadecimal, reference_text}
 use Rattle.irs_xml.proofs.Steps.{same_some, chosen, true_eq, false_eq}
@@ -50,9 +50,9 @@ one_more quote text c cs all g = by_fuel g.fuel g.enough g.same
 character_short : (c : ℕ) (cs : List ℕ) (d : ℕ) (rest : List ℕ) → value_character_at c cs ≡ Some (d, rest) → length rest ≤ length cs
 unfolding value_character_at
 character_short c cs d rest e =
-    elim (chosen (nat_eq c 60) None (cond (nat_eq c 38) (reference_at cs) (Some (cond (is_space c) 32 c, cs))) (Some (d, rest)) e) [
+    elim (chosen (nat_eq c 60) None (cond (nat_eq c 38) (reference_at cs) (Some (cond (is_white_space c) 32 c, cs))) (Some (d, rest)) e) [
       | inl h ↦ absurd (let k = h.1 in cc k)
-      | inr h ↦ elim (chosen (nat_eq c 38) (reference_at cs) (Some (cond (is_space c) 32 c, cs)) (Some (d, rest)) h.1) [
+      | inr h ↦ elim (chosen (nat_eq c 38) (reference_at cs) (Some (cond (is_white_space c) 32 c, cs)) (Some (d, rest)) h.1) [
         | inl k ↦ reference_short cs d rest k.1
         | inr k ↦ let same : cs ≡ rest = ap (λ p. p.1) (same_some k.1) in let l = ap length same in omega (arith, l)
       ]

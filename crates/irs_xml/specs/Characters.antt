@@ -11,17 +11,17 @@ is_char c =
     || is_in_range 0x1_0000 0x10_FFFF c
 
 -- white space: space, tab, LF or CR
-unfoldable pub is_space : ℕ → Bool
-is_space c = c == 32 || c == 9 || c == 10 || c == 13
+unfoldable pub is_white_space : ℕ → Bool
+is_white_space c = c == 32 || c == 9 || c == 10 || c == 13
 
 -- S?: white space or nothing
 abbrev pub is_white : List ℕ → Bool
-is_white cs = list_all is_space cs
+is_white cs = list_all is_white_space cs
 
 -- [3] S: one character of white space or more
 abbrev pub is_gap : List ℕ → Bool
 is_gap [] = false
-is_gap (c ∷ cs) = is_space c && is_white cs
+is_gap (c ∷ cs) = is_white_space c && is_white cs
 
 -- 2.11: CR LF is one LF, and so is a CR alone; after_return says that a CR comes before
 unfoldable pub ends_after : Bool → List ℕ → List ℕ

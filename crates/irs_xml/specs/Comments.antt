@@ -2,23 +2,23 @@
 use Rattle.std.specs.Prelude.{ℕ, Bool, true, not, ◌&&◌, ◌==◌, List, [], ◌∷◌, ◌++◌, Option, Some, None}
 use Rattle.std.specs.Prelude.{is_none, if◌then◌else◌, codes}
 use Rattle.std.specs.Str.{encode_utf8_all, str_eq_ignore_ascii_case}
-use Rattle.irs_xml.specs.Characters.{is_space}
+use Rattle.irs_xml.specs.Characters.{is_white_space}
 use Rattle.irs_xml.specs.Names.{is_nc_name}
 
 -- what follows a word, where the characters begin with it
-abbrev pub after : List ℕ → List ℕ → Option (List ℕ)
-after [] cs = Some cs
-after (w ∷ ws) [] = None
-after (w ∷ ws) (c ∷ cs) = if c == w then after ws cs else None
+abbrev pub rest_after : List ℕ → List ℕ → Option (List ℕ)
+rest_after [] cs = Some cs
+rest_after (w ∷ ws) [] = None
+rest_after (w ∷ ws) (c ∷ cs) = if c == w then rest_after ws cs else None
 
 -- the word begins nowhere in the characters
 abbrev pub lacks : List ℕ → List ℕ → Bool
 lacks word [] = true
-lacks word (c ∷ cs) = is_none (after word (c ∷ cs)) && lacks word cs
+lacks word (c ∷ cs) = is_none (rest_after word (c ∷ cs)) && lacks word cs
 
 -- [15] Comment: no `--` in it, nor a `-` at its end
-abbrev pub is_comment : List ℕ → Bool
-is_comment cs = lacks (codes "--") (cs ++ codes "-")
+abbrev pub is_comment_text : List ℕ → Bool
+is_comment_text cs = lacks (codes "--") (cs ++ codes "-")
 
 -- how a comment is spelt
 abbrev pub comment_text : List ℕ → List ℕ
@@ -40,7 +40,7 @@ pub record Instruction : Type 0 where
 -- white space comes between the target and what follows
 abbrev pub is_apart : List ℕ → Bool
 is_apart [] = true
-is_apart (c ∷ cs) = is_space c
+is_apart (c ∷ cs) = is_white_space c
 
 -- `xml` in any case
 abbrev pub is_xml : List ℕ → Bool

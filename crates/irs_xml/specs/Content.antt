@@ -2,7 +2,8 @@
 use Rattle.std.specs.Prelude.{◌≡◌, ℕ, zero, suc, ◌≤◌, Bool, true, not, ◌&&◌, ◌==◌, List, [], ◌∷◌, ◌++◌, None}
 use Rattle.std.specs.Prelude.{length, codes}
 use Rattle.irs_xml.specs.Characters.{is_white}
-use Rattle.irs_xml.specs.Comments.{after, is_comment, comment_text, is_cdata, cdata_text, Instruction, is_instruction}
+use Rattle.irs_xml.specs.Comments.{rest_after, is_comment_text, comment_text, is_cdata, cdata_text, Instruction}
+use Rattle.irs_xml.specs.Comments.{is_instruction}
 use Rattle.irs_xml.specs.Comments.{instruction_text}
 use Rattle.irs_xml.specs.Names.{name_text}
 use Rattle.irs_xml.specs.Namespaces.{Scope, opening_of, is_opened, scope_in, settings_of}
@@ -75,9 +76,9 @@ abbrev mutual
   pub IsContent : ℕ → Scope → Content → Type 0
   IsContent levels scope nothing = Unit {0}
   IsContent levels scope (character x c) =
-      (is_char_data x ≡ true) × (after (codes "]]>") (x ∷ content_text c) ≡ None) × IsContent levels scope c
+      (is_char_data x ≡ true) × (rest_after (codes "]]>") (x ∷ content_text c) ≡ None) × IsContent levels scope c
   IsContent levels scope (reference r c) = (is_reference r ≡ true) × IsContent levels scope c
   IsContent levels scope (cdata cs c) = (is_cdata cs ≡ true) × IsContent levels scope c
-  IsContent levels scope (comment cs c) = (is_comment cs ≡ true) × IsContent levels scope c
+  IsContent levels scope (comment cs c) = (is_comment_text cs ≡ true) × IsContent levels scope c
   IsContent levels scope (instruction i c) = (is_instruction i ≡ true) × IsContent levels scope c
   IsContent levels scope (child e c) = IsElement levels scope e × IsContent levels scope c

@@ -5,8 +5,8 @@ use Rattle.std.specs.List.{starts_with}
 use Rattle.std.specs.Char.{to_ascii_lowercase}
 use Rattle.std.specs.Str.{bytes_eq}
 use Rattle.serde_json.specs.Data.{Data, object, no_members, member}
-use Rattle.irs_xml.specs.Characters.{is_space, is_white, is_gap, line_ends, without_mark, IsText}
-use Rattle.irs_xml.specs.Comments.{is_comment, comment_text, Instruction, is_instruction, instruction_text}
+use Rattle.irs_xml.specs.Characters.{is_white_space, is_white, is_gap, line_ends, without_mark, IsText}
+use Rattle.irs_xml.specs.Comments.{is_comment_text, comment_text, Instruction, is_instruction, instruction_text}
 use Rattle.irs_xml.specs.Content.{Element, empty, full, element_text, IsElement, most_levels}
 use Rattle.irs_xml.specs.Namespaces.{Opening, opening_of, first_scope, scope_in, namespace_of}
 use Rattle.irs_xml.specs.Tags.{Tag, is_quote}
@@ -87,8 +87,8 @@ misc_text (instruction i ∷ ms) = instruction_text i ++ misc_text ms
 -- comments, instructions and white space that follow the rules, in any order
 abbrev pub is_misc : List Misc → Bool
 is_misc [] = true
-is_misc (blank c ∷ ms) = is_space c && is_misc ms
-is_misc (comment cs ∷ ms) = is_comment cs && is_misc ms
+is_misc (blank c ∷ ms) = is_white_space c && is_misc ms
+is_misc (comment cs ∷ ms) = is_comment_text cs && is_misc ms
 is_misc (instruction i ∷ ms) = is_instruction i && is_misc ms
 
 -- [1] document and [22] prolog, without a document type

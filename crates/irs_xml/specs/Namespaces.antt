@@ -102,14 +102,14 @@ abbrev pub attribute_namespace : Scope → Setting → Option (List ℕ)
 attribute_namespace scope s = if bytes_eq s.prefix (codes "") then Some (codes "") else namespace_of scope s.prefix
 
 -- both are there, and they are one
-abbrev pub is_same : Option (List ℕ) → Option (List ℕ) → Bool
-is_same None b = false
-is_same (Some m) None = false
-is_same (Some m) (Some n) = bytes_eq m n
+abbrev pub is_same_namespace : Option (List ℕ) → Option (List ℕ) → Bool
+is_same_namespace None b = false
+is_same_namespace (Some m) None = false
+is_same_namespace (Some m) (Some n) = bytes_eq m n
 
 -- 6.3: one local part, and one namespace or none both; attributes of one name are a case of it
 abbrev pub is_like : Scope → Setting → Setting → Bool
-is_like scope a b = bytes_eq a.local b.local && is_same (attribute_namespace scope a) (attribute_namespace scope b)
+is_like scope a b = bytes_eq a.local b.local && is_same_namespace (attribute_namespace scope a) (attribute_namespace scope b)
 
 -- no two attributes of a tag are alike
 abbrev pub are_unlike : Scope → List Setting → Bool

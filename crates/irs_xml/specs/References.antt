@@ -25,9 +25,9 @@ reference_text (decimal ds) = codes "&#" ++ (ds ++ codes ";")
 reference_text (hexadecimal ds) = codes "&#x" ++ (ds ++ codes ";")
 
 -- the number that digits write after a number that was read before them
-abbrev pub number_after : ℕ → ℕ → List ℕ → ℕ
-number_after base n [] = n
-number_after base n (d ∷ ds) = number_after base (n * base + digit_value d) ds
+abbrev pub number_after_in_base : ℕ → ℕ → List ℕ → ℕ
+number_after_in_base base n [] = n
+number_after_in_base base n (d ∷ ds) = number_after_in_base base (n * base + digit_value d) ds
 
 -- the character that a reference names
 abbrev pub character_of : Reference → ℕ
@@ -36,8 +36,8 @@ character_of greater = 62
 character_of ampersand = 38
 character_of apostrophe = 39
 character_of quotation = 34
-character_of (decimal ds) = number_after 10 0 ds
-character_of (hexadecimal ds) = number_after 16 0 ds
+character_of (decimal ds) = number_after_in_base 10 0 ds
+character_of (hexadecimal ds) = number_after_in_base 16 0 ds
 
 -- one digit or more: 0 to 9, and by base 16 also a to f and A to F
 abbrev pub are_digits : ℕ → List ℕ → Bool
@@ -51,5 +51,5 @@ is_reference greater = true
 is_reference ampersand = true
 is_reference apostrophe = true
 is_reference quotation = true
-is_reference (decimal ds) = are_digits 10 ds && is_char (number_after 10 0 ds)
-is_reference (hexadecimal ds) = are_digits 16 ds && is_char (number_after 16 0 ds)
+is_reference (decimal ds) = are_digits 10 ds && is_char (number_after_in_base 10 0 ds)
+is_reference (hexadecimal ds) = are_digits 16 ds && is_char (number_after_in_base 16 0 ds)

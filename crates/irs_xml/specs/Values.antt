@@ -11,7 +11,8 @@ use Rattle.serde_json.specs.Find.{get_member}
 use Rattle.irs_xml.specs.Characters.{is_white}
 use Rattle.irs_xml.specs.Content.{Element, empty, full, Content, nothing, character, reference, cdata, comment}
 use Rattle.irs_xml.specs.Content.{instruction, child}
-use Rattle.irs_xml.specs.Namespaces.{Setting, Opening, Scope, opening_of, is_declaration, scope_in, namespace_of, is_same}
+use Rattle.irs_xml.specs.Namespaces.{Setting, Opening, Scope, opening_of, is_declaration, scope_in, namespace_of}
+use Rattle.irs_xml.specs.Namespaces.{is_same_namespace}
 use Rattle.irs_xml.specs.References.{character_of}
 
 -- an attribute counts where its name has no prefix, and where it declares no namespace
@@ -30,14 +31,14 @@ item_last no_items d = item d no_items
 item_last (item e es) d = item e (item_last es d)
 
 -- the values of children of one name: one is itself, several are an array, and no child's value is an array
-abbrev pub joined : Option Data → Data → Data
-joined None d = d
-joined (Some null) d = array (item null (item d no_items))
-joined (Some (boolean b)) d = array (item (boolean b) (item d no_items))
-joined (Some (number n)) d = array (item (number n) (item d no_items))
-joined (Some (string s)) d = array (item (string s) (item d no_items))
-joined (Some (array ds)) d = array (item_last ds d)
-joined (Some (object ms)) d = array (item (object ms) (item d no_items))
+abbrev pub joined_values : Option Data → Data → Data
+joined_values None d = d
+joined_values (Some null) d = array (item null (item d no_items))
+joined_values (Some (boolean b)) d = array (item (boolean b) (item d no_items))
+joined_values (Some (number n)) d = array (item (number n) (item d no_items))
+joined_values (Some (string s)) d = array (item (string s) (item d no_items))
+joined_values (Some (array ds)) d = array (item_last ds d)
+joined_values (Some (object ms)) d = array (item (object ms) (item d no_items))
 
 -- a child: the name of its member, and its value
 abbrev pub Child : Type 0
@@ -50,7 +51,7 @@ without name (member k d ms) = if is_eq (slice_cmp nat_cmp name k) then ms else 
 
 -- the members with that of a child, whose value joins those of its name that are there
 abbrev pub with_child : Child → Members → Members
-with_child c ms = put c.0 (joined (get_member c.0 ms) c.1) (without c.0 ms)
+with_child c ms = put c.0 (joined_values (get_member c.0 ms) c.1) (without c.0 ms)
 
 -- the members with those of the children, in the order of the text
 abbrev pub with_children : List Child → Members → Members
@@ -70,18 +71,18 @@ value_from settings text (c ∷ cs) =
     if is_white text then Some (object (with_children (c ∷ cs) (with_settings settings no_members))) else None
 
 -- the text directly in an element, in UTF-8; comments and instructions are passed over
-abbrev pub text_in : Content → List ℕ
-text_in nothing = []
-text_in (character x c) = encode_utf8 x ++ text_in c
-text_in (reference r c) = encode_utf8 (character_of r) ++ text_in c
-text_in (cdata cs c) = encode_utf8_all cs ++ text_in c
-text_in (comment cs c) = text_in c
-text_in (instruction i c) = text_in c
-text_in (child e c) = text_in c
+abbrev pub text_inside : Content → List ℕ
+text_inside nothing = []
+text_inside (character x c) = encode_utf8 x ++ text_inside c
+text_inside (reference r c) = encode_utf8 (character_of r) ++ text_inside c
+text_inside (cdata cs c) = encode_utf8_all cs ++ text_inside c
+text_inside (comment cs c) = text_inside c
+text_inside (instruction i c) = text_inside c
+text_inside (child e c) = text_inside c
 
 -- an element whose namespace is the root's is ours, and every other is foreign
 abbrev pub is_ours : List ℕ → Scope → Opening → Bool
-is_ours root inner o = is_same (namespace_of inner o.prefix) (Some root)
+is_ours root inner o = is_same_namespace (namespace_of inner o.prefix) (Some root)
 
 -- the name of a child's member: its local part, after a colon where the child is foreign
 abbrev pub key_of : Bool → List ℕ → List ℕ
@@ -101,9 +102,9 @@ element_data true settings text None = None
 element_data true settings text (Some cs) = value_from settings text cs
 
 -- a child's value under its name, where there is a value
-abbrev pub named : List ℕ → Option Data → Option Child
-named key None = None
-named key (Some d) = Some (key, d)
+abbrev pub named_child : List ℕ → Option Data → Option Child
+named_child key None = None
+named_child key (Some d) = Some (key, d)
 
 -- the member that an element makes, and those of the elements in content; none where text is beside a child. What a
 -- foreign element holds is passed over
@@ -113,11 +114,11 @@ abbrev mutual
   element_child root kept scope (empty t) =
       let o = opening_of t in
       let ours = is_ours root (scope_in scope o.settings) o in
-      named (key_of ours o.local) (element_data (kept && ours) o.settings [] (Some []))
+      named_child (key_of ours o.local) (element_data (kept && ours) o.settings [] (Some []))
   element_child root kept scope (full t c space) =
       let o = opening_of t in
       let ours = is_ours root (scope_in scope o.settings) o in
-      named (key_of ours o.local) (element_data (kept && ours) o.settings (text_in c)
+      named_child (key_of ours o.local) (element_data (kept && ours) o.settings (text_inside c)
       (children_in root (kept && ours) (scope_in scope o.settings) c))
 
   -- the elements in content, each by its name and its value

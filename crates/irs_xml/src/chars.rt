@@ -1,5 +1,5 @@
 //! Classes of characters: XML 1.0 (fifth edition), 2.2 and 2.3.
-ghost use Rattle.irs_xml.specs.Characters.{is_char as is_char_of, is_space as is_space_of};
+ghost use Rattle.irs_xml.specs.Characters.{is_char as is_char_of, is_white_space as is_space_of};
 ghost use Rattle.irs_xml.specs.Names.{is_name_char as is_name_char_of, is_name_start as is_name_start_of};
 ghost use Rattle.irs_xml.specs.Private.Plain.{IsPlain};
 ghost use Rattle.std.specs.Prelude.{◌≡◌, ◌<◌, IsTrue, true};
@@ -13,7 +13,7 @@ pub(crate) fn is_char(c: char) -> bool
 }
 
 /// White space: space, tab, LF, CR.
-#[tactic(auto, unfolding(crate::specs::Characters::is_space))]
+#[tactic(auto, unfolding(crate::specs::Characters::is_white_space))]
 pub(crate) fn is_space(c: char) -> bool
     ensures { result ≡ is_space_of c }
 {

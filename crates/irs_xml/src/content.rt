@@ -1,5 +1,5 @@
 //! Elements and their content: XML 1.0 (fifth edition), 3 and 3.1.
-ghost use Rattle.irs_xml.specs.Comments.{after};
+ghost use Rattle.irs_xml.specs.Comments.{rest_after};
 ghost use Rattle.irs_xml.specs.Private.InsideViews.{inside_view};
 ghost use Rattle.irs_xml.specs.Private.MarkViews.{mark_view};
 ghost use Rattle.irs_xml.specs.Private.Plain.{PlainPieces};
@@ -102,7 +102,7 @@ fn closing_name(reader: &mut Reader<'_>, prefix: &str, local: &str) -> Option<()
 
 // The name is here, and is taken.
 fn take_name(reader: &mut Reader<'_>, name: &str) -> Option<()>
-    ensures { Passes result reader.new (after (seen name.now) reader.old) }
+    ensures { Passes result reader.new (rest_after (seen name.now) reader.old) }
 {
     if reader.eat_name(name) {
         Some(())

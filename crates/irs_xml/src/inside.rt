@@ -1,6 +1,6 @@
 //! What is read of an element, and its value.
 ghost use Rattle.irs_xml.specs.Private.InsideViews.{inside_view};
-ghost use Rattle.irs_xml.specs.Characters.{is_space, is_white as is_white_of};
+ghost use Rattle.irs_xml.specs.Characters.{is_white_space, is_white as is_white_of};
 ghost use Rattle.irs_xml.specs.Private.Reading.{begun as begun_of, finished, with_character, with_one, GivesValue};
 ghost use Rattle.irs_xml.specs.Private.TagViews.{setting_view};
 ghost use Rattle.irs_xml.specs.Values.{key_of, leaf_value};
@@ -118,9 +118,9 @@ fn is_white(text: &str) -> bool
 }
 
 // Space, tab, LF or CR.
-#[tactic(auto, unfolding(crate::specs::Characters::is_space))]
+#[tactic(auto, unfolding(crate::specs::Characters::is_white_space))]
 fn is_space_byte(byte: u8) -> bool
-    ensures { result ≡ is_space byte }
+    ensures { result ≡ is_white_space byte }
 {
     matches!(byte, b' ' | b'\t' | b'\n' | b'\r')
 }

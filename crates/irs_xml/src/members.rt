@@ -1,7 +1,8 @@
 //! The members of an element's value, one after another.
 
 ghost use Rattle.irs_xml.specs.Private.TagViews.{setting_view};
-ghost use Rattle.irs_xml.specs.Values.{is_counted as is_counted_of, item_last, joined, with_child, with_settings};
+ghost use Rattle.irs_xml.specs.Values.{is_counted as is_counted_of, item_last, joined_values, with_child};
+ghost use Rattle.irs_xml.specs.Values.{with_settings};
 ghost use Rattle.serde_json.specs.Data.{array, item, no_items, no_members, put, string};
 ghost use Rattle.serde_json.specs.View.{items_view, members_view, view};
 ghost use Rattle.std.specs.Prelude.{◌≡◌, ◌∷◌, IfOk, OnOk, map, option_map, string_bytes};
@@ -67,7 +68,7 @@ pub(crate) fn put_child(
 
 // The values of children of one name: one is itself, several are an array.
 fn join(alloc: Global, first: Option<Value>, next: Value) -> Result<Value, AllocError>
-    ensures { IfOk result (λ v. view v ≡ joined (option_map view first) (view next)) }
+    ensures { IfOk result (λ v. view v ≡ joined_values (option_map view first) (view next)) }
 {
     match first {
         None => Ok(next),

@@ -1,6 +1,10 @@
 //! Which namespace a prefix names, and what a tag may declare: Namespaces in XML 1.0 (third
 //! edition).
-ghost use Rattle.irs_xml.specs.Namespaces.{attribute_namespace as attribute_namespace_of, are_unlike as are_unlike_of, declarations, declared_prefix as declared_prefix_of, first_scope, is_declaration as is_declaration_of, is_lawful as is_lawful_of, is_opened_in, is_same as is_same_of, may_declare as may_declare_of, namespace_of};
+ghost use Rattle.irs_xml.specs.Namespaces.{attribute_namespace as attribute_namespace_of, are_unlike as are_unlike_of};
+ghost use Rattle.irs_xml.specs.Namespaces.{declarations, declared_prefix as declared_prefix_of, first_scope};
+ghost use Rattle.irs_xml.specs.Namespaces.{is_declaration as is_declaration_of, is_lawful as is_lawful_of};
+ghost use Rattle.irs_xml.specs.Namespaces.{is_opened_in, is_same_namespace as is_same_of};
+ghost use Rattle.irs_xml.specs.Namespaces.{may_declare as may_declare_of, namespace_of};
 ghost use Rattle.irs_xml.specs.Private.Resolved.{are_distinct, is_alike, resolve as resolve_of};
 ghost use Rattle.irs_xml.specs.Private.TagViews.{opening_view, resolved_view, scope_view, setting_view};
 ghost use Rattle.std.specs.List.{list_all, list_any};

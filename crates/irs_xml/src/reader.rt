@@ -1,5 +1,5 @@
 //! The characters of a text, one after another.
-ghost use Rattle.irs_xml.specs.Comments.{after};
+ghost use Rattle.irs_xml.specs.Comments.{rest_after};
 ghost use Rattle.irs_xml.specs.Private.Reading.{EndsName, NameOf, SplitsName, Takes, after_any_case, gap_at, name_at, skip_space as behind_space, Reads};
 ghost use Rattle.irs_xml.specs.Private.Plain.{PlainTaken, SplitsPlain};
 ghost use Rattle.irs_xml.specs.Seen.{seen};
@@ -70,7 +70,7 @@ impl<'a> Reader<'a> {
 
     /// The word is here, and is taken. Its bytes are ASCII characters.
     pub(crate) fn eat(&mut self, word: &[u8]) -> bool
-        ensures { Takes result self.old self.new (after word.now self.old) }
+        ensures { Takes result self.old self.new (rest_after word.now self.old) }
     {
         let mut ahead = Reader { rest: self.rest };
         for byte in word {
@@ -84,7 +84,7 @@ impl<'a> Reader<'a> {
 
     /// The character is here, and is taken.
     pub(crate) fn eat_char(&mut self, c: char) -> bool
-        ensures { Takes result self.old self.new (after (c ∷ []) self.old) }
+        ensures { Takes result self.old self.new (rest_after (c ∷ []) self.old) }
     {
         match first_of(self.rest) {
             None => false,
@@ -132,7 +132,7 @@ impl<'a> Reader<'a> {
 
     /// The name is here, and is taken.
     pub(crate) fn eat_name(&mut self, name: &str) -> bool
-        ensures { Takes result self.old self.new (after (seen name.now) self.old) }
+        ensures { Takes result self.old self.new (rest_after (seen name.now) self.old) }
     {
         if let Some(rest) = behind_name(self.rest, name) {
             self.rest = rest;
@@ -191,7 +191,7 @@ fn plain_rest(text: &str) -> &str
 
 // What is after the name, where it is in front and no LF follows it. Else None, which says nothing.
 fn behind_name<'a>(text: &'a str, name: &str) -> Option<&'a str>
-    ensures { IfSome result (λ rest. after (seen name.now) (seen text.now) ≡ Some (seen rest.now)) }
+    ensures { IfSome result (λ rest. rest_after (seen name.now) (seen text.now) ≡ Some (seen rest.now)) }
 {
     let rest = text.strip_prefix(name)?;
     match rest.strip_prefix('\n') {

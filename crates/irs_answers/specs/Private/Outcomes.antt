@@ -4,7 +4,7 @@ use Rattle.std.specs.Prelude.{ℕ, List, Result, Ok, Err}
 use Rattle.irs_answers.specs.Forms.{IsUnread, TextReads, SourceText}
 use Rattle.serde_json.specs.Data.{Data}
 use Rattle.irs_audit.specs.FlowParts.{FlowPart}
-use Rattle.irs_audit.specs.FlowReading.{FlowsOf, IsFirstFault}
+use Rattle.irs_audit.specs.FlowReading.{FlowsOf, IsFirstFlowFault}
 use Rattle.irs_audit.specs.declared.error.FlowErr.{FlowErr}
 use Rattle.irs_answers.specs.declared.refusals.Refusal.{Refusal}
 use Rattle.irs_answers.specs.declared.refusals.Refusal.TheVariants.{Rule, Calendars, Fixings, Flows, Memory}
@@ -24,7 +24,7 @@ SpellsFlows w flows = (v : Data) × TextReads w v × FlowsOf v flows
 
 -- an error of flows that have a reading reports its first fault, or that memory ran out
 abbrev pub FlowsFail : SourceText → FlowErr → Type 0
-FlowsFail w e = (v : Data) × TextReads w v × IsFirstFault v e
+FlowsFail w e = (v : Data) × TextReads w v × IsFirstFlowFault v e
 
 -- a refusal of flows reports how they have no reading, their first fault, or that memory ran out
 abbrev pub FlowsRefused : SourceText → Refusal → Type 0

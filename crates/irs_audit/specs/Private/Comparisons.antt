@@ -11,7 +11,7 @@ abbrev pub most_scaled : ℕ
 most_scaled = most_numerator * 10 ^ 12
 
 -- a payment with its periods in order and within the limit, and an amount of at most 12 decimals
-pub record IsPayment (x : PaymentEntry) : Type 0 where
+pub record IsComparedPayment (x : PaymentEntry) : Type 0 where
   pub order : x.first_period ≤ x.last_period
   pub last : x.last_period ≤ most_periods
   pub decimals : IfSome x.amount (λ v. v.places ≤ 12)

@@ -1,6 +1,6 @@
 -- Private: no public contract rests on this file.
 -- The cash flows that a document states: each field is the value of the leaf at its element, where the leaf occurs.
-use Rattle.irs_audit.specs.FlowFaults.{payments_in, periods_of}
+use Rattle.irs_audit.specs.FlowFaults.{payments_in, flow_periods_of}
 use Rattle.irs_base.specs.Limits.{most_rows}
 use Rattle.irs_elements.specs.Find.{once}
 use Rattle.serde_json.specs.Data.{Data}
@@ -8,7 +8,7 @@ use Rattle.std.specs.Prelude.{◌≡◌, ◌≤◌, ℕ, List, length, slice_get
 
 -- a stream has no more calculation periods than the limit
 abbrev pub HasFewPeriods : Data → Type 0
-HasFewPeriods d = length (periods_of (payments_in (once (codes "cashflows") d))) ≤ most_rows
+HasFewPeriods d = length (flow_periods_of (payments_in (once (codes "cashflows") d))) ≤ most_rows
 
 -- each of these streams has no more calculation periods than the limit
 abbrev pub AllHaveFewPeriods : List Data → Type 0

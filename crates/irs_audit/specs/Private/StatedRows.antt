@@ -14,6 +14,6 @@ rows_in (rows.Flows f) = f.now
 rows_in (rows.Schedule p) = stated_part p.now
 
 -- the streams of flows, or those that state a schedule
-abbrev pub streams_in : StatedStreams → List FlowPart
-streams_in (streams.Flows fs) = fs.now
-streams_in (streams.Schedule ps) = map stated_part ps.now
+abbrev pub flow_parts_of : StatedStreams → List FlowPart
+flow_parts_of (streams.Flows fs) = fs.now
+flow_parts_of (streams.Schedule ps) = map stated_part ps.now

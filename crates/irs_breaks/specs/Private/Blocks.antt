@@ -15,12 +15,12 @@ abbrev pub AreRising : List DatedRow → Type 0
 AreRising rows = (p q : ℕ) (x y : DatedRow) → p < q → At rows p x → At rows q y → IsEarlier x y
 
 -- some row has this date
-abbrev pub HasDate : List DatedRow → ℤ → Type 0
-HasDate rows d = (k : ℕ) × (r : DatedRow) × At rows k r × (r.day ≡ d)
+abbrev pub HasRowOfDate : List DatedRow → ℤ → Type 0
+HasRowOfDate rows d = (k : ℕ) × (r : DatedRow) × At rows k r × (r.day ≡ d)
 
 -- both lists have a row of this date
 abbrev pub IsCommon : List DatedRow → List DatedRow → ℤ → Type 0
-IsCommon ours theirs d = HasDate ours d × HasDate theirs d
+IsCommon ours theirs d = HasRowOfDate ours d × HasRowOfDate theirs d
 
 -- a day lies between two others, on neither of them
 abbrev pub IsBetween : ℤ → ℤ → ℤ → Type 0

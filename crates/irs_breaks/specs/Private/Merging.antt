@@ -4,7 +4,7 @@ use Rattle.std.specs.Prelude.{◌≡◌, ◌⊎◌, ℕ, ◌<◌, ◌≤◌, ◌
 use Rattle.std.specs.List.{Contains}
 use Rattle.irs_breaks.specs.Blocks.{At}
 use Rattle.irs_breaks.specs.Private.Blocks.{IsPartner}
-use Rattle.irs_breaks.specs.PairedRows.{AreInOrder, ComesBefore, row_of_ours, row_of_theirs}
+use Rattle.irs_breaks.specs.PairedRows.{AreRowsInOrder, ComesBefore, row_of_ours, row_of_theirs}
 use Rattle.irs_breaks.specs.Pairing.{ArePaired}
 use Rattle.irs_breaks.specs.declared.dated.DatedRow.{DatedRow}
 use Rattle.irs_breaks.specs.declared.dated.PairedRow.{PairedRow}
@@ -25,7 +25,7 @@ pub record IsMergedTo (ours theirs : List DatedRow) (p q : ℕ) (rows : List Pai
   pub of_ours : (k : ℕ) (x : DatedRow) → k < p → At ours k x
       → (o : Option ℕ) × IsPartner ours theirs x o × Contains rows (row_of_ours x o)
   pub of_theirs : (k : ℕ) (y : DatedRow) → k < q → At theirs k y → IsAlone ours theirs y → Contains rows (row_of_theirs y)
-  pub in_order : AreInOrder rows
+  pub in_order : AreRowsInOrder rows
   pub before_ours : (m : PairedRow) → Contains rows m → (k : ℕ) (x : DatedRow) (o : Option ℕ) → p ≤ k → At ours k x
       → ComesBefore m (row_of_ours x o)
   pub before_theirs : (m : PairedRow) → Contains rows m → (k : ℕ) (y : DatedRow) → q ≤ k → At theirs k y

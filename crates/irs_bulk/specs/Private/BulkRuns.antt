@@ -3,7 +3,7 @@
 use Rattle.std.specs.Prelude.{List, [], ◌∷◌, IfSome, Result}
 use Rattle.std.specs.Prelude.{Ok, Err}
 use Rattle.irs_calendar.specs.Calendars.{spot_of}
-use Rattle.irs_calendar.specs.FirstFaults.{IsFirstFault}
+use Rattle.irs_calendar.specs.FirstFaults.{IsFirstCalendarFault}
 use Rattle.irs_calendar.specs.Grammar.{CalFiles}
 use Rattle.irs_calendar.specs.declared.calendars.CalErr.{CalErr}
 use Rattle.irs_calendar.specs.declared.sections.Section.{Section}
@@ -14,4 +14,4 @@ use Rattle.irs_bulk.specs.BulkCalendars.{calendar_text}
 -- the sections of the calendar, or its first fault
 abbrev pub IsCalendar : Result (List Section) CalErr → Type 0
 IsCalendar (Ok cal) = CalFiles (calendar_text ∷ []) cal
-IsCalendar (Err e) = IfSome (spot_of e) (IsFirstFault (calendar_text ∷ []))
+IsCalendar (Err e) = IfSome (spot_of e) (IsFirstCalendarFault (calendar_text ∷ []))

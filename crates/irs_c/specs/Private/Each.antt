@@ -3,14 +3,14 @@
 use Rattle.std.specs.Prelude.{◌≡◌, ℕ, List, [], ◌∷◌, ◌++◌, Result, Ok, Err, Vec}
 use Rattle.std.specs.Prelude.{String}
 use Rattle.std.specs.declared.alloc.Global.{Global}
-use Rattle.irs_cli.specs.Commands.{Words, texts}
+use Rattle.irs_cli.specs.Commands.{Words, word_texts}
 use Rattle.irs_cli.specs.Sharing.{IsCommon}
 use Rattle.irs_answers.specs.declared.common.Common.{Common}
 use Rattle.irs_c.specs.Given.{file_in, gives_in}
 use Rattle.irs_c.specs.declared.given.File.{File}
 use Rattle.irs_c.specs.declared.given.Trade.{Trade}
 use Rattle.irs_c.specs.declared.telling.Told.{Told}
-use Rattle.irs_c.specs.Each.{Outcome, no_text, IsRun}
+use Rattle.irs_c.specs.Each.{Outcome, status_alone, IsRun}
 
 -- what the code keeps of what a run comes to
 abbrev pub outcome_by : Told → Outcome
@@ -24,8 +24,8 @@ Made = Result (Vec (String Global) Global) ℕ
 
 -- what the words come to over the files
 abbrev pub RunFor : Made → List File → Outcome → Type 0
-RunFor (Ok words) fs o = IsRun (texts words.items) fs o
-RunFor (Err s) fs o = o ≡ no_text s
+RunFor (Ok words) fs o = IsRun (word_texts words.items) fs o
+RunFor (Err s) fs o = o ≡ status_alone s
 
 -- one outcome a trade, in order
 abbrev pub AreRuns : Made → List File → List Trade → List Outcome → Type 0

@@ -8,7 +8,7 @@ use Rattle.irs_calendar.specs.declared.machine.Fault.{Fault}
 use Rattle.irs_calendar.specs.declared.files.FileErr.{FileErr}
 use Rattle.irs_calendar.specs.declared.files.FileErr.TheVariants as errors
 use Rattle.irs_calendar.specs.Private.Machine.{after_line, at_end}
-use Rattle.irs_calendar.specs.Words.{kind_of}
+use Rattle.irs_calendar.specs.Words.{line_said}
 use Rattle.irs_calendar.specs.EndLines.{seen_lines}
 
 -- a fault, and the number of its line
@@ -28,7 +28,7 @@ then_read (Err e) f = Err e
 -- the lines from number n on, the file's end being the line after the last
 unfoldable pub sections_in : ℕ → State → List (List ℕ) → Result (List Section) Place
 sections_in n s [] = numbered n (at_end s.done s.part)
-sections_in n s (l ∷ ls) = then_read (numbered n (after_line s (kind_of l))) (λ t. sections_in (n + 1) t ls)
+sections_in n s (l ∷ ls) = then_read (numbered n (after_line s (line_said l))) (λ t. sections_in (n + 1) t ls)
 
 -- all of a file, after the sections of the files before it
 abbrev pub sections_of : List Section → List ℕ → Result (List Section) Place

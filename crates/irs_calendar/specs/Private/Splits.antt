@@ -7,9 +7,9 @@ use Rattle.irs_calendar.specs.declared.search.End.{End}
 use Rattle.irs_calendar.specs.declared.search.End.TheVariants.{First, Last}
 
 -- the run begins at or before the day, or ends before it
-abbrev pub comes_before : End → ℤ → Run → Bool
-comes_before First d r = is_le (int_cmp r.first d)
-comes_before Last d r = is_lt (int_cmp r.last d)
+abbrev pub begins_or_ends_before : End → ℤ → Run → Bool
+begins_or_ends_before First d r = is_le (int_cmp r.first d)
+begins_or_ends_before Last d r = is_lt (int_cmp r.last d)
 
 -- what passes the test comes first
 abbrev pub IsDownward : (Run → Bool) → List Run → Type 0

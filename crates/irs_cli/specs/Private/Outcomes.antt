@@ -9,17 +9,17 @@ use Rattle.irs_cli.specs.declared.refusals.Refusal.TheVariants.{BadWords, NoFile
 use Rattle.irs_cli.specs.Messages.{bad_words, no_file, too_long}
 
 -- the answer of a refusal; none where memory ran out
-abbrev pub answer_of : Refusal → Option Answer
-answer_of BadWords = Some (4, bad_words)
-answer_of (NoFile place) = Some (5, no_file place)
-answer_of (TooLong place) = Some (8, too_long place)
-answer_of Memory = None
+abbrev pub run_answer_of : Refusal → Option Answer
+run_answer_of BadWords = Some (4, bad_words)
+run_answer_of (NoFile place) = Some (5, no_file place)
+run_answer_of (TooLong place) = Some (8, too_long place)
+run_answer_of Memory = None
 
 -- P holds of the refusal's answer, if it has one
-abbrev pub IfRefused : Refusal → (ℕ → List ℕ → Type 0) → Type 0
-IfRefused r P = IfSome (answer_of r) (λ a. P a.0 a.1)
+abbrev pub IfRunRefused : Refusal → (ℕ → List ℕ → Type 0) → Type 0
+IfRunRefused r P = IfSome (run_answer_of r) (λ a. P a.0 a.1)
 
 -- P holds of the answer, if there is one
-abbrev pub IfAnswered : Result NotedReply Refusal → (ℕ → List ℕ → Type 0) → Type 0
-IfAnswered (Ok o) P = P (reply_status o.reply) (reply_text o.reply)
-IfAnswered (Err r) P = IfRefused r P
+abbrev pub IfRunAnswered : Result NotedReply Refusal → (ℕ → List ℕ → Type 0) → Type 0
+IfRunAnswered (Ok o) P = P (reply_status o.reply) (reply_text o.reply)
+IfRunAnswered (Err r) P = IfRunRefused r P

@@ -4,7 +4,7 @@ use Rattle.std.proofs.Common.{◌≡◌, ℕ, ℤ, refl, ap, subst, List, [], ge
 use Rattle.std.proofs.Common.{Option, Some, None, IsSome}
 use Rattle.std.proofs.lemmas.List.Elements.{All-get_or}
 use Rattle.std.proofs.lemmas.Option.{get_or_from_slice_get, slice_get_within}
-use Rattle.irs_compound.specs.Amounts.{IsPayment, AllPriced, SomeUnpriced, Follows}
+use Rattle.irs_compound.specs.Amounts.{IsPaymentOfTerms, AllPriced, SomeUnpriced, Follows}
 use Rattle.irs_compound.specs.Amounts.{AmountOf, denominator, code_for}
 use Rattle.irs_compound.specs.PartsLaws.{follows_once}
 use Rattle.irs_compound.specs.PartsLaws.{AllFractions, all_fractions}
@@ -33,6 +33,6 @@ one_amount code ps k (Some m) None f a b = absurd (priced_or_not ps a.0 b)
 one_amount code ps k (Some m) (Some n) f a b = ap Some (pays_once (code_for code ps) ps k m n f a.1 b.1)
 
 -- there is one list of what each period adds
-pub one_list : (code : CompCode) (ps : List PeriodTerm) (cs ds : List Parts) → IsPayment ps → Follows code ps cs
+pub one_list : (code : CompCode) (ps : List PeriodTerm) (cs ds : List Parts) → IsPaymentOfTerms ps → Follows code ps cs
     → Follows code ps ds → cs ≡ ds
 one_list code ps cs ds h a b = follows_once code [] ps cs ds (all_fractions (denominator ps) ps h.2) a b

@@ -6,7 +6,7 @@ use Rattle.irs_terms.specs.declared.amounts.Leg.{Leg}
 use Rattle.irs_terms.specs.declared.amounts.Leg.TheVariants.{Fixed, Floating}
 use Rattle.irs_terms.specs.StepDates.{LegStepsRise, StepsRise}
 use Rattle.irs_observed.proofs.PeriodRateLaws.{period_rate_is, period_rate_value}
-use Rattle.irs_observed.specs.ObservedRates.{Fraction, period_rate_at}
+use Rattle.irs_observed.specs.ObservedRates.{RateFraction, period_rate_at}
 use Rattle.irs_observed.specs.declared.overnight_rate.OvernightRate.{OvernightRate}
 use Rattle.irs_observed.specs.declared.overnight_rate.OvernightRate.TheVariants.{Stated, Known, Absent, OutOfRange}
 use Rattle.irs_compound.specs.declared.periods.Rates.{Rates}
@@ -18,7 +18,7 @@ use Rattle.irs_compound.specs.PeriodRates.{treated}
 use Rattle.irs_compound.specs.Private.RateLaws.{one_leg_rates, rates_by_are, same_rates, treated_is, treated_value}
 
 -- the function gives rates
-pub rates_over_are : (f : FloatTerms) (start : ℤ) (x : Fraction) → pos 0 <ℤ x.denominator
+pub rates_over_are : (f : FloatTerms) (start : ℤ) (x : RateFraction) → pos 0 <ℤ x.denominator
     → RatesOver f start x (rates_over f start x)
 unfolding rates_over
 rates_over_are f start x above = record {
@@ -35,7 +35,7 @@ rates_over_are f start x above = record {
 }
 
 -- where the steps rise they are the only ones
-pub rates_over_value : (f : FloatTerms) (start : ℤ) (x : Fraction) (rates : Rates) → pos 0 <ℤ x.denominator
+pub rates_over_value : (f : FloatTerms) (start : ℤ) (x : RateFraction) (rates : Rates) → pos 0 <ℤ x.denominator
     → StepsRise f.multiplier.steps → StepsRise f.spread.steps → RatesOver f start x rates
     → rates ≡ rates_over f start x
 unfolding rates_over
@@ -54,7 +54,7 @@ rates_over_value f start x rates above r q h =
     ∙ ap (λ (n : ℤ). treated f.treatment (period_rate_at x (value_in_force f.multiplier start) n f.rounding)) s)
 
 -- rates by their parts
-pub rates_over_by : (f : FloatTerms) (start : ℤ) (x : Fraction) (multiplier spread : ℤ) (rates : Rates)
+pub rates_over_by : (f : FloatTerms) (start : ℤ) (x : RateFraction) (multiplier spread : ℤ) (rates : Rates)
     → multiplier ≡ value_in_force f.multiplier start → spread ≡ value_in_force f.spread start
     → rates.base ≡ period_rate_at x multiplier (pos 0) f.rounding
     → rates.all_in ≡ treated f.treatment (period_rate_at x multiplier spread f.rounding)

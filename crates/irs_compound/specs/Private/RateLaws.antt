@@ -17,8 +17,8 @@ use Rattle.irs_compound.specs.declared.periods.Rates.{Rates}
 use Rattle.irs_compound.specs.InForce.{value_in_force}
 use Rattle.irs_compound.specs.Private.InForceLaws.{in_force_is, one_in_force}
 use Rattle.irs_compound.specs.Private.Tens.{ten_positive}
-use Rattle.irs_compound.specs.PeriodRates.{RateAt, Treats, RatesOf, FixedRatesOf, AreRates, rate_at, treated}
-use Rattle.irs_compound.specs.PeriodRates.{exact_base, rates_of, fixed_rates_of, rates_by}
+use Rattle.irs_compound.specs.PeriodRates.{RateAt, Treats, RatesOf, FixedRatesOf, AreRates, rate_by_rounding, treated}
+use Rattle.irs_compound.specs.PeriodRates.{exact_base, rates_of, fixed_rates_of, leg_rates}
 use Rattle.irs_terms.specs.StepDates.{StepsRise, LegStepsRise}
 
 -- rates with the same parts are the same
@@ -28,7 +28,7 @@ same_rates a b h k =
     ap (λ m. mk m a.all_in) h ∙ ap (λ n. mk b.base n) k
 
 -- the function gives a rounded rate
-pub rate_at_is : (rounding : Rounding) (exact : ℤ) → RateAt rounding exact (rate_at rounding exact)
+pub rate_at_is : (rounding : Rounding) (exact : ℤ) → RateAt rounding exact (rate_by_rounding rounding exact)
 rate_at_is rounding exact = record {
   whole = rounded rounding.dir exact (pos (10 ^ (18 - rounding.places)));
   rounds = rounded_is rounding.dir exact (pos (10 ^ (18 - rounding.places))) (ten_positive (18 - rounding.places));
@@ -74,10 +74,10 @@ rates_are f start observed = record {
   multiplies = in_force_is f.multiplier start;
   adds = in_force_is f.spread start;
   base = rate_at_is f.rounding (exact_base f start observed);
-  rounded_rate = rate_at f.rounding (exact_base f start observed +ℤ value_in_force f.spread start *ℤ pos (10 ^ 9));
+  rounded_rate = rate_by_rounding f.rounding (exact_base f start observed +ℤ value_in_force f.spread start *ℤ pos (10 ^ 9));
   rounds = rate_at_is f.rounding (exact_base f start observed +ℤ value_in_force f.spread start *ℤ pos (10 ^ 9));
   treats = treated_is f.treatment
-      (rate_at f.rounding (exact_base f start observed +ℤ value_in_force f.spread start *ℤ pos (10 ^ 9)));
+      (rate_by_rounding f.rounding (exact_base f start observed +ℤ value_in_force f.spread start *ℤ pos (10 ^ 9)));
 }
 
 -- where the steps rise, any two pairs of rates are equal
@@ -106,15 +106,15 @@ one_rates f start observed a b r q x y =
 -- rates by their parts
 pub rates_value : (f : FloatTerms) (start observed multiplier spread : ℤ) (rates : Rates)
     → multiplier ≡ value_in_force f.multiplier start → spread ≡ value_in_force f.spread start
-    → rates.base ≡ rate_at f.rounding (multiplier *ℤ observed)
-    → rates.all_in ≡ treated f.treatment (rate_at f.rounding (multiplier *ℤ observed +ℤ spread *ℤ pos (10 ^ 9)))
+    → rates.base ≡ rate_by_rounding f.rounding (multiplier *ℤ observed)
+    → rates.all_in ≡ treated f.treatment (rate_by_rounding f.rounding (multiplier *ℤ observed +ℤ spread *ℤ pos (10 ^ 9)))
     → rates ≡ rates_of f start observed
 unfolding rates_of
 rates_value f start observed multiplier spread rates m s b a =
     same_rates rates (rates_of f start observed)
-    (b ∙ ap (λ (n : ℤ). rate_at f.rounding (n *ℤ observed)) m)
-    (a ∙ ap (λ (n : ℤ). treated f.treatment (rate_at f.rounding (n *ℤ observed +ℤ spread *ℤ pos (10 ^ 9)))) m
-    ∙ ap (λ (n : ℤ). treated f.treatment (rate_at f.rounding (exact_base f start observed +ℤ n *ℤ pos (10 ^ 9)))) s)
+    (b ∙ ap (λ (n : ℤ). rate_by_rounding f.rounding (n *ℤ observed)) m)
+    (a ∙ ap (λ (n : ℤ). treated f.treatment (rate_by_rounding f.rounding (n *ℤ observed +ℤ spread *ℤ pos (10 ^ 9)))) m
+    ∙ ap (λ (n : ℤ). treated f.treatment (rate_by_rounding f.rounding (exact_base f start observed +ℤ n *ℤ pos (10 ^ 9)))) s)
 
 -- the function gives the rates of a fixed stream
 pub fixed_rates_are : (values : StepValues) (start : ℤ) → FixedRatesOf values start (fixed_rates_of values start)
@@ -136,7 +136,7 @@ fixed_rates_value values start rate rates e b a = same_rates rates (fixed_rates_
 
 -- the function gives the rates by the leg
 pub rates_by_are : (leg : Leg) (start : ℤ) (observed : Option ℤ)
-    → AreRates leg start observed (rates_by leg start observed)
+    → AreRates leg start observed (leg_rates leg start observed)
 rates_by_are (Fixed values) start observed = fixed_rates_are values start
 rates_by_are (Floating float) start None = tt
 rates_by_are (Floating float) start (Some o) = rates_are float start o

@@ -4,7 +4,7 @@ use Rattle.std.specs.Prelude.{◌≡◌, ℕ, ◌+◌, ◌*◌, ◌^◌, ◌<◌
 use Rattle.irs_base.specs.Rounding.{Rounded}
 use Rattle.irs_base.specs.declared.rounding.Direction.TheVariants.{Nearest}
 use Rattle.irs_observed.specs.DailyRates.{AreKnown, DailyRates}
-use Rattle.irs_observed.specs.Factors.{one_factor, year_of}
+use Rattle.irs_observed.specs.Factors.{one_factor, unit_rate}
 use Rattle.irs_observed.specs.ObservedRates.{PassesLimit, days_of_year, rate_precision}
 use Rattle.irs_observed.specs.declared.method.DailyRateMethod.{DailyRateMethod}
 use Rattle.irs_observed.specs.declared.method.DailyRateMethod.TheVariants.{Compounding, Averaging}
@@ -22,7 +22,7 @@ first_factor Averaging = pos 0
 -- A sum grows in size by at most 10 times these days.
 abbrev pub StepsBy : DailyRateMethod → ℤ → ℕ → ℤ → ℤ → Type 0
 StepsBy (Compounding year) rate weight f g =
-    Rounded Nearest (f *ℤ (year_of (days_of_year year) +ℤ rate *ℤ pos weight)) (year_of (days_of_year year)) g
+    Rounded Nearest (f *ℤ (unit_rate (days_of_year year) +ℤ rate *ℤ pos weight)) (unit_rate (days_of_year year)) g
 StepsBy Averaging rate weight f g =
     (g ≡ f +ℤ rate *ℤ pos weight) × (unsigned_abs g ≤ unsigned_abs f + 10 ^ 10 * weight)
 

@@ -15,8 +15,8 @@ abbrev pub place_at : ℕ → ℕ → ℕ
 place_at year days = act_act_denominator * year + days * weight_of year
 
 -- where the day begins
-abbrev pub place_of : ℤ → ℕ
-place_of d = place_at (year_part d).0 (year_part d).1
+abbrev pub place_of_day : ℤ → ℕ
+place_of_day d = place_at (year_part d).0 (year_part d).1
 
 -- no day begins later: the end of the last year that there is
 abbrev pub most_place : ℕ

@@ -1,9 +1,9 @@
 -- Private: no public contract rests on this file.
 -- The number that the text of a decimal spells, as a function of the text.
-use Rattle.irs_base.specs.Decimals.{is_digit, number_after}
+use Rattle.irs_base.specs.Dates.{is_digit}
+use Rattle.irs_base.specs.Decimals.{number_after}
 use Rattle.std.specs.List.{list_all}
-use Rattle.std.specs.Prelude.{ℕ, nat_lt, nat_le, ◌&&◌, List, length}
-use Rattle.std.specs.Prelude.{Option, Some, None, if◌then◌else◌}
+use Rattle.std.specs.Prelude.{ℕ, nat_lt, nat_le, ◌&&◌, List, length, Option, Some, None, if◌then◌else◌}
 
 -- the number that a text of nothing but digits spells after those of n
 abbrev pub digits_at : ℕ → List ℕ → Option ℕ

@@ -1,13 +1,13 @@
 -- How the walk goes: which leaves it passes at a glance, where the members of an object end, and the faults of parts.
 use Rattle.irs_base.specs.declared.places.Broken.{Broken}
-use Rattle.irs_elements.specs.Elements.{FaultAt, FaultUnder, IsMember, is_known, most, name_at}
+use Rattle.irs_elements.specs.Elements.{FaultAt, FaultUnder, IsMemberRow, is_known, most, name_at}
 use Rattle.irs_elements.specs.Leaves.{leaf_rule}
 use Rattle.irs_elements.specs.declared.table.Kind.{Kind}
 use Rattle.irs_elements.specs.declared.table.Kind.TheVariants.{Object, Leaf, Passed, Refused}
 use Rattle.irs_elements.specs.declared.table.Leaf.{Leaf as LeafKind}
 use Rattle.irs_elements.specs.declared.table.Row.{Row}
 use Rattle.irs_json.specs.Carrier.{child_of}
-use Rattle.irs_json.specs.Leaves.{is_attribute, leaf_of}
+use Rattle.irs_json.specs.Leaves.{is_attribute_name, leaf_of}
 use Rattle.irs_json.specs.Values.{items_of}
 use Rattle.serde_json.specs.Data.{Data}
 use Rattle.std.specs.Prelude.{◌≡◌, ℕ, ◌<◌, Bool, false, not, ◌&&◌, ◌||◌, List, [], ◌∷◌, length, Option, Some, None}
@@ -17,7 +17,7 @@ use Rattle.std.specs.Prelude.{nat_lt, slice_get}
 module _ (rows : List Row) (names : List (List ℕ)) where
   -- a name that is an attribute's or that no row has
   abbrev pub is_apart : ℕ → List ℕ → Bool
-  is_apart r name = is_attribute name || not (is_known rows names r name)
+  is_apart r name = is_attribute_name name || not (is_known rows names r name)
 
 -- ---- leaves that break no rule
 
@@ -67,4 +67,4 @@ module _ (rows : List Row) (names : List (List ℕ)) (stream : ℕ) where
   -- those of the members of the object d at row r
   abbrev pub MemberFault : ℕ → ℕ → Data → Broken → Type 0
   MemberFault r i d f =
-      (c : ℕ) × ((row : Row) × (IsMember rows names r c row × FaultUnder rows names stream c row i d f))
+      (c : ℕ) × ((row : Row) × (IsMemberRow rows names r c row × FaultUnder rows names stream c row i d f))

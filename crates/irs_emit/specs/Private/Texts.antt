@@ -17,14 +17,14 @@ use Rattle.serde_json.specs.Written.{comma_if, compact_text}
 
 -- a character of a leaf: a digit, a capital letter, `-` or `.`. Others from the space to `~` are plain too, where
 -- neither JSON nor XML escapes them
-unfoldable pub is_plain : ℕ → Bool
-is_plain c =
+unfoldable pub is_leaf_char : ℕ → Bool
+is_leaf_char c =
     is_in_range 32 126 c
     && (not (c == 34) && (not (c == 92) && (not (c == 38) && (not (c == 60) && not (c == 93)))))
 
 -- all characters are plain
-abbrev pub ArePlain : List ℕ → Type 0
-ArePlain cs = list_all is_plain cs ≡ true
+abbrev pub AreLeafChars : List ℕ → Type 0
+AreLeafChars cs = list_all is_leaf_char cs ≡ true
 
 -- ---- lists
 

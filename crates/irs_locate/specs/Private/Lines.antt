@@ -5,7 +5,7 @@ use Rattle.irs_locate.specs.declared.lines.Tag.{Tag}
 use Rattle.std.specs.Prelude.{◌≡◌, ℕ, ◌+◌, ◌≤◌, List, [], ◌∷◌, ◌++◌}
 use Rattle.std.specs.Prelude.{drop}
 use Rattle.std.specs.Prelude.{Option, Some, None, length, if◌then◌else◌}
-use Rattle.irs_locate.specs.Lines.{Open, Within}
+use Rattle.irs_locate.specs.Lines.{Open, IsOpenAfter}
 
 -- ---- the line of an element
 
@@ -17,12 +17,12 @@ root_piece tag =
 
 -- no element is open before the tag
 pub record IsRootTag (text : List ℕ) (tag : Tag) : Type 0 where
-  pub within : Within text tag.at ([] ∷ [])
+  pub within : IsOpenAfter text tag.at ([] ∷ [])
   pub is : piece_of (drop tag.at text) ≡ Some (root_piece tag)
   pub ends : tag.at + tag.size ≤ length text
 
 -- from the end of an opening tag on: the place where its element ends, or where the text can't be read to its end
 abbrev pub PassesOver : List ℕ → ℕ → Open → Option ℕ → Type 0
-PassesOver text start lists (Some end) = Within text start ([] ∷ lists) → Within text end lists
-PassesOver text start lists None = Within text start ([] ∷ lists)
-    → (n : ℕ) × ((inner : Open) × (Within text n (inner ++ lists) × (piece_of (drop n text) ≡ None)))
+PassesOver text start lists (Some end) = IsOpenAfter text start ([] ∷ lists) → IsOpenAfter text end lists
+PassesOver text start lists None = IsOpenAfter text start ([] ∷ lists)
+    → (n : ℕ) × ((inner : Open) × (IsOpenAfter text n (inner ++ lists) × (piece_of (drop n text) ≡ None)))

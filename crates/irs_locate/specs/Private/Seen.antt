@@ -1,6 +1,6 @@
 -- Private: no public contract rests on this file.
 -- The mathematical values that the types of this crate have.
-use Rattle.irs_elements.specs.Elements.{texts}
+use Rattle.irs_elements.specs.Elements.{referenced_texts}
 use Rattle.irs_locate.specs.Markup as text
 use Rattle.irs_locate.specs.Members as table
 use Rattle.irs_locate.specs.Ways as ways
@@ -11,7 +11,7 @@ use Rattle.irs_locate.specs.declared.members.Known as members
 use Rattle.irs_locate.specs.declared.ways.Step.{Step}
 
 -- a step of the way
-abbrev pub step_seen : Step → ways.Step
+abbrev pub step_seen : Step → ways.WayStep
 step_seen s = record { name = s.name.now; number = s.number }
 
 -- what a piece is
@@ -28,4 +28,4 @@ piece_seen p = record { mark = mark_seen p.mark; size = p.size }
 
 -- a table of elements
 abbrev pub known_seen : members.Known → table.Known
-known_seen t = record { rows = t.rows.now; names = texts t.names.now }
+known_seen t = record { rows = t.rows.now; names = referenced_texts t.names.now }

@@ -8,5 +8,5 @@ use Rattle.irs_plain.specs.Sentences.{is_silent}
 -- ---- what is said
 
 -- what is said depends on no word
-abbrev pub IsPlain : RunCause → Type 0
-IsPlain c = (is_silent c ≡ true) ⊎ ((c ≡ PutFailed) ⊎ (c ≡ NoMemory))
+abbrev pub SaysNoWord : RunCause → Type 0
+SaysNoWord c = (is_silent c ≡ true) ⊎ ((c ≡ PutFailed) ⊎ (c ≡ NoMemory))

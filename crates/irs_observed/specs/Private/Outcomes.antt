@@ -5,7 +5,7 @@ use Rattle.irs_base.specs.Outcomes.{Spec, unless_broken}
 use Rattle.irs_resets.specs.Rates.{RateTable}
 use Rattle.irs_observed.specs.DailyRates.{DailyRates}
 use Rattle.irs_observed.specs.ObservationPeriods.{ObservedPeriod}
-use Rattle.irs_observed.specs.ObservationRules.{Lacks, reported_before}
+use Rattle.irs_observed.specs.ObservationRules.{LacksObservations, reported_before}
 use Rattle.irs_observed.specs.OvernightRates.{IsOvernightRate, IsRateOver}
 use Rattle.irs_observed.specs.OvernightRates.{LacksAt, OvernightSource}
 use Rattle.irs_observed.specs.declared.method.DailyRateMethod.{DailyRateMethod}
@@ -14,7 +14,7 @@ use Rattle.irs_observed.specs.declared.observation.NoObservations.{NoObservation
 
 -- the rate by a calculation period's daily rates, or the first reason why it has no observations
 abbrev pub rate_over_of : DailyRateMethod → DailyRates → ObservedPeriod → Spec OvernightRate NoObservations
-rate_over_of method daily p = unless_broken reported_before (Lacks p) (IsRateOver method daily p)
+rate_over_of method daily p = unless_broken reported_before (LacksObservations p) (IsRateOver method daily p)
 
 -- the observed rate of period i, or the first reason why it has no observations
 abbrev pub rate_at_of : OvernightSource → RateTable → ℕ → Spec OvernightRate NoObservations

@@ -14,7 +14,7 @@ use Rattle.irs_adjust.specs.declared.moved.NoDate.{NoDate}
 use Rattle.irs_adjust.specs.declared.moved.NoDate.TheVariants.{NoResult, OutOfRange}
 use Rattle.irs_base.specs.Faults.{fault_at}
 use Rattle.irs_payments.specs.Private.Cuts.{cut_at}
-use Rattle.irs_payments.specs.PaymentDates.{IsPaymentDate, LacksResult, LeavesRange}
+use Rattle.irs_payments.specs.PaymentDates.{IsPaymentDate, PaymentLacksResult, PaymentLeavesRange}
 use Rattle.irs_payments.specs.Payments.{pay_place, Covers}
 use Rattle.irs_base.specs.Members.{day_at, EachNumbered}
 
@@ -33,12 +33,12 @@ pub record IsCutPayment (s : Stream) (set : DaySet) (boundaries adjusted : List 
 -- no payment before the limit lacks a result
 abbrev pub NoneLacks : Stream → DaySet → List ℤ → List ℕ → ℕ → Type 0
 NoneLacks s set adjusted cuts limit =
-    (j : ℕ) → 1 ≤ j → j < limit → LacksResult s.pay set (day_at adjusted (date_place s cuts j)) → ⊥
+    (j : ℕ) → 1 ≤ j → j < limit → PaymentLacksResult s.pay set (day_at adjusted (date_place s cuts j)) → ⊥
 
 -- no payment before the limit leaves the range
 abbrev pub NoneLeaves : Stream → DaySet → List ℤ → List ℕ → ℕ → Type 0
 NoneLeaves s set adjusted cuts limit =
-    (j : ℕ) → 1 ≤ j → j < limit → LeavesRange s.pay set (day_at adjusted (date_place s cuts j)) → ⊥
+    (j : ℕ) → 1 ≤ j → j < limit → PaymentLeavesRange s.pay set (day_at adjusted (date_place s cuts j)) → ⊥
 
 -- the payments before the limit
 pub record ArePaid (s : Stream) (set : DaySet) (boundaries adjusted : List ℤ) (cuts : List ℕ) (limit : ℕ)
@@ -52,7 +52,7 @@ pub record ArePaid (s : Stream) (set : DaySet) (boundaries adjusted : List ℤ) 
 pub record LeavesAt (s : Stream) (set : DaySet) (adjusted : List ℤ) (cuts : List ℕ) (limit j : ℕ) : Type 0 where
   pub from_one : 1 ≤ j
   pub below : j < limit
-  pub leaves : LeavesRange s.pay set (day_at adjusted (date_place s cuts j))
+  pub leaves : PaymentLeavesRange s.pay set (day_at adjusted (date_place s cuts j))
 
 -- payment n is the first before the limit that leaves the range
 abbrev pub LeavesFirst : Stream → DaySet → List ℤ → List ℕ → ℕ → ℕ → Type 0
@@ -78,15 +78,15 @@ Settles (Err NoResult) beyond n old new after = ⊥
 abbrev pub IsOutcome : Stream → DaySet → List ℤ → List ℤ → List ℕ → ℕ → Result Payment NoDate → Type 0
 IsOutcome s set boundaries adjusted cuts j (Ok p) = IsCutPayment s set boundaries adjusted cuts j p
 IsOutcome s set boundaries adjusted cuts j (Err OutOfRange) =
-    LeavesRange s.pay set (day_at adjusted (date_place s cuts j))
+    PaymentLeavesRange s.pay set (day_at adjusted (date_place s cuts j))
 IsOutcome s set boundaries adjusted cuts j (Err NoResult) =
-    LacksResult s.pay set (day_at adjusted (date_place s cuts j))
+    PaymentLacksResult s.pay set (day_at adjusted (date_place s cuts j))
 
 -- payment j lacks a result
 pub record LacksAt (s : Stream) (set : DaySet) (adjusted : List ℤ) (cuts : List ℕ) (j : ℕ) : Type 0 where
   pub from_one : 1 ≤ j
   pub below : j < length cuts
-  pub lacks : LacksResult s.pay set (day_at adjusted (date_place s cuts j))
+  pub lacks : PaymentLacksResult s.pay set (day_at adjusted (date_place s cuts j))
 
 -- payment n is the first that lacks a result
 abbrev pub LacksFirst : Stream → DaySet → List ℤ → List ℕ → ℕ → Type 0

@@ -4,6 +4,6 @@ use Rattle.std.specs.Prelude.{List, [], ◌∷◌, Option, Some, None}
 use Rattle.irs_payments.specs.declared.exchanges.Transfer.{Transfer}
 
 -- the transfer alone, where there is one
-abbrev pub listed : Option Transfer → List Transfer
-listed None = []
-listed (Some t) = t ∷ []
+abbrev pub listed_transfer : Option Transfer → List Transfer
+listed_transfer None = []
+listed_transfer (Some t) = t ∷ []

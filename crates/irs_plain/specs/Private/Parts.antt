@@ -5,7 +5,7 @@ use Rattle.irs_plain.specs.declared.parts.Part.{Part}
 use Rattle.irs_plain.specs.declared.parts.Part.TheVariants.{Text, Number, Count, Shown}
 use Rattle.irs_plain.specs.declared.parts.Sentence.{Sentence}
 use Rattle.std.specs.Prelude.{ℕ, List, map, decimal}
-use Rattle.irs_plain.specs.Parts.{joined}
+use Rattle.irs_plain.specs.Parts.{joined_texts}
 
 -- the most parts of a sentence
 abbrev pub most_parts : ℕ
@@ -20,7 +20,7 @@ part_text (Shown name) = shown_front name.now
 
 -- what parts say
 abbrev pub said_by : List Part → List ℕ
-said_by parts = joined (map (λ p. part_text p) parts)
+said_by parts = joined_texts (map (λ p. part_text p) parts)
 
 -- what a sentence says
 abbrev pub said : Sentence → List ℕ

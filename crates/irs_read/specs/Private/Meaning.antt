@@ -4,11 +4,12 @@ use Rattle.irs_base.specs.Days.{first_day}
 use Rattle.irs_base.specs.declared.rounding.Direction.TheVariants.{Nearest}
 use Rattle.irs_elements.specs.Codes.{calculation_method_at, compounding_at, convention_at, day_count_at, day_kind_at}
 use Rattle.irs_elements.specs.Codes.{direction_at}
-use Rattle.irs_elements.specs.Codes.{relative_at, roll_at, stub_kind_at, tenor_unit_at, treatment_at, truth_at, unit_at}
-use Rattle.irs_elements.specs.Dates.{day_at}
-use Rattle.irs_elements.specs.Find.{member, once, text_in, values_in}
+use Rattle.irs_elements.specs.Codes.{relative_at, roll_at, stub_kind_at, tenor_unit_at, treatment_at, truth_at}
+use Rattle.irs_elements.specs.Codes.{period_unit_at}
+use Rattle.irs_elements.specs.Dates.{leaf_date_at}
+use Rattle.irs_elements.specs.Find.{member, once, leaf_text_in, values_in}
 use Rattle.irs_elements.specs.Numbers.{multiplier_at, notional_at, observation_days_at, offset_at, precision_at}
-use Rattle.irs_elements.specs.Numbers.{rate_at}
+use Rattle.irs_elements.specs.Numbers.{leaf_rate_at}
 use Rattle.irs_elements.specs.Words.{currency_at}
 use Rattle.irs_read.specs.Readings.{said}
 use Rattle.irs_read.specs.References.{href_of, lists_of, streams_in, the_one}
@@ -61,16 +62,16 @@ use Rattle.std.specs.Prelude.{unwrap_or, codes}
 
 -- the text of a leaf, empty where there is none
 abbrev pub word_in : Option Data → List ℕ
-word_in o = unwrap_or (text_in o) []
+word_in o = unwrap_or (leaf_text_in o) []
 
 -- a day
 abbrev pub day_in : Option Data → ℤ
-day_in o = unwrap_or (said day_at o) first_day
+day_in o = unwrap_or (said leaf_date_at o) first_day
 
 -- the values of a schedule are notionals or rates
 abbrev pub scale_at : Scale → List ℕ → Option ℤ
 scale_at Notionals = notional_at
-scale_at Rates = rate_at
+scale_at Rates = leaf_rate_at
 
 -- a number in the units of its scale
 abbrev pub number_in : Scale → Option Data → ℤ
@@ -100,7 +101,7 @@ frequency_in o =
     record {
       count = unwrap_or (said multiplier_at (member (codes "periodMultiplier") o)) 1;
       unit =
-          unwrap_or (said unit_at (member (codes "period") o)) D;
+          unwrap_or (said period_unit_at (member (codes "period") o)) D;
     }
 
 -- the tenor of an index
@@ -224,7 +225,7 @@ float_in d = record {
   tenor = option_map tenor_in (once (codes "indexTenor") d);
   multiplier = schedule_or (pos 1_000_000_000) (once (codes "floatingRateMultiplierSchedule") d);
   spread = schedule_or (pos 0) (once (codes "spreadSchedule") d);
-  initial_rate = said rate_at (once (codes "initialRate") d);
+  initial_rate = said leaf_rate_at (once (codes "initialRate") d);
   rounding = rounding_in (places_by (once (codes "calculationParameters") d)) (once (codes "finalRateRounding") d);
   treatment = treatment_in (once (codes "negativeInterestRateTreatment") d);
   parameters = option_map parameters_in (once (codes "calculationParameters") d);
@@ -240,8 +241,8 @@ abbrev pub pay_in : List (Option Data) → Option Data → Option Data → PayTe
 pay_in lists dates o = record {
   calc_ref = reference_in dates (member (codes "calculationPeriodDatesReference") o);
   freq = frequency_in (member (codes "paymentFrequency") o);
-  first = said day_at (member (codes "firstPaymentDate") o);
-  last = said day_at (member (codes "lastRegularPaymentDate") o);
+  first = said leaf_date_at (member (codes "firstPaymentDate") o);
+  last = said leaf_date_at (member (codes "lastRegularPaymentDate") o);
   relative = relative_in (member (codes "payRelativeTo") o);
   offset = offset_in (member (codes "paymentDaysOffset") o);
   adj = adjustments_in lists (member (codes "paymentDatesAdjustments") o);
@@ -297,8 +298,8 @@ stream_parts lists d dates freq calc = record {
   first_start = maybe_dated_in lists (member (codes "firstPeriodStartDate") dates);
   termination = dated_in lists (member (codes "terminationDate") dates);
   period_adj = adjustments_in lists (member (codes "calculationPeriodDatesAdjustments") dates);
-  first_regular = said day_at (member (codes "firstRegularPeriodStartDate") dates);
-  last_regular = said day_at (member (codes "lastRegularPeriodEndDate") dates);
+  first_regular = said leaf_date_at (member (codes "firstRegularPeriodStartDate") dates);
+  last_regular = said leaf_date_at (member (codes "lastRegularPeriodEndDate") dates);
   stub = said stub_kind_at (member (codes "stubPeriodType") dates);
   freq = frequency_in freq;
   roll = unwrap_or (said roll_at (member (codes "rollConvention") freq)) NoRoll;

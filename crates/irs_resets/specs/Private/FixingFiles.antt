@@ -7,7 +7,7 @@ use Rattle.irs_resets.specs.declared.fixings.FixErr.{FixErr}
 use Rattle.irs_resets.specs.declared.fixings.FixErr.TheVariants.{Syntax, Repeat, Memory}
 use Rattle.irs_resets.specs.declared.store.Slot.{Slot}
 use Rattle.irs_resets.specs.Words.{is_passed}
-use Rattle.irs_resets.specs.FixingLines.{Spells}
+use Rattle.irs_resets.specs.FixingLines.{SpellsRate}
 use Rattle.irs_resets.specs.Rates.{RateTable, rate_at}
 use Rattle.irs_resets.specs.Private.Rates.{Adds}
 use Rattle.irs_resets.specs.FixingFiles.{IsBadLine}
@@ -19,14 +19,14 @@ pub record IsSpelt (line : List ℕ) : Type 0 where
   pub index : List ℕ
   pub slot : Slot
   pub rate : ℤ
-  pub spelt : Spells line index slot rate
+  pub spelt : SpellsRate line index slot rate
 
 -- the line spells a fixing whose index, date and tenor have no rate yet
 pub record HasNewRate (table : RateTable) (line : List ℕ) : Type 0 where
   pub index : List ℕ
   pub slot : Slot
   pub rate : ℤ
-  pub spelt : Spells line index slot rate
+  pub spelt : SpellsRate line index slot rate
   pub absent : rate_at table index slot ≡ None
 
 -- the line has a new rate, and the new table has it besides those of the old one
@@ -43,7 +43,7 @@ pub record HasOldRate (table : RateTable) (line : List ℕ) : Type 0 where
   pub index : List ℕ
   pub slot : Slot
   pub rate : ℤ
-  pub spelt : Spells line index slot rate
+  pub spelt : SpellsRate line index slot rate
   pub there : IsSome (rate_at table index slot)
 
 -- the line with this number is at fault after the lines of the table

@@ -12,7 +12,7 @@ use Rattle.irs_observed.specs.declared.overnight_rate.OvernightRate.{OvernightRa
 use Rattle.irs_schedule.specs.declared.entries.PaymentEntry.{PaymentEntry}
 use Rattle.irs_schedule.specs.declared.kept_terms.KeptTerms.{KeptTerms}
 use Rattle.irs_schedule.specs.KeptTerms.{is_floating}
-use Rattle.irs_schedule.specs.Parts.{Covers, HasAmount, IsAmount, IsDatedExchange, IsDatedPayment, IsDatedReset}
+use Rattle.irs_schedule.specs.Parts.{EntriesCover, HasAmount, IsAmount, IsDatedExchange, IsDatedPayment, IsDatedReset}
 use Rattle.irs_schedule.specs.Parts.{Rises}
 use Rattle.irs_schedule.specs.StreamResets.{HasRates}
 
@@ -33,7 +33,7 @@ pub record MakePart (terms : KeptTerms) (unadjusted adjusted : List ℤ) (exchan
   pub exchanges_few : length exchanges ≤ most_exchanges
   pub exchanged : Every (λ x. IsAmount terms.currency x.amount) exchanges
   pub exchange_days : Every IsDatedExchange exchanges
-  pub covers : Covers 1 payments (length unadjusted - 1)
+  pub covers : EntriesCover 1 payments (length unadjusted - 1)
   pub paid : Every (HasAmount terms.currency) payments
   pub payment_days : Every IsDatedPayment payments
   pub resets_count : length resets ≡ (if is_floating terms.leg then length unadjusted - 1 else 0)

@@ -6,7 +6,6 @@ use Rattle.irs_terms.specs.Lawful.{IsLawfulStream}
 use Rattle.irs_terms.specs.declared.results.Span.{Span}
 use Rattle.irs_terms.specs.declared.stream.Stream.{Stream}
 use Rattle.irs_calendar.specs.declared.sections.Section.{Section}
-use Rattle.irs_periods.specs.Outcomes.{regular_span_of}
 use Rattle.irs_resets.specs.Rates.{RateTable}
 use Rattle.irs_resets.specs.Resets.{ResetSource, source_of}
 use Rattle.irs_rules.specs.TermsKept.{TermsKept}
@@ -14,10 +13,6 @@ use Rattle.irs_schedule.specs.DaySets.{fixing_days, reset_days, stream_sets}
 use Rattle.irs_schedule.specs.Outcomes.{stream_of}
 use Rattle.irs_schedule.specs.Parts.{KeepsBounds, Part}
 use Rattle.irs_unfixed.specs.Unfixed.{LacksRate}
-
--- the stream has a regular span, which breaks neither K30 nor K31
-abbrev pub HasSpan : Stream → Type 0
-HasSpan s = (span : Span) × (regular_span_of s).Answers span
 
 -- what the resets of a stream are worked out from, over the boundaries of its part of the schedule
 abbrev pub reset_source : List Section → Stream → Part → Span → ResetSource

@@ -7,9 +7,9 @@ use Rattle.std.specs.Prelude.{MatchOption, length, Option, Some, None, Result, O
 use Rattle.std.specs.Char.{encode_utf8, is_digit, digit_value, to_ascii_lowercase}
 use Rattle.std.specs.Str.{chars, encode_utf8_all}
 use Rattle.serde_json.specs.Data.{Data, string, object, Members, no_members, member}
-use Rattle.irs_xml.specs.Characters.{is_char, is_space, is_white}
+use Rattle.irs_xml.specs.Characters.{is_char, is_white_space, is_white}
 use Rattle.irs_xml.specs.Seen.{seen}
-use Rattle.irs_xml.specs.Comments.{after, is_xml}
+use Rattle.irs_xml.specs.Comments.{rest_after, is_xml}
 use Rattle.irs_xml.specs.Content.{most_attributes}
 use Rattle.irs_xml.specs.Document.{is_fpml, root_key}
 use Rattle.irs_xml.specs.Names.{is_name_start, is_name_char}
@@ -73,12 +73,12 @@ GivesValue view (Err e) read = Fails e read
 -- what is left after the white space at the front, if any
 abbrev pub skip_space : List ℕ → List ℕ
 skip_space [] = []
-skip_space (c ∷ cs) = if is_space c then skip_space cs else c ∷ cs
+skip_space (c ∷ cs) = if is_white_space c then skip_space cs else c ∷ cs
 
 -- what is left after white space, which has to be there
 abbrev pub gap_at : List ℕ → Option (List ℕ)
 gap_at [] = None
-gap_at (c ∷ cs) = if is_space c then Some (skip_space cs) else None
+gap_at (c ∷ cs) = if is_white_space c then Some (skip_space cs) else None
 
 -- names, in UTF-8
 
@@ -118,7 +118,7 @@ NameOf text found =
 unfoldable pub qname_at : List ℕ → Got (List ℕ × List ℕ)
 qname_at cs = do
   first ← name_at cs
-  choose (after (codes ":") first.1) (λ rest. name_at rest >>= λ local. Some ((first.0, local.0), local.1))
+  choose (rest_after (codes ":") first.1) (λ rest. name_at rest >>= λ local. Some ((first.0, local.0), local.1))
       (Some (([], first.0), first.1))
 
 -- references, after `&`
@@ -146,55 +146,55 @@ character_at base cs = number_at base cs >>= λ n. if is_char n.0 then Some n el
 -- a predefined entity, or a character by its hexadecimal or decimal number
 unfoldable pub reference_at : List ℕ → Got ℕ
 reference_at cs =
-    choose (after (codes "lt;") cs) (λ rest. Some (60, rest))
-    (choose (after (codes "gt;") cs) (λ rest. Some (62, rest))
-    (choose (after (codes "amp;") cs) (λ rest. Some (38, rest))
-    (choose (after (codes "apos;") cs) (λ rest. Some (39, rest))
-    (choose (after (codes "quot;") cs) (λ rest. Some (34, rest))
-    (choose (after (codes "#x") cs) (λ rest. character_at 16 rest)
-    (choose (after (codes "#") cs) (λ rest. character_at 10 rest) None))))))
+    choose (rest_after (codes "lt;") cs) (λ rest. Some (60, rest))
+    (choose (rest_after (codes "gt;") cs) (λ rest. Some (62, rest))
+    (choose (rest_after (codes "amp;") cs) (λ rest. Some (38, rest))
+    (choose (rest_after (codes "apos;") cs) (λ rest. Some (39, rest))
+    (choose (rest_after (codes "quot;") cs) (λ rest. Some (34, rest))
+    (choose (rest_after (codes "#x") cs) (λ rest. character_at 16 rest)
+    (choose (rest_after (codes "#") cs) (λ rest. character_at 10 rest) None))))))
 
 -- comments, instructions and CDATA sections, after what opens them
 
 -- after the first place where the mark is
 abbrev pub past : List ℕ → List ℕ → Option (List ℕ)
-past mark [] = after mark []
-past mark (c ∷ cs) = choose (after mark (c ∷ cs)) (λ rest. Some rest) (past mark cs)
+past mark [] = rest_after mark []
+past mark (c ∷ cs) = choose (rest_after mark (c ∷ cs)) (λ rest. Some rest) (past mark cs)
 
 -- what is left after a comment, in which the first `--` has to be its end
 unfoldable pub comment_at : List ℕ → Option (List ℕ)
-comment_at cs = past (codes "--") cs >>= after (codes ">")
+comment_at cs = past (codes "--") cs >>= rest_after (codes ">")
 
 -- what is left after a processing instruction, whose target isn't `xml`
 unfoldable pub instruction_at : List ℕ → Option (List ℕ)
 instruction_at cs = do
   target ← name_at cs
   if is_xml target.0 then None
-      else choose (after (codes "?>") target.1) (λ rest. Some rest) (gap_at target.1 >>= past (codes "?>"))
+      else choose (rest_after (codes "?>") target.1) (λ rest. Some rest) (gap_at target.1 >>= past (codes "?>"))
 
 -- the characters before the first `]]>`, appended to a text
 abbrev pub data_at : List ℕ → List ℕ → Got (List ℕ)
 data_at text [] = None
 data_at text (c ∷ cs) =
-    choose (after (codes "]]>") (c ∷ cs)) (λ rest. Some (text, rest)) (data_at (text ++ encode_utf8 c) cs)
+    choose (rest_after (codes "]]>") (c ∷ cs)) (λ rest. Some (text, rest)) (data_at (text ++ encode_utf8 c) cs)
 
 -- tags, after `<`
 
 -- `=` with white space round it
 unfoldable pub equals_at : List ℕ → Option (List ℕ)
-equals_at cs = after (codes "=") (skip_space cs) >>= λ rest. Some (skip_space rest)
+equals_at cs = rest_after (codes "=") (skip_space cs) >>= λ rest. Some (skip_space rest)
 
 -- `'` or `"`
 unfoldable pub quote_at : List ℕ → Got ℕ
 quote_at cs =
-    choose (after (codes "'") cs) (λ rest. Some (39, rest))
-    (choose (after (34 ∷ []) cs) (λ rest. Some (34, rest)) None)
+    choose (rest_after (codes "'") cs) (λ rest. Some (39, rest))
+    (choose (rest_after (34 ∷ []) cs) (λ rest. Some (34, rest)) None)
 
 -- a character of a value, and what follows it: a plain character, or one that a reference names
 unfoldable pub value_character_at : ℕ → List ℕ → Got ℕ
 value_character_at c cs =
     if c == 60 then None
-    else (if c == 38 then reference_at cs else Some (if is_space c then 32 else c, cs))
+    else (if c == 38 then reference_at cs else Some (if is_white_space c then 32 else c, cs))
 
 -- the rest of a value, appended to what was read of it; n is the most characters that are looked at
 unfoldable pub value_at : ℕ → ℕ → List ℕ → List ℕ → Got (List ℕ)
@@ -216,8 +216,8 @@ setting_at cs = do
 -- the end of a tag, and whether it is of an empty element
 unfoldable pub tag_end_at : List ℕ → Got Bool
 tag_end_at cs =
-    choose (after (codes ">") cs) (λ rest. Some (false, rest))
-    (choose (after (codes "/>") cs) (λ rest. Some (true, rest)) None)
+    choose (rest_after (codes ">") cs) (λ rest. Some (false, rest))
+    (choose (rest_after (codes "/>") cs) (λ rest. Some (true, rest)) None)
 
 -- the attributes of a tag after those that were read, of which n more are allowed, and how the tag ends
 unfoldable pub settings_at : ℕ → List Setting → List ℕ → Got (List Setting × Bool)
@@ -236,12 +236,12 @@ tag_at cs = do
 -- a name, given by what it says in UTF-8
 unfoldable pub closing_name_at : List ℕ → List ℕ → List ℕ → Option (List ℕ)
 closing_name_at prefix local cs =
-    if length prefix == 0 then after (seen local) cs
-    else (after (seen prefix) cs >>= after (codes ":") >>= after (seen local))
+    if length prefix == 0 then rest_after (seen local) cs
+    else (rest_after (seen prefix) cs >>= rest_after (codes ":") >>= rest_after (seen local))
 
 -- the end of an end tag, after `</`
 unfoldable pub closing_at : Opening → List ℕ → Option (List ℕ)
-closing_at o cs = closing_name_at o.prefix o.local cs >>= λ rest. after (codes ">") (skip_space rest)
+closing_at o cs = closing_name_at o.prefix o.local cs >>= λ rest. rest_after (codes ">") (skip_space rest)
 
 -- content
 
@@ -258,10 +258,10 @@ pub data Mark : Type 0 where
 -- after `<`
 unfoldable pub markup_at : List ℕ → Got Mark
 markup_at cs =
-    choose (after (codes "/") cs) (λ rest. Some (ending, rest))
-    (choose (after (codes "!--") cs) (λ rest. Some (commented, rest))
-    (choose (after (codes "![CDATA[") cs) (λ rest. Some (sectioned, rest))
-    (choose (after (codes "?") cs) (λ rest. Some (instructed, rest)) (Some (nested, cs)))))
+    choose (rest_after (codes "/") cs) (λ rest. Some (ending, rest))
+    (choose (rest_after (codes "!--") cs) (λ rest. Some (commented, rest))
+    (choose (rest_after (codes "![CDATA[") cs) (λ rest. Some (sectioned, rest))
+    (choose (rest_after (codes "?") cs) (λ rest. Some (instructed, rest)) (Some (nested, cs)))))
 
 -- the next mark of content: `<` and what it begins, `&`, or a character; not `]]>`
 unfoldable pub mark_at : List ℕ → Got Mark
@@ -269,7 +269,7 @@ mark_at [] = None
 mark_at (c ∷ cs) =
     if c == 60 then markup_at cs
     else (if c == 38 then Some (referred, cs)
-    else (if c == 93 then choose (after (codes "]>") cs) (λ rest. None) (Some (standing 93, cs))
+    else (if c == 93 then choose (rest_after (codes "]>") cs) (λ rest. None) (Some (standing 93, cs))
     else Some (standing c, cs)))
 
 -- what was read of an element: its text, its members, and whether it has a child
@@ -360,11 +360,11 @@ quoted_at word cs = do
   behind ← equals_at cs
   quote ← quote_at behind
   rest ← word quote.1
-  after (quote.0 ∷ []) rest
+  rest_after (quote.0 ∷ []) rest
 
 -- the version, `1.0`
 abbrev pub version_at : List ℕ → Option (List ℕ)
-version_at cs = after (codes "1.0") cs
+version_at cs = rest_after (codes "1.0") cs
 
 -- the encoding, `UTF-8` in any case
 abbrev pub encoding_at : List ℕ → Option (List ℕ)
@@ -372,11 +372,11 @@ encoding_at cs = after_any_case (codes "utf-8") cs
 
 -- whether the document is standalone: `yes` or `no`
 abbrev pub standalone_at : List ℕ → Option (List ℕ)
-standalone_at cs = choose (after (codes "yes") cs) (λ rest. Some rest) (after (codes "no") cs)
+standalone_at cs = choose (rest_after (codes "yes") cs) (λ rest. Some rest) (rest_after (codes "no") cs)
 
 -- a name after white space
 abbrev pub name_behind : List ℕ → List ℕ → Option (List ℕ)
-name_behind name cs = gap_at cs >>= after name
+name_behind name cs = gap_at cs >>= rest_after name
 
 -- a name and its word, where the name is there after white space
 unfoldable pub pair_at : List ℕ → (List ℕ → Option (List ℕ)) → List ℕ → Option (List ℕ)
@@ -385,12 +385,12 @@ pair_at name word cs = choose (name_behind name cs) (λ rest. quoted_at word res
 -- the XML declaration after its `<?xml` and white space
 unfoldable pub declared_at : List ℕ → Option (List ℕ)
 declared_at cs =
-    after (codes "version") cs >>= quoted_at version_at >>= pair_at (codes "encoding") encoding_at
-    >>= pair_at (codes "standalone") standalone_at >>= λ rest. after (codes "?>") (skip_space rest)
+    rest_after (codes "version") cs >>= quoted_at version_at >>= pair_at (codes "encoding") encoding_at
+    >>= pair_at (codes "standalone") standalone_at >>= λ rest. rest_after (codes "?>") (skip_space rest)
 
 -- `<?xml` and white space
 abbrev pub opening_at : List ℕ → Option (List ℕ)
-opening_at cs = after (codes "<?xml") cs >>= gap_at
+opening_at cs = rest_after (codes "<?xml") cs >>= gap_at
 
 -- what is left after the XML declaration, if there is one
 unfoldable pub declaration_at : List ℕ → Option (List ℕ)
@@ -400,8 +400,8 @@ declaration_at cs = choose (opening_at cs) (λ rest. declared_at rest) (Some cs)
 unfoldable pub misc_at : ℕ → List ℕ → Option (List ℕ)
 misc_at zero cs = None
 misc_at (suc n) cs =
-    choose (after (codes "<!--") (skip_space cs)) (λ rest. comment_at rest >>= misc_at n)
-    (choose (after (codes "<?") (skip_space cs)) (λ rest. instruction_at rest >>= misc_at n) (Some (skip_space cs)))
+    choose (rest_after (codes "<!--") (skip_space cs)) (λ rest. comment_at rest >>= misc_at n)
+    (choose (rest_after (codes "<?") (skip_space cs)) (λ rest. instruction_at rest >>= misc_at n) (Some (skip_space cs)))
 
 -- the value of the root by its member
 abbrev pub as_root : Opening → Child × List ℕ → Got Data
@@ -431,7 +431,7 @@ unfoldable pub document_at : List ℕ → Option Data
 document_at cs = do
   behind ← declaration_at cs
   front ← misc_at (suc (length behind)) behind
-  rest ← after (codes "<") front
+  rest ← rest_after (codes "<") front
   value ← root_at rest
   end ← misc_at (suc (length value.1)) value.1
   ended value.0 end

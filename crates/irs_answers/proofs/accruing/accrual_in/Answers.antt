@@ -13,7 +13,8 @@ use Rattle.irs_schedule.specs.Parts.{KeepsBounds, Part}
 use Rattle.irs_schedule.specs.Schedules.{IsPart}
 use Rattle.irs_terms.specs.Lawful.{IsLawfulStream}
 use Rattle.irs_terms.specs.declared.stream.Stream.{Stream}
-use Rattle.irs_accrue.specs.DailyAccruals.{HasSpan, IsAccrualOf}
+use Rattle.irs_periods.specs.Outcomes.{HasSpan}
+use Rattle.irs_accrue.specs.DailyAccruals.{IsAccrualOf}
 use Rattle.irs_accrue.specs.declared.accruals.Accrual.{Accrual}
 use Rattle.irs_accrue.proofs.OneDaily.{one_accrual_of}
 use Rattle.irs_answers.specs.Accrued.{AccruesAt, Accruing, accruing}

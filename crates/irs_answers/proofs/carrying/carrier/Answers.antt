@@ -1,4 +1,4 @@
-use Rattle.irs_answers.specs.Forms.{no_text, xml_text}
+use Rattle.irs_answers.specs.Forms.{no_source_text, xml_text}
 use Rattle.irs_answers.proofs.CarrierLemmas.{refused_carries}
 use Rattle.irs_answers.proofs.UnreadLemmas.{reply_placed}
 use Rattle.irs_answers.proofs.carrying.carrier.Goals as goal
@@ -9,5 +9,5 @@ returns-in-Err-clause-reads_back c =
 
 pub returns-in-Err-clause-placed : goal.returns-in-Err-clause-placed
 returns-in-Err-clause-placed c =
-    reply_placed (xml_text c.args.bytes.now) no_text c.reply.result c.in-Err.refusal c.reply.ensures.refused
+    reply_placed (xml_text c.args.bytes.now) no_source_text c.reply.result c.in-Err.refusal c.reply.ensures.refused
     c.in-Err.ensures.placed

@@ -1,5 +1,5 @@
 use Rattle.serde_json.specs.View.{view}
-use Rattle.irs_answers.specs.Forms.{no_text, xml_text}
+use Rattle.irs_answers.specs.Forms.{no_source_text, xml_text}
 use Rattle.irs_answers.specs.Outcomes.{of_read}
 use Rattle.irs_answers.proofs.CarrierLemmas.{Carries, carries, refuse_carrier}
 use Rattle.irs_answers.proofs.StepLemmas.{answered_by}
@@ -19,8 +19,8 @@ returns-in_err-value-clause-placed c =
     let e = c.in_err-value.field-0.0 in
     let made = c.from_residual in
     let document = xml_text c.args.bytes.now in
-    placed_by document no_text made.result (of_read e) made.ensures.0 made.ensures.1
-    (read_placed document no_text e c.in_err-value.ensures.fails)
+    placed_by document no_source_text made.result (of_read e) made.ensures.0 made.ensures.1
+    (read_placed document no_source_text e c.in_err-value.ensures.fails)
 
 pub returns-clause-due : goal.returns-clause-due
 returns-clause-due c =

@@ -5,7 +5,7 @@ use Rattle.irs_answers.specs.Forms.{source_by}
 use Rattle.irs_answers.specs.Found.{facts_by}
 use Rattle.irs_answers.specs.Given.{given_with}
 use Rattle.irs_answers.specs.Outcomes.{Ends, IfRefused}
-use Rattle.irs_answers.specs.Unread.{IsPlaced}
+use Rattle.irs_answers.specs.Unread.{IsPlacedRefusal}
 use Rattle.irs_answers.proofs.CauseLemmas.{caused_by}
 use Rattle.irs_answers.proofs.DueLemmas.{passed_answer}
 use Rattle.irs_answers.proofs.NoteLemmas.{carried_noted, made_by_passing}
@@ -21,7 +21,7 @@ pub returns-in_err-found-clause-unread : goal.returns-in_err-found-clause-unread
 returns-in_err-found-clause-unread c =
     let made = c.from_residual in
     let files = c.args.files.now in
-    refused_by made.result c.in_err-found.field-0.0 (IsPlaced (source_by files.document) (source_by files.flows))
+    refused_by made.result c.in_err-found.field-0.0 (IsPlacedRefusal (source_by files.document) (source_by files.flows))
     made.ensures.0 made.ensures.1 c.in_err-found.ensures.placed
 
 pub returns-in_err-note-clause-refused : goal.returns-in_err-note-clause-refused
@@ -34,7 +34,7 @@ pub returns-in_err-note-clause-unread : goal.returns-in_err-note-clause-unread
 returns-in_err-note-clause-unread c =
     let made = c.from_residual-in_err-note in
     let files = c.args.files.now in
-    refused_by made.result Memory (IsPlaced (source_by files.document) (source_by files.flows))
+    refused_by made.result Memory (IsPlacedRefusal (source_by files.document) (source_by files.flows))
     made.ensures.0 made.ensures.1 tt
 
 pub returns-in_err-reply-clause-refused : goal.returns-in_err-reply-clause-refused
@@ -50,7 +50,7 @@ pub returns-in_err-reply-clause-unread : goal.returns-in_err-reply-clause-unread
 returns-in_err-reply-clause-unread c =
     let made = c.from_residual-in_err-reply in
     let files = c.args.files.now in
-    refused_by made.result c.in_err-reply.field-0.0 (IsPlaced (source_by files.document) (source_by files.flows))
+    refused_by made.result c.in_err-reply.field-0.0 (IsPlacedRefusal (source_by files.document) (source_by files.flows))
     made.ensures.0 made.ensures.1 c.in_err-reply.ensures.placed
 
 pub returns-clause-due : goal.returns-clause-due

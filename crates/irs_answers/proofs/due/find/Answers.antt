@@ -2,11 +2,11 @@ use Rattle.serde_json.specs.Data.{Data}
 use Rattle.serde_json.specs.View.{view}
 use Rattle.irs_calendar.specs.Grammar.{CalFiles}
 use Rattle.irs_answers.specs.declared.refusals.Refusal.TheVariants.{Rule, Calendars, Fixings}
-use Rattle.irs_answers.specs.Due.{DueFor, Spells, facts}
+use Rattle.irs_answers.specs.Due.{DueFor, SpellsTask, facts}
 use Rattle.irs_answers.specs.Forms.{source_by}
 use Rattle.irs_answers.specs.Given.{given_with}
 use Rattle.irs_answers.specs.Outcomes.{IfRefused, Ends, of_read, of_stopped}
-use Rattle.irs_answers.specs.Unread.{IsPlaced}
+use Rattle.irs_answers.specs.Unread.{IsPlacedRefusal}
 use Rattle.irs_answers.proofs.DueLemmas.{passes_by, refuse_text, refuse_read, refuse_sides, refuse_calendars}
 use Rattle.irs_answers.proofs.DueLemmas.{refuse_fixings, refuse_rules}
 use Rattle.irs_answers.proofs.StepLemmas.{refused_by}
@@ -28,7 +28,7 @@ returns-in_err-document-clause-placed c =
     let made = c.from_residual in
     let document = source_by c.args.files.now.document in
     let flows = source_by c.args.files.now.flows in
-    refused_by made.result (of_read e) (IsPlaced document flows) made.ensures.0 made.ensures.1
+    refused_by made.result (of_read e) (IsPlacedRefusal document flows) made.ensures.0 made.ensures.1
     (read_placed document flows e c.in_err-document.ensures.fails)
 
 pub returns-in_err-swap-clause-refused : goal.returns-in_err-swap-clause-refused
@@ -48,7 +48,7 @@ returns-in_err-swap-clause-placed c =
     let made = c.from_residual-in_err-swap in
     let document = source_by c.args.files.now.document in
     let flows = source_by c.args.files.now.flows in
-    refused_by made.result (of_stopped e) (IsPlaced document flows) made.ensures.0 made.ensures.1
+    refused_by made.result (of_stopped e) (IsPlacedRefusal document flows) made.ensures.0 made.ensures.1
     (stopped_placed document flows e)
 
 pub returns-in_err-sides-clause-refused : goal.returns-in_err-sides-clause-refused
@@ -72,7 +72,7 @@ returns-in_err-calendars-clause-refused c =
     let v : Data = view c.in_ok-document.document in
     let swap = c.in_ok-swap.swap in
     let sides = c.in_ok-sides.sides in
-    let spells : Spells t g.document swap sides =
+    let spells : SpellsTask t g.document swap sides =
     record {
       value = v;
       reads =
@@ -94,7 +94,7 @@ returns-in_err-fixings-clause-refused c =
     let swap = c.in_ok-swap.swap in
     let sides = c.in_ok-sides.sides in
     let cal = c.in_ok-calendars.calendars.now in
-    let spells : Spells t g.document swap sides =
+    let spells : SpellsTask t g.document swap sides =
     record {
       value = v;
       reads =
@@ -117,7 +117,7 @@ returns-in_err-schedule-clause-refused c =
     let swap = c.in_ok-swap.swap in
     let sides = c.in_ok-sides.sides in
     let cal = c.in_ok-calendars.calendars.now in
-    let spells : Spells t g.document swap sides =
+    let spells : SpellsTask t g.document swap sides =
     record {
       value = v;
       reads =
@@ -137,7 +137,7 @@ returns-in_err-schedule-clause-placed c =
     let made = c.from_residual-in_err-schedule in
     let document = source_by c.args.files.now.document in
     let flows = source_by c.args.files.now.flows in
-    refused_by made.result e (IsPlaced document flows) made.ensures.0 made.ensures.1
+    refused_by made.result e (IsPlacedRefusal document flows) made.ensures.0 made.ensures.1
     (c.in_err-schedule.ensures.placed document flows)
 
 pub returns-clause-passes : goal.returns-clause-passes
@@ -148,7 +148,7 @@ returns-clause-passes c =
     let swap = c.in_ok-swap.swap in
     let sides = c.in_ok-sides.sides in
     let cal = c.in_ok-calendars.calendars.now in
-    let spells : Spells t g.document swap sides =
+    let spells : SpellsTask t g.document swap sides =
     record {
       value = v;
       reads =

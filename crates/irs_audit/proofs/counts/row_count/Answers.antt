@@ -1,11 +1,11 @@
 use Rattle.std.proofs.Common.{rules}
 use Rattle.std.proofs.lemmas.Iterator.{YieldsList-from_map, YieldsList-from_slice}
 use Rattle.std.proofs.lemmas.Iterator.Consumers.{YieldsList-at, sum_by_from_yields_List}
-use Rattle.irs_audit.specs.Verdicts.{stream_rows}
+use Rattle.irs_audit.specs.Verdicts.{stream_row_count}
 use Rattle.irs_audit.proofs.counts.row_count.Goals as goal
 
 pub returns : goal.returns
-returns c = sum_by_from_yields_List stream_rows c.args.parts.now c.map.result c.sum.result c.sum.ensures.ran
-    (YieldsList-from_map _ stream_rows
+returns c = sum_by_from_yields_List stream_row_count c.args.parts.now c.map.result c.sum.result c.sum.ensures.ran
+    (YieldsList-from_map _ stream_row_count
     (YieldsList-at c.map.ensures.source (YieldsList-from_slice c.args.parts.now c.iter.ensures.rest))
     c.map.ensures.closure (λ x r q k. search rules))

@@ -1,5 +1,5 @@
 use Rattle.irs_audit.proofs.flow_faults.each_stream_fault.Goals as goal
-use Rattle.irs_audit.specs.FlowFaults.{StreamFault}
+use Rattle.irs_audit.specs.FlowFaults.{FlowStreamFault}
 use Rattle.irs_read.proofs.Each.{each_all, each_step}
 use Rattle.serde_json.specs.View.{view}
 use Rattle.std.proofs.Common.{◌≡◌, ◌+◌, length, map, Some, refl, arith}
@@ -12,10 +12,10 @@ loop-j-preserved c =
     let found : slice_get c.args.list.now c.loop-j.j ≡ Some c.index-list-j.result =
     slice_get_read c.args.list.now (length c.args.list.now) c.loop-j.j c.index-list-j.result refl c.loop-j-test.true
     c.index-list-j.is in
-    each_step (λ j. StreamFault (j + 1)) c.args.list.now c.loop-j.j c.index-list-j.result _ _ _ found
+    each_step (λ j. FlowStreamFault (j + 1)) c.args.list.now c.loop-j.j c.index-list-j.result _ _ _ found
     c.earlier-first.ensures c.loop-j.invariant c.stream_fault.ensures
 
 pub returns : goal.returns
 returns c =
     let last : c.loop-j.j ≡ length (map view c.args.list.now) = omega (arith, length-map c.args.list.now view) in
-    each_all (λ j. StreamFault (j + 1)) (map view c.args.list.now) _ (rw last at c.loop-j.invariant)
+    each_all (λ j. FlowStreamFault (j + 1)) (map view c.args.list.now) _ (rw last at c.loop-j.invariant)

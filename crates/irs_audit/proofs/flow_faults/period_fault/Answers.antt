@@ -1,8 +1,8 @@
 use Rattle.irs_audit.proofs.FlowLaws.{period_first}
 use Rattle.irs_audit.proofs.FlowSteps.{fault_if_first}
 use Rattle.irs_audit.proofs.flow_faults.period_fault.Goals as goal
-use Rattle.irs_audit.specs.FlowFaults.{FaultIf, PeriodFault, at, has_both_rates}
-use Rattle.irs_audit.specs.FlowLines.{period_names, period_rows}
+use Rattle.irs_audit.specs.FlowFaults.{FaultIf, PeriodFault, flow_broken_at, has_both_rates}
+use Rattle.irs_audit.specs.FlowLines.{period_names, period_table_rows}
 use Rattle.irs_audit.specs.declared.flow_table.TheConstants.{PERIOD}
 use Rattle.irs_base.specs.Elements.{flow_period}
 use Rattle.irs_base.specs.declared.places.Rule.TheVariants.{K7}
@@ -14,8 +14,8 @@ pub returns : goal.returns
 returns c =
     let d = view c.args.v.now in
     first_is (PeriodFault c.args.stream c.args.number d) _ c.earlier.result c.earlier.ensures
-    (first_or (FaultAt period_rows period_names c.args.stream 0 PERIOD c.args.number d)
-    (FaultIf (has_both_rates d) (at c.args.stream K7 flow_period)) c.first_fault-own.result c.both_rates_fault.result
+    (first_or (FaultAt period_table_rows period_names c.args.stream 0 PERIOD c.args.number d)
+    (FaultIf (has_both_rates d) (flow_broken_at c.args.stream K7 flow_period)) c.first_fault-own.result c.both_rates_fault.result
     (period_first _ _ _ _ _ _ c.first_fault-own.ensures)
-    (fault_if_first (has_both_rates d) (at c.args.stream K7 flow_period) c.both_rates_fault.result
+    (fault_if_first (has_both_rates d) (flow_broken_at c.args.stream K7 flow_period) c.both_rates_fault.result
     c.both_rates_fault.ensures))

@@ -4,7 +4,7 @@ use Rattle.irs_audit.proofs.FlowStated.{flows_stated}
 use Rattle.irs_audit.proofs.flow_reader.read_flows.Goals as goal
 use Rattle.irs_audit.specs.FlowFaults.{ended}
 use Rattle.irs_audit.specs.FlowOutcomes.{HidesNone}
-use Rattle.irs_audit.specs.FlowReading.{IsFirstFault}
+use Rattle.irs_audit.specs.FlowReading.{IsFirstFlowFault}
 use Rattle.irs_audit.specs.declared.error.FlowErr.{FlowErr}
 use Rattle.serde_json.specs.View.{view}
 use Rattle.std.proofs.Common.{subst, sym}
@@ -17,7 +17,7 @@ shape-requires-in-Err c = absurd (c.in_default.ensures c.in-Err.fault (ended c.i
 
 pub returns-in-Some-clause-fault : goal.returns-in-Some-clause-fault
 returns-in-Some-clause-fault c =
-    subst (λ (e : FlowErr). IsFirstFault (view c.args.v.now) e) (sym c.shape.ensures)
+    subst (λ (e : FlowErr). IsFirstFlowFault (view c.args.v.now) e) (sym c.shape.ensures)
     (first_shape (view c.args.v.now) c.in-Some.fault c.in-Some.ensures)
 
 pub flows_of-requires : goal.flows_of-requires

@@ -1,7 +1,7 @@
 use Rattle.std.proofs.Common.{◌≡◌, ◌+◌, ◌*◌, ◌<◌, ◌≤◌, length, rules, arith, FitsSigned, to_z, ◌+ℤ◌, unsigned_abs, ◌∙◌}
 use Rattle.std.specs.Int.{w128}
 use Rattle.std.proofs.lemmas.Int.{to_z-of_z}
-use Rattle.irs_audit.specs.Sums.{known_or_zero, most_amount}
+use Rattle.irs_audit.specs.Sums.{known_or_zero, most_stated_amount}
 use Rattle.irs_audit.proofs.BoundLemmas.{payments_few}
 use Rattle.irs_audit.proofs.SumLemmas.{paid_more}
 use Rattle.irs_audit.proofs.summing.paid.Goals as goal
@@ -15,8 +15,8 @@ sum-total-requires c =
     let low : c.loop-y.y-index < length c.args.part.now.payments =
     rw (← c.payments-y-items.ensures.value) c.loop-y-test.true in
     let so_far : unsigned_abs (to_z w128 c.loop-y.total-bits)
-    ≤ unsigned_abs c.args.before + c.loop-y.y-index * most_amount = simp to_z-of_z at c.loop-y.invariant.size in
-    let one : unsigned_abs c.known_or_zero.result ≤ most_amount = c.known_or_zero.ensures.size in
+    ≤ unsigned_abs c.args.before + c.loop-y.y-index * most_stated_amount = simp to_z-of_z at c.loop-y.invariant.size in
+    let one : unsigned_abs c.known_or_zero.result ≤ most_stated_amount = c.known_or_zero.ensures.size in
     simp to_z-of_z (omega (arith, few, count, low, so_far, c.requires, one))
 
 pub loop-y-preserved : goal.loop-y-preserved
@@ -25,8 +25,8 @@ loop-y-preserved c =
     let fk : FitsSigned w128 c.known_or_zero.result = search rules in
     let fs : FitsSigned w128 c.sum-total.result = search rules in
     let so_far : unsigned_abs (to_z w128 c.loop-y.total-bits)
-    ≤ unsigned_abs c.args.before + c.loop-y.y-index * most_amount = simp to_z-of_z at c.loop-y.invariant.size in
-    let one : unsigned_abs c.known_or_zero.result ≤ most_amount = c.known_or_zero.ensures.size in
+    ≤ unsigned_abs c.args.before + c.loop-y.y-index * most_stated_amount = simp to_z-of_z at c.loop-y.invariant.size in
+    let one : unsigned_abs c.known_or_zero.result ≤ most_stated_amount = c.known_or_zero.ensures.size in
     let size : unsigned_abs c.sum-total.result ≤ unsigned_abs (to_z w128 c.loop-y.total-bits)
     + unsigned_abs c.known_or_zero.result = simp to_z-of_z at c.sum-total.ensures.size in
     let known : c.known_or_zero.result ≡ known_or_zero c.y-item.result.amount = c.known_or_zero.ensures.value in
@@ -47,5 +47,5 @@ returns-clause-size c =
     let within : c.loop-y.y-index ≤ length c.args.part.now.payments =
     rw (← c.payments-y-items.ensures.value) c.loop-y.auto.y-index-end in
     let so_far : unsigned_abs (to_z w128 c.loop-y.total-bits)
-    ≤ unsigned_abs c.args.before + c.loop-y.y-index * most_amount = simp to_z-of_z at c.loop-y.invariant.size in
+    ≤ unsigned_abs c.args.before + c.loop-y.y-index * most_stated_amount = simp to_z-of_z at c.loop-y.invariant.size in
     omega (arith, few, count, within, so_far)

@@ -2,7 +2,7 @@ use Rattle.std.proofs.Common.{◌≡◌, ◌+◌, ◌*◌, ◌<◌, ◌≤◌, l
 use Rattle.std.specs.Prelude.{slice_get, IfSome}
 use Rattle.std.specs.Int.{w128}
 use Rattle.std.proofs.lemmas.Int.{to_z-of_z}
-use Rattle.irs_audit.specs.Sums.{most_amount}
+use Rattle.irs_audit.specs.Sums.{most_stated_amount}
 use Rattle.irs_audit.proofs.SumLemmas.{days_more}
 use Rattle.irs_audit.proofs.summing.stream_days.Goals as goal
 
@@ -14,9 +14,9 @@ loop-place-preserved c =
     let low : c.loop-place.place < length c.args.part.now.periods =
     rw (← c.periods-place-end.ensures.count) c.loop-place-test.true in
     let so_far : unsigned_abs (to_z w128 c.loop-place.days-bits)
-    ≤ unsigned_abs c.args.before + c.loop-place.place * most_amount =
+    ≤ unsigned_abs c.args.before + c.loop-place.place * most_stated_amount =
     simp to_z-of_z at c.loop-place.invariant.size in
-    let one : unsigned_abs c.days_at.result ≤ most_amount = c.days_at.ensures.size in
+    let one : unsigned_abs c.days_at.result ≤ most_stated_amount = c.days_at.ensures.size in
     let there : IfSome (slice_get c.args.part.now.periods c.loop-place.place) (λ e. c.days_at.result ≡ e.days) =
     c.days_at.ensures.value in
     let size : unsigned_abs c.sum-days.result ≤ unsigned_abs (to_z w128 c.loop-place.days-bits)

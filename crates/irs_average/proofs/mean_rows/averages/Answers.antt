@@ -2,7 +2,7 @@ use Rattle.std.proofs.Common.{ℕ}
 use Rattle.std.proofs.lemmas.Result.{IfOk-weaker}
 use Rattle.irs_base.specs.Order.{First}
 use Rattle.irs_base.proofs.HandedAnswers.{handed_back}
-use Rattle.irs_overnight.specs.DerivedRules.{NotAfter, derived_before}
+use Rattle.irs_overnight.specs.DerivedRules.{FixingNotAfter, derived_before}
 use Rattle.irs_average.specs.MeanRules.{BreaksMeans, BreaksSamples}
 use Rattle.irs_average.specs.MeanSources.{MeanSource, averaging_by, mean_source, own_lines}
 use Rattle.irs_average.proofs.MeanOrder.{first_of_samples, means_kept}
@@ -14,7 +14,7 @@ returns-clause-kept g c =
     mean_source c.args.part.now
     (averaging_by c.args.kind c.args.step (g.G.GoodDays.days c.args.days.now)
     (own_lines c.args.fix.now c.args.float.now)) in
-    let rising : (n : ℕ) → NotAfter source.resets n → ⊥ = rw c.resets.ensures.value at c.in_default.ensures in
+    let rising : (n : ℕ) → FixingNotAfter source.resets n → ⊥ = rw c.resets.ensures.value at c.in_default.ensures in
     IfOk-weaker c.mean_rows.result _ _ (λ _ samples. means_kept source rising samples) c.mean_rows.ensures.kept
 
 pub returns-clause-broken : goal.returns-clause-broken
@@ -23,7 +23,7 @@ returns-clause-broken g c =
     mean_source c.args.part.now
     (averaging_by c.args.kind c.args.step (g.G.GoodDays.days c.args.days.now)
     (own_lines c.args.fix.now c.args.float.now)) in
-    let rising : (n : ℕ) → NotAfter source.resets n → ⊥ = rw c.resets.ensures.value at c.in_default.ensures in
+    let rising : (n : ℕ) → FixingNotAfter source.resets n → ⊥ = rw c.resets.ensures.value at c.in_default.ensures in
     handed_back c.mean_rows.result (First derived_before (BreaksSamples source))
     (First derived_before (BreaksMeans source)) (λ f first. first_of_samples source rising f first)
     c.mean_rows.ensures.broken

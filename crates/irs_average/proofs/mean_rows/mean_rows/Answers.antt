@@ -6,7 +6,7 @@ use Rattle.irs_base.proofs.MemberLemmas.{numbered_push}
 use Rattle.irs_overnight.specs.DerivedRules.{derived_before}
 use Rattle.irs_overnight.specs.Private.FileLaw.{IsInRange}
 use Rattle.irs_average.specs.MeanRows.{IsMeanRow}
-use Rattle.irs_average.specs.MeanRules.{BreaksSamples, LacksDay}
+use Rattle.irs_average.specs.MeanRules.{BreaksSamples, LacksSampleDay}
 use Rattle.irs_average.specs.MeanSources.{MeanSource, averaging_by, mean_period_at, mean_source, own_lines}
 use Rattle.irs_average.proofs.MeanOrder.{first_lacking}
 use Rattle.irs_average.proofs.mean_rows.mean_rows.Goals as goal
@@ -19,7 +19,7 @@ returns-in_default-clause-broken g c =
     (own_lines c.args.fix.now c.args.float.now)) in
     let number = c.loop-number.number in
     let within : number < length source.adjusted = rw c.adjusted-number-end.ensures.value at c.loop-number-test.true in
-    let lacks : LacksDay (mean_period_at source number) = rw c.in_default.is at c.in_ok-found.ensures.none in
+    let lacks : LacksSampleDay (mean_period_at source number) = rw c.in_default.is at c.in_ok-found.ensures.none in
     subst (First derived_before (BreaksSamples source)) (sym c.lacking.ensures)
     (first_lacking source number (c.loop-number.auto.number, within) lacks c.loop-number.invariant.kept)
 
@@ -34,7 +34,7 @@ loop-number-preserved g c =
     let within : number < length source.adjusted = rw c.adjusted-number-end.ensures.value at c.loop-number-test.true in
     let is : IsMeanRow source number row = rw c.in-Some.is at c.in_ok-found.ensures.some in
     let range : IsInRange row = rw c.in-Some.is at c.in_ok-found.ensures.range in
-    let unbroken : LacksDay (mean_period_at source number) → ⊥ = rw c.in-Some.is at c.in_ok-found.ensures.unbroken in
+    let unbroken : LacksSampleDay (mean_period_at source number) → ⊥ = rw c.in-Some.is at c.in_ok-found.ensures.unbroken in
     let next : 1 + length c.loop-number.rows ≡ number = omega (arith, c.loop-number.invariant.many) in
     rw c.in_ok-push.ensures.ok (record {
       many = omega (arith, length-append c.loop-number.rows (row ∷ []), c.loop-number.invariant.many);
@@ -45,6 +45,6 @@ loop-number-preserved g c =
         | inl less ↦ c.loop-number.invariant.kept j p less
         | inr more ↦
             let here : j ≡ number = omega (arith, low, more) in
-            subst (λ (n : ℕ). LacksDay (mean_period_at source n) → ⊥) (sym here) unbroken
+            subst (λ (n : ℕ). LacksSampleDay (mean_period_at source n) → ⊥) (sym here) unbroken
       ];
     })

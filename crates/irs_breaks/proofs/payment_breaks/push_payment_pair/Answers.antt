@@ -3,7 +3,7 @@ use Rattle.std.specs.Prelude.{◌==◌}
 use Rattle.irs_terms.specs.declared.currency.Currency.{Currency}
 use Rattle.irs_breaks.specs.Fields.{payment_fields}
 use Rattle.irs_breaks.specs.Private.Findings.{Adds}
-use Rattle.irs_breaks.specs.RowFindings.{ArePayments, ArePeriodsOf}
+use Rattle.irs_breaks.specs.RowFindings.{FindsPayment, ArePeriodsOf}
 use Rattle.std.proofs.lemmas.Result.{on_ok_weaker}
 use Rattle.irs_breaks.proofs.PaymentsTold.{bare_told, is_bare, not_bare, payments_told, periods_told}
 use Rattle.irs_breaks.proofs.payment_breaks.push_payment_pair.Goals as goal
@@ -27,7 +27,7 @@ returns-else-bare c =
     ∙ ap (λ (k : Currency). payment_fields k c.args.x.now c.args.y.now) c.currency.ensures in
     on_ok_weaker {P = Adds (ArePeriodsOf c.args.place.now.stream c.args.part.now c.args.flow.now c.args.x.now c.args.start
     c.args.y.now) c.push_fields.new.list c.push_periods.new.list}
-    {Q = Adds (ArePayments c.args.place.now c.args.part.now c.args.flow.now c.args.start c.args.x.now c.args.y.now)
+    {Q = Adds (FindsPayment c.args.place.now c.args.part.now c.args.flow.now c.args.start c.args.x.now c.args.y.now)
     c.args.list.now c.push_periods.new.list} c.push_periods.result
     (λ h. payments_told c.args.place.now c.args.part.now c.args.flow.now c.args.start c.args.x.now
     c.args.y.now c.payment_fields-fields.result c.payment_counts.result c.args.list.now c.push_pair.new.self

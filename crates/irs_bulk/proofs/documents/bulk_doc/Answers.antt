@@ -1,6 +1,6 @@
-use Rattle.irs_bulk.specs.Documents.{document_text}
+use Rattle.irs_bulk.specs.Documents.{bulk_document_text}
 use Rattle.irs_bulk.proofs.documents.bulk_doc.Goals as goal
 
 pub returns : goal.returns
-unfolding document_text
+unfolding bulk_document_text
 returns c = rw (← c.convention.ensures) c.document.ensures

@@ -7,7 +7,7 @@ use Rattle.irs_answers.specs.Outcomes.{Ends, IfRefused, ReadFails, of_read, of_s
 use Rattle.irs_answers.proofs.DueLemmas.{refuse_read, refuse_text}
 use Rattle.irs_answers.proofs.StepLemmas.{refused_by}
 use Rattle.irs_bulk.specs.BulkRuns.{DueSchedule, files_of}
-use Rattle.irs_bulk.specs.Documents.{document_text}
+use Rattle.irs_bulk.specs.Documents.{bulk_document_text}
 use Rattle.irs_bulk.proofs.runs.swap_at.Goals as goal
 
 pub returns-in_err-document-clause-refused : goal.returns-in_err-document-clause-refused
@@ -16,7 +16,7 @@ returns-in_err-document-clause-refused c =
     let made = c.from_residual-in_err-document in
     let plain = c.args.plain in
     let k = c.args.k in
-    let text : c.in_ok-bytes.bytes.items ≡ document_text plain k = c.in_ok-bytes.ensures in
+    let text : c.in_ok-bytes.bytes.items ≡ bulk_document_text plain k = c.in_ok-bytes.ensures in
     refused_by made.result (of_read e) (λ r. IfRefused r (Ends (DueSchedule plain k))) made.ensures.0 made.ensures.1
     (refuse_text Schedule (files_of plain k) e
     (subst (λ (l : List ℕ). ReadFails (json_text l) e) text c.in_err-document.ensures.fails))
@@ -27,7 +27,7 @@ returns-in_err-read_swap-clause-refused c =
     let made = c.from_residual-in_err-read_swap in
     let plain = c.args.plain in
     let k = c.args.k in
-    let text : c.in_ok-bytes.bytes.items ≡ document_text plain k = c.in_ok-bytes.ensures in
+    let text : c.in_ok-bytes.bytes.items ≡ bulk_document_text plain k = c.in_ok-bytes.ensures in
     let v : Data = view c.in_ok-document.document in
     refused_by made.result (of_stopped e) (λ r. IfRefused r (Ends (DueSchedule plain k))) made.ensures.0 made.ensures.1
     (refuse_read Schedule (files_of plain k) v e
@@ -36,7 +36,7 @@ returns-in_err-read_swap-clause-refused c =
 
 pub returns-clause-spells : goal.returns-clause-spells
 returns-clause-spells c =
-    let text : c.in_ok-bytes.bytes.items ≡ document_text c.args.plain c.args.k = c.in_ok-bytes.ensures in
+    let text : c.in_ok-bytes.bytes.items ≡ bulk_document_text c.args.plain c.args.k = c.in_ok-bytes.ensures in
     let v : Data = view c.in_ok-document.document in
     record {
       value = v;

@@ -1,7 +1,7 @@
 use Rattle.std.proofs.Common.{◌≡◌, ℕ, suc, ◌+◌, sym, subst, arith}
 use Rattle.irs_answers.specs.Outcomes.{Ends, IfRefused}
 use Rattle.irs_bulk.specs.BulkLines.{both_totals}
-use Rattle.irs_bulk.specs.BulkRuns.{Adds, AreSums, DueAt}
+use Rattle.irs_bulk.specs.BulkRuns.{AddsDocument, AreSums, DueAt}
 use Rattle.irs_bulk.specs.declared.totals.Totals.{Totals}
 use Rattle.irs_bulk.proofs.BulkRunLemmas.{bulk_refused, sums_more}
 use Rattle.irs_bulk.proofs.runs.totals.Goals as goal
@@ -23,7 +23,7 @@ loop-before-preserved c =
     let k = c.loop-before.before in
     let t = c.loop-before.totals in
     let u = c.in-Ok.more in
-    let adds : Adds (suc k) u = subst (λ (i : ℕ). Adds i u) (next_is k) c.in-Ok.ensures.adds in
+    let adds : AddsDocument (suc k) u = subst (λ (i : ℕ). AddsDocument i u) (next_is k) c.in-Ok.ensures.adds in
     let sums : AreSums (suc k) (both_totals t u) = sums_more k t u c.loop-before.invariant.sums adds in
     record {
       sums = subst (λ (i : ℕ). AreSums i c.with-totals.result) (sym (next_is k))

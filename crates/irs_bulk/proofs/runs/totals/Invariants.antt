@@ -1,5 +1,5 @@
 use Rattle.std.proofs.Common.{◌≡◌}
-use Rattle.irs_bulk.specs.BulkLines.{IsRun}
+use Rattle.irs_bulk.specs.BulkLines.{AreRunTotals}
 use Rattle.irs_bulk.specs.BulkRuns.{AreSums}
 use Rattle.irs_bulk.proofs.runs.totals.Given as goal
 
@@ -7,6 +7,6 @@ use Rattle.irs_bulk.proofs.runs.totals.Given as goal
 abbrev pub invariant-loop-before : goal.invariant-loop-before
 invariant-loop-before l = record {
   sums : AreSums l.before l.totals;
-  run : IsRun l.totals;
+  run : AreRunTotals l.totals;
   documents : l.totals.documents ≡ l.before;
 }

@@ -1,6 +1,6 @@
 use Rattle.std.proofs.Common.{inl, inr, refl}
 use Rattle.irs_cli.proofs.OneAnswer.{one_answer}
-use Rattle.irs_c.specs.Each.{no_text}
+use Rattle.irs_c.specs.Each.{status_alone}
 use Rattle.irs_c.specs.Given.{words_in, file_in}
 use Rattle.irs_c.specs.Private.Each.{outcome_by}
 use Rattle.irs_c.proofs.ShownLemmas.{nothing_shown}
@@ -20,8 +20,8 @@ returns-in-Err-clause-run c =
     let text = nothing_shown c.args.out.now in
     let sentence = nothing_shown c.args.said.now in
     elim c.in-Err.ensures.err [
-      | inl is7 ↦ (no_text 7, inr (inl refl), is7, text, sentence)
-      | inr is9 ↦ (no_text 9, inr (inr (c.in-Err.ensures.not_text is9, refl)), is9, text, sentence)
+      | inl is7 ↦ (status_alone 7, inr (inl refl), is7, text, sentence)
+      | inr is9 ↦ (status_alone 9, inr (inr (c.in-Err.ensures.not_text is9, refl)), is9, text, sentence)
     ]
 
 pub returns-in-Ok-clause-one : goal.returns-in-Ok-clause-one

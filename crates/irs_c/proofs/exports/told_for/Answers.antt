@@ -1,7 +1,7 @@
 use Rattle.std.proofs.Common.{List, [], ◌++◌, ap, subst, ◌∙◌}
 use Rattle.std.proofs.lemmas.List.{append-nil}
 use Rattle.std.specs.Prelude.{IfOk}
-use Rattle.irs_cli.specs.Commands.{Words, texts}
+use Rattle.irs_cli.specs.Commands.{Words, word_texts}
 use Rattle.irs_c.specs.Each.{IsRun}
 use Rattle.irs_c.specs.Private.Each.{outcome_by}
 use Rattle.irs_c.specs.Given.{words_in}
@@ -14,4 +14,4 @@ returns-clause-run c =
     subst (λ (fs : List File). IfOk c.tell.result (λ t. IsRun (words_in c.args.words.now) fs (outcome_by t)))
     (append-nil files)
     (subst (λ (ws : Words). IfOk c.tell.result (λ t. IsRun ws (files ++ []) (outcome_by t)))
-    (ap texts c.deref.ensures.value ∙ c.in_ok-words.ensures.ok) c.tell.ensures.run)
+    (ap word_texts c.deref.ensures.value ∙ c.in_ok-words.ensures.ok) c.tell.ensures.run)

@@ -1,9 +1,9 @@
 use Rattle.std.proofs.Common.{arith, ◌≡◌, inl, inr, ℕ, List, [], ◌∷◌, ◌++◌, Option, Some, None, subst, sym, ◌∙◌}
 use Rattle.irs_outside.specs.Outside.{Grew}
-use Rattle.irs_cli.specs.Commands.{Words, Wanted, texts}
+use Rattle.irs_cli.specs.Commands.{Words, Wanted, word_texts}
 use Rattle.irs_cli.specs.Due.{Due}
 use Rattle.irs_cli.specs.Fetching.{FailedAt, Gives, NotLong}
-use Rattle.irs_cli.specs.Given.{Reaches}
+use Rattle.irs_cli.specs.Given.{ReachesFile}
 use Rattle.irs_cli.specs.Causes.{IsCauseOfWritten, IsRunCause, run_status}
 use Rattle.irs_cli.specs.Run.{NoFile, Ran, Source, Written, source}
 use Rattle.irs_cli.specs.declared.causes.RunCause.{RunCause}
@@ -25,8 +25,8 @@ kept ws s fs gs before after same empty (text, due, grew) =
 -- the file of the fetch that failed isn't there
 reached : (gs hs : List File) (failed : Option (List ℕ)) (place : ℕ) (ws : List Wanted)
     → ((n : List ℕ) → file_in hs n ≡ file_in gs n) → ((n : List ℕ) → failed ≡ Some n → file_in hs n ≡ None)
-    → Reaches (NotLong (file_in gs)) (FailedAt failed place) ws
-    → Reaches (NotLong (file_in gs)) (AbsentAt (file_in gs) place) ws
+    → ReachesFile (NotLong (file_in gs)) (FailedAt failed place) ws
+    → ReachesFile (NotLong (file_in gs)) (AbsentAt (file_in gs) place) ws
 reached gs hs failed place [] told none h = absurd h
 reached gs hs failed place (w ∷ ws) told none (inl h) =
     inl (record { at = h.at; none = sym (told w.name) ∙ none w.name h.is_failed })
@@ -70,7 +70,7 @@ cause_kept ws fs gs c s before after from same empty no6 no7 written =
 
 pub cause_of_run-cause-requires : goal.cause_of_run-cause-requires
 cause_of_run-cause-requires c =
-    common_for (texts c.args.words.now) c.args.files.now c.args.own.now c.new-source.result.files.now
+    common_for (word_texts c.args.words.now) c.args.files.now c.args.own.now c.new-source.result.files.now
     c.new-source.result.own.now c.args.common c.new-source.ensures.files c.new-source.ensures.own c.requires
 
 pub returns-clause-due : goal.returns-clause-due

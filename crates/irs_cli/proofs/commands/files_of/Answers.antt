@@ -3,7 +3,7 @@ use Rattle.std.specs.Prelude.{slice_get}
 use Rattle.std.specs.declared.alloc.Global.{Global}
 use Rattle.irs_cli.specs.declared.commands.Named.{Named}
 use Rattle.irs_cli.specs.declared.commands.Role.{Role}
-use Rattle.irs_cli.specs.Commands.{texts, roles_of, params_of, role_at, files_from}
+use Rattle.irs_cli.specs.Commands.{word_texts, roles_of, params_of, role_at, files_from}
 use Rattle.irs_cli.specs.Private.Commands.{wanted_by}
 use Rattle.irs_cli.proofs.CommandLemmas.{ap_some, word_at, step_yes, step_no}
 use Rattle.irs_cli.proofs.commands.files_of.Goals as goal
@@ -11,7 +11,7 @@ use Rattle.irs_cli.proofs.commands.files_of.Goals.{then-is_file+in_ok-push, else
 
 pub loop-index-preserved : goal.loop-index-preserved
 loop-index-preserved c =
-    let ws = texts c.args.words.now in
+    let ws = word_texts c.args.words.now in
     let i = c.loop-index.index in
     let roles = roles_of c.args.kind in
     let place = c.loop-index.place in

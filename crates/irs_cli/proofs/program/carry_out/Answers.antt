@@ -1,10 +1,10 @@
 use Rattle.std.proofs.Common.{List, map, Option, Bor, true, subst}
 use Rattle.std.specs.Prelude.{IfSome}
 use Rattle.irs_cli.specs.declared.commands.Named.{Named}
-use Rattle.irs_cli.specs.Commands.{Wanted, texts, Asks}
+use Rattle.irs_cli.specs.Commands.{Wanted, word_texts, Asks}
 use Rattle.irs_cli.specs.Private.Commands.{asked_by, wanted_by}
 use Rattle.irs_answers.specs.Causes.{cause_of}
-use Rattle.irs_answers.specs.Given.{given_by, no_files}
+use Rattle.irs_answers.specs.Given.{files_given_by, no_files}
 use Rattle.irs_answers.specs.Replying.{reply_status, reply_text}
 use Rattle.irs_answers.specs.declared.common.Common.{Common}
 use Rattle.irs_cli.specs.Given.{Gathers}
@@ -23,7 +23,7 @@ use Rattle.irs_cli.proofs.program.carry_out.Goals as goal
 
 pub returns-in_default-clause-answered : goal.returns-in_default-clause-answered
 returns-in_default-clause-answered g c =
-    let ws = texts c.args.words.now in
+    let ws = word_texts c.args.words.now in
     unlisted_replies ws (g.F.Files.told c.args.files.now) (g.F.Files.gives c.args.files.now)
     (g.F.Files.failed c.args.files.now)
     (g.F.Files.faults c.args.files.now)
@@ -33,7 +33,7 @@ pub returns-in_err-fetched-in-None-clause-answered : goal.returns-in_err-fetched
 returns-in_err-fetched-in-None-clause-answered g c =
     let e = c.in_err-fetched-in-None.field-0.0 in
     let made = c.from_residual-in_err-fetched-in-None in
-    let ws = texts c.args.words.now in
+    let ws = word_texts c.args.words.now in
     let told = g.F.Files.told c.args.files.now in
     let gives = g.F.Files.gives c.args.files.now in
     let failed = g.F.Files.failed c.fetch_all.new.files in
@@ -49,11 +49,11 @@ returns-in_err-fetched-in-None-clause-answered g c =
 
 pub reply_to-requires-clause-within : goal.reply_to-requires-clause-within
 reply_to-requires-clause-within g c =
-    let ws = texts c.args.words.now in
+    let ws = word_texts c.args.words.now in
     let told = g.F.Files.told c.args.files.now in
     let k = c.in-Some.command in
     let asks : Asks ws (asked_by k) = asks_by ws c.in_ok-command.field-0 k c.in_ok-command.ensures c.in-Some.is in
-    let f = given_by c.in_ok-fetched-in-None.fetched in
+    let f = files_given_by c.in_ok-fetched-in-None.fetched in
     let held : Gathers (Holds told) (asked_by k).files no_files f =
     subst (λ (l : List Named). Gathers (Holds told) (map wanted_by l) no_files f) c.deref.ensures.value
     c.in_ok-fetched-in-None.ensures.all.0 in
@@ -61,17 +61,17 @@ reply_to-requires-clause-within g c =
 
 pub reply_to-requires-clause-lawful : goal.reply_to-requires-clause-lawful
 reply_to-requires-clause-lawful g c =
-    let ws = texts c.args.words.now in
+    let ws = word_texts c.args.words.now in
     let k = c.in-Some.command in
     lawful_asked ws (asked_by k) (asks_by ws c.in_ok-command.field-0 k c.in_ok-command.ensures c.in-Some.is)
 
 pub returns-in-None-clause-answered : goal.returns-in-None-clause-answered
 returns-in-None-clause-answered g c =
-    let ws = texts c.args.words.now in
+    let ws = word_texts c.args.words.now in
     let told = g.F.Files.told c.args.files.now in
     let k = c.in-Some.command in
     let asks : Asks ws (asked_by k) = asks_by ws c.in_ok-command.field-0 k c.in_ok-command.ensures c.in-Some.is in
-    let f = given_by c.in_ok-fetched-in-None.fetched in
+    let f = files_given_by c.in_ok-fetched-in-None.fetched in
     let held : Gathers (Holds told) (asked_by k).files no_files f =
     subst (λ (l : List Named). Gathers (Holds told) (map wanted_by l) no_files f) c.deref.ensures.value
     c.in_ok-fetched-in-None.ensures.all.0 in
@@ -87,10 +87,10 @@ returns-in-None-clause-answered g c =
 
 pub returns-in-None-clause-cause : goal.returns-in-None-clause-cause
 returns-in-None-clause-cause g c =
-    let ws = texts c.args.words.now in
+    let ws = word_texts c.args.words.now in
     let k = c.in-Some.command in
     let asks : Asks ws (asked_by k) = asks_by ws c.in_ok-command.field-0 k c.in_ok-command.ensures c.in-Some.is in
-    let f = given_by c.in_ok-fetched-in-None.fetched in
+    let f = files_given_by c.in_ok-fetched-in-None.fetched in
     let gives = g.F.Files.gives c.args.files.now in
     let fetched : Gathers (IsGiven gives) (asked_by k).files no_files f =
     subst (λ (l : List Named). Gathers (IsGiven gives) (map wanted_by l) no_files f) c.deref.ensures.value
@@ -108,7 +108,7 @@ pub returns-in_err-fetched-in-Some-common-clause-answered : goal.returns-in_err-
 returns-in_err-fetched-in-Some-common-clause-answered g c =
     let e = c.in_err-fetched-in-Some-common.field-0.0 in
     let made = c.from_residual-in_err-fetched-in-Some-common in
-    let ws = texts c.args.words.now in
+    let ws = word_texts c.args.words.now in
     let told = g.F.Files.told c.args.files.now in
     let gives = g.F.Files.gives c.args.files.now in
     let failed = g.F.Files.failed c.fetch_all-in-Some-common.new.files in
@@ -129,13 +129,13 @@ returns-in_err-fetched-in-Some-common-clause-answered g c =
 
 pub reply_with-requires-clause-lawful : goal.reply_with-requires-clause-lawful
 reply_with-requires-clause-lawful g c =
-    let ws = texts c.args.words.now in
+    let ws = word_texts c.args.words.now in
     let k = c.in-Some.command in
     lawful_asked ws (asked_by k) (asks_by ws c.in_ok-command.field-0 k c.in_ok-command.ensures c.in-Some.is)
 
 pub returns-clause-answered : goal.returns-clause-answered
 returns-clause-answered g c =
-    let ws = texts c.args.words.now in
+    let ws = word_texts c.args.words.now in
     let told = g.F.Files.told c.args.files.now in
     let gives = g.F.Files.gives c.args.files.now in
     let k = c.in-Some.command in
@@ -145,7 +145,7 @@ returns-clause-answered g c =
     let part = part_of true c.deref-in-Some-common.result.now c.deref-in-Some-common-2.result.now
     c.in_ok-own-in-Some-common.own.items k.files.items c.deref-in-Some-common.ensures.value
     c.deref-in-Some-common-2.ensures.value c.in_ok-own-in-Some-common.ensures in
-    let own = given_by c.in_ok-fetched-in-Some-common.fetched in
+    let own = files_given_by c.in_ok-fetched-in-Some-common.fetched in
     let held : Gathers (Holds told) (files_with true (asked_by k).files) no_files own =
     subst (λ (l : List Wanted). Gathers (Holds told) l no_files own) part
     c.in_ok-fetched-in-Some-common.ensures.all.0 in
@@ -160,7 +160,7 @@ returns-clause-answered g c =
 
 pub returns-clause-cause : goal.returns-clause-cause
 returns-clause-cause g c =
-    let ws = texts c.args.words.now in
+    let ws = word_texts c.args.words.now in
     let told = g.F.Files.told c.args.files.now in
     let gives = g.F.Files.gives c.args.files.now in
     let k = c.in-Some.command in
@@ -170,7 +170,7 @@ returns-clause-cause g c =
     let part = part_of true c.deref-in-Some-common.result.now c.deref-in-Some-common-2.result.now
     c.in_ok-own-in-Some-common.own.items k.files.items c.deref-in-Some-common.ensures.value
     c.deref-in-Some-common-2.ensures.value c.in_ok-own-in-Some-common.ensures in
-    let own = given_by c.in_ok-fetched-in-Some-common.fetched in
+    let own = files_given_by c.in_ok-fetched-in-Some-common.fetched in
     let given : Gathers (IsGiven gives) (files_with true (asked_by k).files) no_files own =
     subst (λ (l : List Wanted). Gathers (IsGiven gives) l no_files own) part
     c.in_ok-fetched-in-Some-common.ensures.given in

@@ -1,6 +1,6 @@
 use Rattle.std.proofs.Common.{◌≡◌, ℕ, List, ◌∷◌, ◌++◌, ◌∙◌, subst}
 use Rattle.irs_schedule.specs.declared.row.Row.{Row}
-use Rattle.irs_schedule.specs.RowTexts.{HasPlaces, row_text_of, text_of, text_from}
+use Rattle.irs_schedule.specs.RowTexts.{RowHasPlaces, row_text_of, schedule_text, text_from}
 use Rattle.irs_cli.specs.Private.Pages.{Through}
 use Rattle.irs_cli.proofs.PutLemmas.{through_page, through_last, through_part, through_last_part}
 use Rattle.irs_cli.proofs.PutLemmas.{through_row, through_end, on_err, on_ok_then, on_err_then}
@@ -11,14 +11,14 @@ pub loop-row-preserved : goal.loop-row-preserved
 loop-row-preserved g c =
     let row = c.in-Some.row in
     let rest = c.next.new.self in
-    let text = text_of c.args.schedule.now in
+    let text = schedule_text c.args.schedule.now in
     let start = g.S.Sink.written c.args.out.now in
     let before = g.S.Sink.written c.loop-row.out in
     let now = g.S.Sink.written c.add-in-loop-row.new.out in
     let waited = c.loop-row.page in
     let waits = c.add-in-loop-row.new.self in
     let rows : c.loop-row.row-iterator ≡ row ∷ rest = c.in-Some.ensures.steps in
-    let E : List Row → Type 0 = λ l. Every HasPlaces l in
+    let E : List Row → Type 0 = λ l. Every RowHasPlaces l in
     let T : List ℕ → Type 0 = λ l. Through before now waits (waited ++ l) in
     let taken : Through before now waits (waited ++ row_text_of row) =
     subst T (c.bytes.ensures.bytes ∙ c.row_text.ensures) c.in_ok-add-2.ensures.ok in
@@ -34,18 +34,18 @@ returns-in_err-add-2-clause-err g c =
     on_err c.from_residual-in_err-add-2.result
     (through_part (g.S.Sink.written c.args.out.now) (g.S.Sink.written c.loop-row.out)
     (g.S.Sink.written c.add-in-loop-row.new.out) c.loop-row.page (text_from c.loop-row.row-iterator)
-    (text_of c.args.schedule.now) c.loop-row.invariant.put c.in_err-add-2.ensures.err)
+    (schedule_text c.args.schedule.now) c.loop-row.invariant.put c.in_err-add-2.ensures.err)
 
 pub returns-in_err-add-3-clause-err : goal.returns-in_err-add-3-clause-err
 returns-in_err-add-3-clause-err g c =
     on_err c.from_residual-in_err-add-3.result
     (through_part (g.S.Sink.written c.args.out.now) (g.S.Sink.written c.loop-row.out)
     (g.S.Sink.written c.add-2.new.out) c.loop-row.page (text_from c.loop-row.row-iterator)
-    (text_of c.args.schedule.now) c.loop-row.invariant.put c.in_err-add-3.ensures.err)
+    (schedule_text c.args.schedule.now) c.loop-row.invariant.put c.in_err-add-3.ensures.err)
 
 pub returns-clause-ok : goal.returns-clause-ok
 returns-clause-ok g c =
-    let text = text_of c.args.schedule.now in
+    let text = schedule_text c.args.schedule.now in
     let start = g.S.Sink.written c.args.out.now in
     let last = g.S.Sink.written c.add-2.new.out in
     let waits = c.add-2.new.self in
@@ -57,7 +57,7 @@ returns-clause-ok g c =
 
 pub returns-clause-err : goal.returns-clause-err
 returns-clause-err g c =
-    let text = text_of c.args.schedule.now in
+    let text = schedule_text c.args.schedule.now in
     let start = g.S.Sink.written c.args.out.now in
     let last = g.S.Sink.written c.add-2.new.out in
     let waits = c.add-2.new.self in

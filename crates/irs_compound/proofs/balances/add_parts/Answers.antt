@@ -3,7 +3,7 @@ use Rattle.std.specs.Int.{w128}
 use Rattle.std.proofs.lemmas.Int.{to_z-of_z}
 use Rattle.irs_terms.specs.declared.codes.CompCode.{CompCode}
 use Rattle.irs_compound.specs.Amounts.{PartsWithin, amount, kept_of, most_amount}
-use Rattle.irs_compound.specs.Private.Balances.{after}
+use Rattle.irs_compound.specs.Private.Balances.{balance_after}
 use Rattle.irs_compound.specs.declared.balances.Balance.{Balance}
 use Rattle.irs_compound.specs.declared.periods.Parts.{Parts}
 use Rattle.irs_compound.proofs.balances.add_parts.Goals as goal
@@ -16,7 +16,7 @@ SumsTested r b n k =
 
 tested : (r : Option Balance) (code : CompCode) (b : Balance) (c : Parts) → unsigned_abs c.main ≤ most_amount
     → unsigned_abs c.extra ≤ most_amount → SumsTested r b (amount c) (kept_of code c)
-    → SomeIff r (PartsWithin c (after code b c).sum (after code b c).kept) (after code b c)
+    → SomeIff r (PartsWithin c (balance_after code b c).sum (balance_after code b c).kept) (balance_after code b c)
 tested None code b c m e h = λ w. h (w.2, w.3)
 tested (Some x) code b c m e h = ((m, e, h.0.0, h.0.1), h.1)
 

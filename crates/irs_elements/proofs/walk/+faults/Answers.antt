@@ -5,7 +5,7 @@ use Rattle.serde_json.specs.View.{view}
 use Rattle.std.proofs.lemmas.List.{length-map}
 use Rattle.irs_json.specs.Carrier.{child_of}
 use Rattle.irs_json.specs.Values.{items_of}
-use Rattle.irs_json.specs.Names.{names_of}
+use Rattle.irs_json.specs.Names.{element_names}
 use Rattle.std.proofs.lemmas.Option.{slice_get-get_or, slice_get_read}
 use Rattle.std.specs.Borrow.{Bor}
 use Rattle.serde_json.specs.Data.{Data}
@@ -14,7 +14,7 @@ use Rattle.irs_base.specs.Order.{earlier_broken}
 use Rattle.irs_base.specs.declared.places.Broken.{Broken}
 use Rattle.irs_base.specs.declared.places.Rule.TheVariants.{K2}
 use Rattle.irs_elements.specs.declared.table.Kind.TheVariants.{Object}
-use Rattle.irs_elements.specs.Elements.{texts, name_at, place, own_rule, FaultAt, index_in}
+use Rattle.irs_elements.specs.Elements.{referenced_texts, name_at, place, own_rule, FaultAt, index_in}
 use Rattle.irs_elements.proofs.First.{first_is, none_later}
 use Rattle.irs_elements.proofs.KnownNames.{some_row}
 use Rattle.irs_elements.proofs.Objects.{an_object, no_object}
@@ -37,29 +37,29 @@ absent_child n names d name r e h is = ap (λ m. child_of m d) (sym e) ∙ sym h
 
 pub value_fault-returns-in-Leaf : goal.value_fault-returns-in-Leaf
 value_fault-returns-in-Leaf t c =
-    first_is (FaultAt c.args.table.now.rows.now (texts c.args.table.now.names.now) c.args.table.now.stream c.args.r
+    first_is (FaultAt c.args.table.now.rows.now (referenced_texts c.args.table.now.names.now) c.args.table.now.stream c.args.r
     c.args.kind c.args.index (view c.args.v.now))
     (option_map (λ k. place c.args.table.now.rows.now c.args.table.now.stream k c.args.r c.args.index)
     (own_rule c.args.kind (view c.args.v.now))) c.leaf_fault.result (rw c.in-Leaf.is c.leaf_fault.ensures)
-    (own_first c.args.table.now.rows.now (texts c.args.table.now.names.now) c.args.table.now.stream c.args.r
+    (own_first c.args.table.now.rows.now (referenced_texts c.args.table.now.names.now) c.args.table.now.stream c.args.r
     c.args.index c.args.kind (view c.args.v.now) (λ ch e. cc (c.in-Leaf.is)))
 
 pub object_fault-returns-then-not-is_object : goal.object_fault-returns-then-not-is_object
 object_fault-returns-then-not-is_object t c =
-    let absent : names_of (view c.args.v.now) ≡ None =
+    let absent : element_names (view c.args.v.now) ≡ None =
     no_object (view c.args.v.now) (sym c.is_object.ensures ∙ c.if-not-is_object.true) in
-    first_is (FaultAt c.args.table.now.rows.now (texts c.args.table.now.names.now) c.args.table.now.stream c.args.r
+    first_is (FaultAt c.args.table.now.rows.now (referenced_texts c.args.table.now.names.now) c.args.table.now.stream c.args.r
     (Object c.args.choice) c.args.index (view c.args.v.now))
     (option_map (λ k. place c.args.table.now.rows.now c.args.table.now.stream k c.args.r c.args.index)
     (own_rule (Object c.args.choice) (view c.args.v.now))) (Some c.broken.result)
     (rw absent (ap Some c.broken.ensures))
-    (own_first c.args.table.now.rows.now (texts c.args.table.now.names.now) c.args.table.now.stream c.args.r
+    (own_first c.args.table.now.rows.now (referenced_texts c.args.table.now.names.now) c.args.table.now.stream c.args.r
     c.args.index (Object c.args.choice) (view c.args.v.now) (λ ch e. absent))
 
 pub object_fault-returns : goal.object_fault-returns
 object_fault-returns t c =
     let some = an_object (view c.args.v.now) (sym c.is_object.ensures ∙ c.if-not-is_object.false) in
-    rw c.first_of.ensures (object_first c.args.table.now.rows.now (texts c.args.table.now.names.now)
+    rw c.first_of.ensures (object_first c.args.table.now.rows.now (referenced_texts c.args.table.now.names.now)
     c.args.table.now.stream c.args.r c.args.index c.args.choice (view c.args.v.now) some.0 _ _ some.1
     c.shape_fault-shape.ensures c.members_fault.ensures)
 
@@ -73,13 +73,13 @@ then_nothing a b s e is = e ∙ none_later a ∙ ap (earlier_broken a) (sym is)
 
 pub members_fault-loop-c-init : goal.members_fault-loop-c-init
 members_fault-loop-c-init t c =
-    none_before c.args.table.now.rows.now (texts c.args.table.now.names.now) c.args.table.now.stream c.args.r
+    none_before c.args.table.now.rows.now (referenced_texts c.args.table.now.names.now) c.args.table.now.stream c.args.r
     c.args.index (view c.args.v.now)
 
 pub members_fault-returns : goal.members_fault-returns
 members_fault-returns t c =
     let rows = c.args.table.now.rows.now in
-    let names = texts c.args.table.now.names.now in
+    let names = referenced_texts c.args.table.now.names.now in
     let before = before_end rows names c.args.table.now.stream c.args.table.now.ends.now c.args.r c.loop-c.c
     c.requires (omega arith) in
     members_first rows names c.args.table.now.stream c.args.r c.args.index _ (view c.args.v.now) _ before
@@ -92,7 +92,7 @@ members_fault-loop-c-preserved t c =
     ≡ Some (get_or c.args.table.now.rows.now c.loop-c.c some_row) =
     slice_get-get_or c.args.table.now.rows.now c.loop-c.c some_row inside in
     let rows = c.args.table.now.rows.now in
-    let names = texts c.args.table.now.names.now in
+    let names = referenced_texts c.args.table.now.names.now in
     let d = view c.args.v.now in
     let row = get_or rows c.loop-c.c some_row in
     let other = other_step rows names c.args.table.now.stream c.args.r c.args.index c.loop-c.c d row c.loop-c.first
@@ -120,13 +120,13 @@ members_fault-loop-c-preserved t c =
 
 pub fault_under-returns-then-is_required : goal.fault_under-returns-then-is_required
 fault_under-returns-then-is_required t c =
-    let absent : child_of (name_at (texts c.args.table.now.names.now) c.args.c) (view c.args.v.now) ≡ None =
-    absent_child c.args.c (texts c.args.table.now.names.now)
+    let absent : child_of (name_at (referenced_texts c.args.table.now.names.now) c.args.c) (view c.args.v.now) ≡ None =
+    absent_child c.args.c (referenced_texts c.args.table.now.names.now)
     (view c.args.v.now) _ _ c.name_of.ensures c.child.ensures c.in-None.is in
     first_is _ _ _ (ap Some c.broken.ensures
     ∙ ap (λ i. Some (place c.args.table.now.rows.now c.args.table.now.stream K2 c.args.c i))
     c.absent_index-at.ensures)
-    (under_missing c.args.table.now.rows.now (texts c.args.table.now.names.now) c.args.table.now.stream c.args.c
+    (under_missing c.args.table.now.rows.now (referenced_texts c.args.table.now.names.now) c.args.table.now.stream c.args.c
     c.args.index c.args.row.now (view c.args.v.now) (sym c.is_element.ensures
     ∙ c.if-is_element.true) (sym c.is_required.ensures ∙ c.if-is_required.true) absent)
 
@@ -137,12 +137,12 @@ found_child n names d name r v e h is = ap (λ m. child_of m d) (sym e) ∙ sym 
 
 pub fault_under-returns-then-is_refused : goal.fault_under-returns-then-is_refused
 fault_under-returns-then-is_refused t c =
-    let found : child_of (name_at (texts c.args.table.now.names.now) c.args.c) (view c.args.v.now)
+    let found : child_of (name_at (referenced_texts c.args.table.now.names.now) c.args.c) (view c.args.v.now)
     ≡ Some (view c.in-Some.member.now) =
-    found_child c.args.c (texts c.args.table.now.names.now)
+    found_child c.args.c (referenced_texts c.args.table.now.names.now)
     (view c.args.v.now) _ _ _ c.name_of.ensures c.child.ensures c.in-Some.is in
     first_is _ _ _ (ap Some c.broken-then-is_refused.ensures)
-    (under_refused c.args.table.now.rows.now (texts c.args.table.now.names.now) c.args.table.now.stream c.args.c
+    (under_refused c.args.table.now.rows.now (referenced_texts c.args.table.now.names.now) c.args.table.now.stream c.args.c
     c.args.index c.args.row.now (view c.args.v.now) _ (sym c.is_refused.ensures ∙ c.if-is_refused.true) found)
 
 longer : (vs : List Value) (d : Data) → map view vs ≡ items_of d → length vs ≡ length (items_of d)
@@ -150,29 +150,29 @@ longer vs d e = sym (length-map vs view) ∙ ap length e
 
 pub fault_under-returns-then-list-most : goal.fault_under-returns-then-list-most
 fault_under-returns-then-list-most t c =
-    let found : child_of (name_at (texts c.args.table.now.names.now) c.args.c) (view c.args.v.now)
+    let found : child_of (name_at (referenced_texts c.args.table.now.names.now) c.args.c) (view c.args.v.now)
     ≡ Some (view c.in-Some.member.now) =
-    found_child c.args.c (texts c.args.table.now.names.now)
+    found_child c.args.c (referenced_texts c.args.table.now.names.now)
     (view c.args.v.now) _ _ _ c.name_of.ensures c.child.ensures c.in-Some.is in
     let listed : map view c.as_slice-list.result.now ≡ items_of (view c.in-Some.member.now) =
     ap (map view) c.as_slice-list.ensures ∙ c.items.ensures in
     let same = longer c.as_slice-list.result.now (view c.in-Some.member.now) listed in
     first_is _ _ _ (ap Some c.broken-then-list-most.ensures)
-    (under_many c.args.table.now.rows.now (texts c.args.table.now.names.now) c.args.table.now.stream c.args.c
+    (under_many c.args.table.now.rows.now (referenced_texts c.args.table.now.names.now) c.args.table.now.stream c.args.c
     c.args.index c.args.row.now (view c.args.v.now) _ (sym c.is_element-else-is_refused.ensures
     ∙ c.if-is_element-2.true) (sym c.is_refused.ensures ∙ c.if-is_refused.false) found
     (omega (arith, same, c.most.ensures, c.if-list-most.true)))
 
 pub fault_under-returns-else-list-most : goal.fault_under-returns-else-list-most
 fault_under-returns-else-list-most t c =
-    let found : child_of (name_at (texts c.args.table.now.names.now) c.args.c) (view c.args.v.now)
+    let found : child_of (name_at (referenced_texts c.args.table.now.names.now) c.args.c) (view c.args.v.now)
     ≡ Some (view c.in-Some.member.now) =
-    found_child c.args.c (texts c.args.table.now.names.now)
+    found_child c.args.c (referenced_texts c.args.table.now.names.now)
     (view c.args.v.now) _ _ _ c.name_of.ensures c.child.ensures c.in-Some.is in
     let listed : map view c.as_slice-list.result.now ≡ items_of (view c.in-Some.member.now) =
     ap (map view) c.as_slice-list.ensures ∙ c.items.ensures in
     let same = longer c.as_slice-list.result.now (view c.in-Some.member.now) listed in
-    under_lawful c.args.table.now.rows.now (texts c.args.table.now.names.now) c.args.table.now.stream c.args.c
+    under_lawful c.args.table.now.rows.now (referenced_texts c.args.table.now.names.now) c.args.table.now.stream c.args.c
     c.args.index c.args.row.now (view c.args.v.now) _ _ (sym c.is_element-else-is_refused.ensures
     ∙ c.if-is_element-2.true) (sym c.is_refused.ensures ∙ c.if-is_refused.false) found
     (omega (arith, same, c.most.ensures, c.if-list-most.false)) (rw listed at c.fault_among.ensures)
@@ -180,7 +180,7 @@ fault_under-returns-else-list-most t c =
 pub fault_among-returns : goal.fault_among-returns
 fault_among-returns t c =
     let last : c.loop-j.j ≡ length (map view c.args.list.now) = omega (arith, length-map c.args.list.now view) in
-    among_first c.args.table.now.rows.now (texts c.args.table.now.names.now) c.args.table.now.stream c.args.c
+    among_first c.args.table.now.rows.now (referenced_texts c.args.table.now.names.now) c.args.table.now.stream c.args.c
     c.args.kind (index_in c.args.count c.args.index) (map view c.args.list.now) _
     (rw last at c.loop-j.invariant)
 
@@ -189,7 +189,7 @@ fault_among-loop-j-preserved t c =
     let found : slice_get c.args.list.now c.loop-j.j ≡ Some c.index-list-j.result =
     slice_get_read c.args.list.now (length c.args.list.now) c.loop-j.j c.index-list-j.result refl c.loop-j-test.true
     c.index-list-j.is in
-    let step = item_step c.args.table.now.rows.now (texts c.args.table.now.names.now) c.args.table.now.stream
+    let step = item_step c.args.table.now.rows.now (referenced_texts c.args.table.now.names.now) c.args.table.now.stream
     c.args.c c.args.kind (index_in c.args.count c.args.index) c.loop-j.j c.index_in-at.result c.args.list.now
     c.index-list-j.result c.loop-j.first c.value_fault.result c.match-value_fault.first found c.index_in-at.ensures in
     elim c.match-value_fault.branch [

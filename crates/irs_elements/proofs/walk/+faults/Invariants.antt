@@ -1,6 +1,6 @@
 use Rattle.std.proofs.Common.{◌+◌, ◌-◌, ◌*◌, length, map}
 use Rattle.serde_json.specs.View.{view}
-use Rattle.irs_elements.specs.Elements.{texts, index_in}
+use Rattle.irs_elements.specs.Elements.{referenced_texts, index_in}
 use Rattle.irs_elements.proofs.First.{Below}
 use Rattle.irs_elements.proofs.Steps.{RowFault, ItemFault}
 use Rattle.irs_base.specs.Order.{IsFirstBroken}
@@ -9,14 +9,14 @@ use Rattle.irs_elements.proofs.walk.+faults.Given as goal
 -- the fault kept is the first of those at the rows before c
 abbrev pub invariant-members_fault-loop-c : goal.invariant-members_fault-loop-c
 invariant-members_fault-loop-c l =
-    IsFirstBroken (Below (RowFault l.table.rows.now (texts l.table.names.now) l.table.stream l.r l.index (view l.v))
+    IsFirstBroken (Below (RowFault l.table.rows.now (referenced_texts l.table.names.now) l.table.stream l.r l.index (view l.v))
     l.c) l.first
 
 -- the fault kept is the first of those in the values before j
 abbrev pub invariant-fault_among-loop-j : goal.invariant-fault_among-loop-j
 invariant-fault_among-loop-j l =
     IsFirstBroken (Below
-    (ItemFault l.table.rows.now (texts l.table.names.now) l.table.stream l.c l.kind (index_in l.count l.index)
+    (ItemFault l.table.rows.now (referenced_texts l.table.names.now) l.table.stream l.c l.kind (index_in l.count l.index)
     (map view l.list)) l.j) l.first
 
 -- a value leads to its members, whose rows come later

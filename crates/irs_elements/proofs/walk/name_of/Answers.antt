@@ -2,13 +2,14 @@ use Rattle.std.proofs.Common.{◌≡◌, ℕ, List, Option, Some, None, option_m
 use Rattle.std.specs.Prelude.{slice_get}
 use Rattle.std.specs.Borrow.{Bor}
 use Rattle.std.proofs.lemmas.Option.{slice_get-map, slice_get_past, slice_get_read}
-use Rattle.irs_elements.specs.Elements.{texts, name_at, name_in}
+use Rattle.irs_base.specs.Elements.{name_or_empty}
+use Rattle.irs_elements.specs.Elements.{referenced_texts, name_at}
 use Rattle.irs_elements.proofs.walk.name_of.Goals as goal
 
 seen : (names : List (Bor (List ℕ))) (c : ℕ) (o : Option (Bor (List ℕ))) → slice_get names c ≡ o
-    → name_in (option_map (λ n. n.now) o) ≡ name_at (texts names) c
+    → name_or_empty (option_map (λ n. n.now) o) ≡ name_at (referenced_texts names) c
 seen names c o e =
-    ap (λ m. name_in (option_map (λ n. n.now) m)) (sym e) ∙ ap name_in (sym (slice_get-map (λ n. n.now) names c))
+    ap (λ m. name_or_empty (option_map (λ n. n.now) m)) (sym e) ∙ ap name_or_empty (sym (slice_get-map (λ n. n.now) names c))
 
 pub returns-in-None : goal.returns-in-None
 returns-in-None c =

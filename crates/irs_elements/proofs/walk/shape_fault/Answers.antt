@@ -1,9 +1,9 @@
 use Rattle.std.proofs.Common.{◌≡◌, false, refl, sym, ◌∙◌}
 use Rattle.std.specs.List.{list_any}
 use Rattle.serde_json.specs.View.{view}
-use Rattle.irs_json.specs.Leaves.{is_attribute}
-use Rattle.irs_json.specs.Names.{names_of}
-use Rattle.irs_elements.specs.Elements.{ShapeFault, has_odd, is_known, is_unknown, texts}
+use Rattle.irs_json.specs.Leaves.{is_attribute_name}
+use Rattle.irs_json.specs.Names.{element_names}
+use Rattle.irs_elements.specs.Elements.{ShapeFault, has_odd, is_known, is_unknown, referenced_texts}
 use Rattle.irs_elements.specs.Private.Elements.{names_among}
 use Rattle.irs_elements.proofs.Attributes.{plain_names}
 use Rattle.irs_elements.proofs.First.{first_is}
@@ -13,11 +13,11 @@ use Rattle.irs_elements.proofs.walk.shape_fault.Goals as goal
 pub returns-else-has_apart : goal.returns-else-has_apart
 returns-else-has_apart c =
     let rows = c.args.table.now.rows.now in
-    let names = texts c.args.table.now.names.now in
+    let names = referenced_texts c.args.table.now.names.now in
     let d = view c.args.v.now in
-    let plain = plain_names is_attribute (is_known rows names c.args.r) (names_among (names_of d))
+    let plain = plain_names is_attribute_name (is_known rows names c.args.r) (names_among (element_names d))
     (sym c.has_apart.ensures.names ∙ c.if-has_apart.false) in
-    let known : list_any (is_unknown rows names c.args.r) (names_among (names_of d)) ≡ false = plain.1 in
+    let known : list_any (is_unknown rows names c.args.r) (names_among (element_names d)) ≡ false = plain.1 in
     let even : has_odd d ≡ false = c.has_apart.ensures.even c.if-has_apart.false in
     let is : c.asked_fault.result ≡ shape_answer rows names c.args.table.now.stream c.args.r c.args.index c.args.choice d =
     rw (known, even, c.asked_fault.ensures) refl in

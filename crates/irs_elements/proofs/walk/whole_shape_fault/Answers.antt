@@ -1,6 +1,6 @@
 use Rattle.std.proofs.Common.{◌≡◌, refl}
 use Rattle.serde_json.specs.View.{view}
-use Rattle.irs_elements.specs.Elements.{texts, ShapeFault}
+use Rattle.irs_elements.specs.Elements.{referenced_texts, ShapeFault}
 use Rattle.irs_elements.proofs.First.{first_is}
 use Rattle.irs_elements.proofs.Steps.{shape_first, shape_answer}
 use Rattle.irs_elements.proofs.walk.whole_shape_fault.Goals as goal
@@ -8,7 +8,7 @@ use Rattle.irs_elements.proofs.walk.whole_shape_fault.Goals as goal
 pub returns : goal.returns
 returns c =
     let rows = c.args.table.now.rows.now in
-    let names = texts c.args.table.now.names.now in
+    let names = referenced_texts c.args.table.now.names.now in
     let d = view c.args.v.now in
     let is : c.earlier-3.result ≡ shape_answer rows names c.args.table.now.stream c.args.r c.args.index c.args.choice d =
     rw (

@@ -1,5 +1,5 @@
 use Rattle.irs_emit_xml.proofs.emitting.payment.Goals as goal
-use Rattle.irs_emit_xml.specs.Flows.{day_node, forecast_node, payment_fields, payment_node, period_nodes}
+use Rattle.irs_emit_xml.specs.Flows.{day_node, forecast_node, payment_content, payment_node, period_nodes}
 use Rattle.irs_emit_xml.proofs.Lines.{element_lines, lines_append, one_line, then_lines}
 use Rattle.irs_emit_xml.proofs.Walks.{in_currency, periods_paid}
 use Rattle.std.proofs.Common.{◌-◌, ◌+◌, ◌∷◌, ◌++◌, [], codes, refl}
@@ -12,7 +12,7 @@ returns c =
     let adjusted = day_node (codes "adjustedPaymentDate") y.adjusted in
     let forecast = forecast_node p.currency y in
     let periods = period_nodes p (y.first_period - 1) (y.last_period + 1 - y.first_period) in
-    element_lines 3 (codes "paymentCalculationPeriod") (payment_fields p y) c.args.out.now.items
+    element_lines 3 (codes "paymentCalculationPeriod") (payment_content p y) c.args.out.now.items
     c.open_tag.new.out.items c.forecast.new.out.items
     c.close_tag.new.out.items c.in_ok-open_tag.ensures
     (then_lines 4 (day_node (codes "unadjustedPaymentDate") y.unadjusted) (adjusted ∷ (periods ++ forecast ∷ []))

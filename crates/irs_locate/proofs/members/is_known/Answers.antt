@@ -1,5 +1,5 @@
 use Rattle.irs_elements.proofs.KnownNames.{IsNamed, found_at, none_left, one_more, some_row}
-use Rattle.irs_elements.specs.Elements.{texts}
+use Rattle.irs_elements.specs.Elements.{referenced_texts}
 use Rattle.irs_elements.specs.declared.table.Row.{Row}
 use Rattle.irs_locate.proofs.members.is_known.Goals as goal
 use Rattle.std.proofs.Common.{◌∙◌, get_or, sym}
@@ -9,17 +9,17 @@ pub loop-c-preserved : goal.loop-c-preserved
 loop-c-preserved c =
     let row : Row = get_or c.args.table.rows.now c.loop-c.c some_row in
     let at = slice_get-get_or c.args.table.rows.now c.loop-c.c some_row c.loop-c-test.true in
-    one_more (IsNamed (texts c.args.table.names.now) c.args.r c.args.name.now) c.loop-c.c c.args.table.rows.now
+    one_more (IsNamed (referenced_texts c.args.table.names.now) c.args.r c.args.name.now) c.loop-c.c c.args.table.rows.now
     row at c.loop-c.invariant (sym c.is_named.ensures ∙ c.if-is_named.false)
 
 pub returns-then-is_named : goal.returns-then-is_named
 returns-then-is_named c =
     let row : Row = get_or c.args.table.rows.now c.loop-c.c some_row in
     let at = slice_get-get_or c.args.table.rows.now c.loop-c.c some_row c.loop-c-test.true in
-    sym (found_at (IsNamed (texts c.args.table.names.now) c.args.r c.args.name.now) c.loop-c.c
+    sym (found_at (IsNamed (referenced_texts c.args.table.names.now) c.args.r c.args.name.now) c.loop-c.c
     c.args.table.rows.now row at (sym c.is_named.ensures ∙ c.if-is_named.true))
 
 pub returns : goal.returns
 returns c =
-    sym (none_left (IsNamed (texts c.args.table.names.now) c.args.r c.args.name.now) c.loop-c.c 0
+    sym (none_left (IsNamed (referenced_texts c.args.table.names.now) c.args.r c.args.name.now) c.loop-c.c 0
     c.args.table.rows.now c.loop-c-test.false c.loop-c.invariant)

@@ -6,14 +6,14 @@ use Rattle.serde_json.specs.Data.{Data}
 use Rattle.serde_json.specs.View.{view}
 use Rattle.irs_locate.specs.Private.Seen.{step_seen}
 use Rattle.irs_locate.specs.Members.{LiesAt, root_in}
-use Rattle.irs_locate.specs.Ways.{Step, way}
+use Rattle.irs_locate.specs.Ways.{WayStep, way}
 use Rattle.irs_locate.proofs.Lies.{a_step_on, at_end, none_is_value, only_below, only_end}
 use Rattle.irs_locate.proofs.ShortWays.{few_steps, text_in}
 use Rattle.irs_locate.proofs.members.value_at.Goals as goal
 
 pub returns-in-None-clause-some : goal.returns-in-None-clause-some
 returns-in-None-clause-some c =
-    let steps : List Step = way (root_in (view c.args.document.now)) c.args.place.now in
+    let steps : List WayStep = way (root_in (view c.args.document.now)) c.args.place.now in
     let v : Data = view c.loop-k.v.now in
     let none : slice_get steps c.loop-k.k ≡ None =
     subst (λ (r : List ℕ). slice_get (way r c.args.place.now) c.loop-k.k ≡ None)
@@ -22,7 +22,7 @@ returns-in-None-clause-some c =
 
 pub returns-in-None-clause-only : goal.returns-in-None-clause-only
 returns-in-None-clause-only c = λ e lies.
-    let steps : List Step = way (root_in (view c.args.document.now)) c.args.place.now in
+    let steps : List WayStep = way (root_in (view c.args.document.now)) c.args.place.now in
     let v : Data = view c.loop-k.v.now in
     let none : slice_get steps c.loop-k.k ≡ None =
     subst (λ (r : List ℕ). slice_get (way r c.args.place.now) c.loop-k.k ≡ None)
@@ -32,8 +32,8 @@ returns-in-None-clause-only c = λ e lies.
 pub returns-in-None-value_below-clause-only : goal.returns-in-None-value_below-clause-only
 returns-in-None-value_below-clause-only c = λ e lies.
     let d : Data = view c.args.document.now in
-    let steps : List Step = way (root_in d) c.args.place.now in
-    let step : Step = step_seen c.in-Some.step in
+    let steps : List WayStep = way (root_in d) c.args.place.now in
+    let step : WayStep = step_seen c.in-Some.step in
     let some : slice_get steps c.loop-k.k ≡ Some step =
     subst (λ (r : List ℕ). slice_get (way r c.args.place.now) c.loop-k.k ≡ Some step)
     (c.as_bytes-root.ensures.value ∙ c.root_of.ensures) (sym c.in-Some.ensures.is) in
@@ -43,8 +43,8 @@ returns-in-None-value_below-clause-only c = λ e lies.
 
 pub loop-k-preserved : goal.loop-k-preserved
 loop-k-preserved c =
-    let steps : List Step = way (root_in (view c.args.document.now)) c.args.place.now in
-    let step : Step = step_seen c.in-Some.step in
+    let steps : List WayStep = way (root_in (view c.args.document.now)) c.args.place.now in
+    let step : WayStep = step_seen c.in-Some.step in
     let v : Data = view c.loop-k.v.now in
     let x : Data = view c.in-Some-value_below.x.now in
     let some : slice_get steps c.loop-k.k ≡ Some step =

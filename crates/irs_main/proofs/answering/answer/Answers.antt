@@ -1,7 +1,7 @@
 use Rattle.std.proofs.Common.{[], List, ℕ, Option, ap, inr, map, refl, subst, sym, ◌∙◌}
 use Rattle.std.specs.Prelude.{IsSome}
 use Rattle.irs_plain.specs.Shown.{shown}
-use Rattle.irs_plain.specs.Words.{texts}
+use Rattle.irs_plain.specs.Words.{word_texts}
 use Rattle.irs_cli.specs.Run.{Source, Written, source, written}
 use Rattle.irs_cli.specs.declared.causes.RunCause.TheVariants.{NoMemory}
 use Rattle.irs_cli.proofs.RunLemmas.{memory_ran}
@@ -19,13 +19,13 @@ returns-in-Some-clause-came g c =
     let now = c.print-cause.new.out in
     let to : Written =
     written (g.S.Sink.written out) (g.S.Sink.written now) (g.S.Sink.faults out) (g.S.Sink.faults now) in
-    subst (λ (asked : Option (List ℕ)). CameTo asked (texts c.args.words.now) from to c.print-cause.result)
+    subst (λ (asked : Option (List ℕ)). CameTo asked (word_texts c.args.words.now) from to c.print-cause.result)
     c.in-Some.ensures c.print-cause.ensures.printed
 
 pub returns-in-Some-clause-said : goal.returns-in-Some-clause-said
 returns-in-Some-clause-said g c =
     explained_as _ _ _ _ _ _ c.explain.ensures.said
-    (said_of_plain _ [] (map shown (texts c.args.words.now)) _ c.print-cause.ensures.plain)
+    (said_of_plain _ [] (map shown (word_texts c.args.words.now)) _ c.print-cause.ensures.plain)
 
 pub returns-in-Ok-clause-came : goal.returns-in-Ok-clause-came
 returns-in-Ok-clause-came g c =
@@ -38,7 +38,7 @@ returns-in-Ok-clause-came g c =
     let now = c.cause_of_run-cause.new.out in
     let to : Written =
     written (g.S.Sink.written out) (g.S.Sink.written now) (g.S.Sink.faults out) (g.S.Sink.faults now) in
-    subst (λ (asked : Option (List ℕ)). CameTo asked (texts c.args.words.now) from to c.cause_of_run-cause.result)
+    subst (λ (asked : Option (List ℕ)). CameTo asked (word_texts c.args.words.now) from to c.cause_of_run-cause.result)
     c.in-None.ensures (c.cause_of_run-cause.ensures.ran, c.cause_of_run-cause.ensures.cause)
 
 pub returns-in-Ok-clause-unread : goal.returns-in-Ok-clause-unread
@@ -47,7 +47,7 @@ returns-in-Ok-clause-unread g c some = absurd (cc (subst IsSome (sym c.in-None.e
 pub returns-in-Ok-clause-said : goal.returns-in-Ok-clause-said
 returns-in-Ok-clause-said g c =
     explained_as _ _ _ _ _ _ c.explain-in-Ok.ensures.said
-    (said_of_same _ _ _ _ (ap texts c.deref.ensures.value ∙ c.in-Ok.ensures))
+    (said_of_same _ _ _ _ (ap word_texts c.deref.ensures.value ∙ c.in-Ok.ensures))
 
 pub returns-in-Err-clause-came : goal.returns-in-Err-clause-came
 returns-in-Err-clause-came g c =
@@ -58,11 +58,11 @@ returns-in-Err-clause-came g c =
     source (g.F.Files.told files) (g.F.Files.gives files) (g.F.Files.failed files) faults faults in
     let to : Written =
     written (g.S.Sink.written out) (g.S.Sink.written out) (g.S.Sink.faults out) (g.S.Sink.faults out) in
-    subst (λ (asked : Option (List ℕ)). CameTo asked (texts c.args.words.now) from to NoMemory)
+    subst (λ (asked : Option (List ℕ)). CameTo asked (word_texts c.args.words.now) from to NoMemory)
     c.in-None.ensures
-    (memory_ran (texts c.args.words.now) from (g.S.Sink.written out) (g.S.Sink.faults out), λ _ no. absurd (no refl))
+    (memory_ran (word_texts c.args.words.now) from (g.S.Sink.written out) (g.S.Sink.faults out), λ _ no. absurd (no refl))
 
 pub returns-in-Err-clause-said : goal.returns-in-Err-clause-said
 returns-in-Err-clause-said g c =
     explained_as _ _ _ _ _ _ c.explain-in-Err.ensures.said
-    (said_of_plain _ [] (map shown (texts c.args.words.now)) _ (inr (inr refl)))
+    (said_of_plain _ [] (map shown (word_texts c.args.words.now)) _ (inr (inr refl)))

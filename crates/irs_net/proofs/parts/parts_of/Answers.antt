@@ -1,5 +1,5 @@
 use Rattle.std.proofs.Common.{rules, ◌≡◌, ◌<◌, ◌++◌, length, add-one, ap, sym, ◌∙◌, false, get_or, List, arith}
-use Rattle.irs_net.specs.NetParts.{stream_parts}
+use Rattle.irs_net.specs.NetParts.{net_parts_of}
 use Rattle.irs_net.specs.declared.parts.NetPart.{NetPart}
 use Rattle.irs_net.proofs.PartLemmas.{parts_few, parts_more, parts_small}
 use Rattle.irs_net.proofs.parts.parts_of.Goals as goal
@@ -29,5 +29,5 @@ loop-i-preserved c =
     let eight : length bs ≡ 8 = search rules in
     let is : p ≡ get_or ps i p = search rules in
     rw add-one (c.in_ok-add_stream.ensures
-    ∙ ap (λ (ns : List NetPart). ns ++ stream_parts (get_or bs i false) p) c.loop-i.invariant
+    ∙ ap (λ (ns : List NetPart). ns ++ net_parts_of (get_or bs i false) p) c.loop-i.invariant
     ∙ sym (parts_more ps bs i p low (omega (arith, eight, few, low)) is))

@@ -2,7 +2,7 @@ use Rattle.std.proofs.Common.{◌≡◌, List, map, sym, ap, subst, ◌∙◌}
 use Rattle.std.proofs.lemmas.Result.{IfOk-weaker}
 use Rattle.irs_base.specs.Members.{Every}
 use Rattle.irs_net.specs.NetParts.{parts_of}
-use Rattle.irs_net.specs.Nets.{HasPlaces, IsNet}
+use Rattle.irs_net.specs.Nets.{NetRowHasPlaces, IsNet}
 use Rattle.irs_net.specs.Private.NetTotals.{row_of, total_at}
 use Rattle.irs_net.specs.declared.parts.NetPart.{NetPart}
 use Rattle.irs_net.proofs.NetLemmas.{few_places, net_is, one_net}
@@ -58,5 +58,5 @@ returns-clause-places c =
     let is : IsNet parts (map row_of m.entries) =
     net_is parts m c.in_ok-totals.ensures.ordered (λ key. c.in_ok-totals.ensures.totals key
     ∙ ap (λ (ps : List NetPart). total_at ps key) e) in
-    IfOk-weaker c.table_of.result (λ rows. rows ≡ map row_of m.entries) (Every HasPlaces)
-    (λ rows h. subst (Every HasPlaces) (sym h) (few_places parts (map row_of m.entries) is.sums)) c.table_of.ensures
+    IfOk-weaker c.table_of.result (λ rows. rows ≡ map row_of m.entries) (Every NetRowHasPlaces)
+    (λ rows h. subst (Every NetRowHasPlaces) (sym h) (few_places parts (map row_of m.entries) is.sums)) c.table_of.ensures

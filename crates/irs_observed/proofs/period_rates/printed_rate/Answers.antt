@@ -3,7 +3,7 @@ use Rattle.irs_base.proofs.RoundingLaws.{rounded_value}
 use Rattle.irs_base.specs.declared.rounding.Direction.TheVariants.{Nearest}
 use Rattle.std.specs.Int.{w64, w128}
 use Rattle.std.proofs.lemmas.Int.{to_z-of_z, ints}
-use Rattle.irs_observed.specs.ObservedRates.{IsPrinted}
+use Rattle.irs_observed.specs.ObservedRates.{IsPrintedRate}
 use Rattle.irs_observed.proofs.SizeLemmas.{printed_of}
 use Rattle.irs_observed.proofs.period_rates.printed_rate.Goals as goal
 
@@ -16,7 +16,7 @@ returns-clause-printed c =
     let fr : FitsSigned w128 c.printed.result = search rules in
     let size = c.printed.ensures.size in
     let small : FitsSigned w64 c.printed.result = omega (arith, ints, size) in
-    let is : IsPrinted (record { numerator = n; denominator = d }) c.printed.result =
+    let is : IsPrintedRate (record { numerator = n; denominator = d }) c.printed.result =
     simp to_z-of_z at c.printed.ensures.rounded in
     let all = printed_of c.args.x n d c.printed.result c.parts-numerator.ensures.numerator
     c.parts-numerator.ensures.denominator is in

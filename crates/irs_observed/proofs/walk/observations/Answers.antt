@@ -2,7 +2,7 @@ use Rattle.std.proofs.Common.{◌≡◌, ◌<◌, length, arith, subst, sym, Lis
 use Rattle.irs_base.specs.Order.{First}
 use Rattle.irs_calendar.specs.GoodDays.{DaySet}
 use Rattle.irs_observed.specs.ObservationPeriods.{ObservedPeriod, observed_period}
-use Rattle.irs_observed.specs.ObservationRules.{Lacks, reported_before}
+use Rattle.irs_observed.specs.ObservationRules.{LacksObservations, reported_before}
 use Rattle.irs_observed.specs.Private.ObservationWalk.{IsUnseen, IsWalk}
 use Rattle.irs_observed.specs.Observations.{AreObserved, lockout_days}
 use Rattle.irs_observed.specs.PeriodMembers.{LeavesCover}
@@ -64,8 +64,8 @@ returns-clause-meets g c =
     let test = c.if-len-lockout_days.false in
     let enough : lockout_days c.args.offset < length c.in_ok-members.members = omega (arith, len, lockout, test) in
     stopped_as (λ (r : NoObservations). (r ≡ NoDay) × IsUnseen c.args.offset set c.as_slice.result.now)
-    (First reported_before (Lacks p)) c.in-Err.stopped
-    (λ r h. subst (λ (x : NoObservations). First reported_before (Lacks p) x) (sym h.0)
+    (First reported_before (LacksObservations p)) c.in-Err.stopped
+    (λ r h. subst (λ (x : NoObservations). First reported_before (LacksObservations p) x) (sym h.0)
     (refused_unseen p c.in-Some.period.from c.in-Some.period.to c.in-Some.ensures.some covered c.in_ok-members.members
     c.in_ok-members.ensures enough
     (subst (λ (u : List ℤ). IsUnseen c.args.offset set u) c.as_slice.ensures.value h.1))) c.in-Err.ensures.broken

@@ -5,7 +5,7 @@ use Rattle.std.proofs.lemmas.Int.{to_z-of_z}
 use Rattle.irs_base.specs.Limits.{most_rate}
 use Rattle.irs_base.specs.Rounding.{Rounded}
 use Rattle.irs_base.specs.declared.rounding.Direction.TheVariants.{Nearest}
-use Rattle.irs_overnight.specs.Factors.{one_factor}
+use Rattle.irs_overnight.specs.Factors.{derived_one}
 use Rattle.irs_overnight.proofs.FactorLemmas.{rate_some, rate_kept, rate_none}
 use Rattle.irs_overnight.proofs.PeriodLemmas.{positive}
 use Rattle.irs_overnight.proofs.factors.known_rate.Goals as goal
@@ -15,7 +15,7 @@ returns-clause-some c =
     let fits : FitsSigned w128 c.rate_of.result = search rules in
     let fits_days : FitsSigned w64 c.args.days = c.ranges.days in
     let fits_factor : FitsSigned w128 c.in_ok-factor.factor = search rules in
-    let rounded : Rounded Nearest ((c.in_ok-factor.factor -ℤ one_factor) *ℤ pos c.args.basis)
+    let rounded : Rounded Nearest ((c.in_ok-factor.factor -ℤ derived_one) *ℤ pos c.args.basis)
     (pos (10 ^ 6) *ℤ c.args.days) c.rate_of.result = simp to_z-of_z at c.rate_of.ensures in
     let some : IfSome c.small_rate.result (λ x. x ≡ c.rate_of.result) = simp to_z-of_z at c.small_rate.ensures.some in
     rate_some c.args.basis c.requires.range.0 c.args.days c.args.observations.now c.in_ok-factor.factor c.rate_of.result
@@ -26,7 +26,7 @@ returns-clause-kept c =
     let fits : FitsSigned w128 c.rate_of.result = search rules in
     let fits_days : FitsSigned w64 c.args.days = c.ranges.days in
     let fits_factor : FitsSigned w128 c.in_ok-factor.factor = search rules in
-    let rounded : Rounded Nearest ((c.in_ok-factor.factor -ℤ one_factor) *ℤ pos c.args.basis)
+    let rounded : Rounded Nearest ((c.in_ok-factor.factor -ℤ derived_one) *ℤ pos c.args.basis)
     (pos (10 ^ 6) *ℤ c.args.days) c.rate_of.result = simp to_z-of_z at c.rate_of.ensures in
     let some : IfSome c.small_rate.result (λ x. x ≡ c.rate_of.result) = simp to_z-of_z at c.small_rate.ensures.some in
     rate_kept c.args.basis c.requires.range.0 c.args.days c.args.observations.now c.in_ok-factor.factor c.rate_of.result
@@ -38,7 +38,7 @@ returns-clause-none c =
     let fits : FitsSigned w128 c.rate_of.result = search rules in
     let fits_days : FitsSigned w64 c.args.days = c.ranges.days in
     let fits_factor : FitsSigned w128 c.in_ok-factor.factor = search rules in
-    let rounded : Rounded Nearest ((c.in_ok-factor.factor -ℤ one_factor) *ℤ pos c.args.basis)
+    let rounded : Rounded Nearest ((c.in_ok-factor.factor -ℤ derived_one) *ℤ pos c.args.basis)
     (pos (10 ^ 6) *ℤ c.args.days) c.rate_of.result = simp to_z-of_z at c.rate_of.ensures in
     let none : IfNone c.small_rate.result (most_rate < unsigned_abs c.rate_of.result) =
     simp to_z-of_z at c.small_rate.ensures.none in

@@ -1,8 +1,8 @@
 use Rattle.std.proofs.Common.{◌≡◌, ◌<ℤ◌, ◌-◌, sym, subst, arith}
 use Rattle.irs_base.specs.Members.{day_at}
-use Rattle.irs_overnight.specs.DailySources.{DailySource, daily_source}
-use Rattle.irs_overnight.specs.DailyPeriods.{period_at}
-use Rattle.irs_overnight.specs.FoundRates.{DailyPeriod, daily_period}
+use Rattle.irs_overnight.specs.DailySources.{DerivedSource, derived_source}
+use Rattle.irs_overnight.specs.DailyPeriods.{derived_period_at}
+use Rattle.irs_overnight.specs.FoundRates.{DailyPeriod, derived_period}
 use Rattle.irs_overnight.specs.DerivedRules.{period_fault}
 use Rattle.irs_overnight.specs.Private.PeriodTurns.{FirstWay}
 use Rattle.irs_overnight.proofs.RowLemmas.{day_read, in_order}
@@ -24,8 +24,8 @@ period_rate-requires-clause-order g c =
 
 pub returns-in-Err-Broken-clause-broken : goal.returns-in-Err-Broken-clause-broken
 returns-in-Err-Broken-clause-broken g c =
-    let source : DailySource =
-    daily_source c.args.part.now c.args.index.now (g.G.GoodDays.days c.args.days.now) c.args.daily.now in
+    let source : DerivedSource =
+    derived_source c.args.part.now c.args.index.now (g.G.GoodDays.days c.args.days.now) c.args.daily.now in
     let adjusted = c.args.part.now.adjusted in
     let value = c.adjusted-adjusted.ensures.value in
     let start : day_at adjusted (c.args.number - 1) ≡ c.index-adjusted-number.result =
@@ -34,12 +34,12 @@ returns-in-Err-Broken-clause-broken g c =
     let end : day_at adjusted c.args.number ≡ c.index-adjusted-number-2.result =
     day_read adjusted c.args.number c.index-adjusted-number-2.result (omega (arith, c.requires.period))
     (rw value at c.index-adjusted-number-2.is) in
-    let same : period_at source c.args.basis c.args.number
-    ≡ daily_period c.args.basis source.lines source.days c.index-adjusted-number.result
+    let same : derived_period_at source c.args.basis c.args.number
+    ≡ derived_period c.args.basis source.lines source.days c.index-adjusted-number.result
     c.index-adjusted-number-2.result =
-    (λ t. daily_period c.args.basis source.lines source.days (start t) (end t)) in
+    (λ t. derived_period c.args.basis source.lines source.days (start t) (end t)) in
     let first : FirstWay
-    (daily_period c.args.basis source.lines source.days c.index-adjusted-number.result
+    (derived_period c.args.basis source.lines source.days c.index-adjusted-number.result
     c.index-adjusted-number-2.result) c.in-Err-Broken.why =
     rw c.in-Err-Broken.field-0-is at c.in-Err-Broken.ensures.broken in
     let named : c.broken_by.result ≡ period_fault c.in-Err-Broken.why c.args.number =

@@ -7,8 +7,8 @@ use Rattle.irs_base.specs.Order.{First}
 use Rattle.irs_base.specs.declared.places.Fault.{Fault}
 use Rattle.irs_base.proofs.HandedAnswers.{handed_on}
 use Rattle.irs_base.proofs.MemberLemmas.{numbered_push}
-use Rattle.irs_overnight.specs.DailySources.{DailySource, daily_source}
-use Rattle.irs_overnight.specs.DailyPeriods.{period_at}
+use Rattle.irs_overnight.specs.DailySources.{DerivedSource, derived_source}
+use Rattle.irs_overnight.specs.DailyPeriods.{derived_period_at}
 use Rattle.irs_overnight.specs.DerivedRows.{IsDerivedRow}
 use Rattle.irs_overnight.specs.DerivedRules.{BreaksPeriod, derived_before, period_fault}
 use Rattle.irs_overnight.specs.Private.PeriodTurns.{FirstWay, NoneFails}
@@ -18,13 +18,13 @@ use Rattle.irs_overnight.proofs.periods.period_rows.Goals as goal
 
 pub returns-in_err-row-clause-broken : goal.returns-in_err-row-clause-broken
 returns-in_err-row-clause-broken g c =
-    let source : DailySource =
-    daily_source c.args.part.now c.args.index.now (g.G.GoodDays.days c.args.days.now) c.args.daily.now in
+    let source : DerivedSource =
+    derived_source c.args.part.now c.args.index.now (g.G.GoodDays.days c.args.days.now) c.args.daily.now in
     let number = c.loop-number.number in
     let within : number < length source.adjusted = rw c.adjusted-number-end.ensures.value at c.loop-number-test.true in
     let p = err_from_is_err_and c.from_residual.result c.from_residual.ensures.1 in
     let P : Fault → Type 0 =
-    λ f. (why : PeriodFault) × FirstWay (period_at source c.args.basis number) why
+    λ f. (why : PeriodFault) × FirstWay (derived_period_at source c.args.basis number) why
     × (f ≡ period_fault why number) in
     let Q : Fault → Type 0 = First derived_before (BreaksPeriod source) in
     rw (p.1, p.2) (handed_on c.in_err-row.field-0.0 P Q
@@ -36,8 +36,8 @@ returns-in_err-row-clause-broken g c =
 
 pub loop-number-preserved : goal.loop-number-preserved
 loop-number-preserved g c =
-    let source : DailySource =
-    daily_source c.args.part.now c.args.index.now (g.G.GoodDays.days c.args.days.now) c.args.daily.now in
+    let source : DerivedSource =
+    derived_source c.args.part.now c.args.index.now (g.G.GoodDays.days c.args.days.now) c.args.daily.now in
     let number = c.loop-number.number in
     let row = c.in_ok-row.row in
     let within : number < length source.adjusted = rw c.adjusted-number-end.ensures.value at c.loop-number-test.true in
@@ -52,6 +52,6 @@ loop-number-preserved g c =
         | inl less ↦ c.loop-number.invariant.kept j p less
         | inr more ↦
             let here : j ≡ number = omega (arith, low, more) in
-            subst (λ (n : ℕ). NoneFails (period_at source c.args.basis n)) (sym here) c.in_ok-row.ensures.kept
+            subst (λ (n : ℕ). NoneFails (derived_period_at source c.args.basis n)) (sym here) c.in_ok-row.ensures.kept
       ];
     })

@@ -2,13 +2,13 @@ use Rattle.std.proofs.Common.{◌≡◌, ◌+◌, ◌<◌, ◌≤◌, length, Al
 use Rattle.irs_base.specs.Members.{EachNumbered}
 use Rattle.irs_overnight.specs.Private.FileLaw.{IsInRange}
 use Rattle.irs_overnight.specs.DerivedRows.{IsDerivedRow}
-use Rattle.irs_overnight.specs.DailySources.{daily_source}
+use Rattle.irs_overnight.specs.DailySources.{derived_source}
 use Rattle.irs_overnight.proofs.DerivedOrder.{KeptBelow}
 use Rattle.irs_overnight.proofs.periods.period_rows.Given as goal
 
 abbrev pub invariant-loop-number : goal.invariant-loop-number
 invariant-loop-number g l =
-    let source = daily_source l.part l.index (g.G.GoodDays.days l.days) l.daily in
+    let source = derived_source l.part l.index (g.G.GoodDays.days l.days) l.daily in
     record {
       many : length l.rows + 1 ≡ l.number;
       within : 1 < l.number → l.number ≤ length source.adjusted;

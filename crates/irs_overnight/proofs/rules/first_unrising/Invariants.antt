@@ -1,6 +1,6 @@
 use Rattle.std.proofs.Common.{ℕ, ◌≤◌}
-use Rattle.irs_overnight.specs.DerivedRules.{NotAfter}
+use Rattle.irs_overnight.specs.DerivedRules.{FixingNotAfter}
 use Rattle.irs_overnight.proofs.rules.first_unrising.Given as goal
 
 abbrev pub invariant-loop-place : goal.invariant-loop-place
-invariant-loop-place l = (n : ℕ) → n ≤ l.place → NotAfter l.resets n → ⊥
+invariant-loop-place l = (n : ℕ) → n ≤ l.place → FixingNotAfter l.resets n → ⊥

@@ -2,7 +2,7 @@ use Rattle.std.proofs.Common.{◌∷◌, ◌++◌, Option, subst, sym}
 use Rattle.irs_base.specs.Order.{First, comes_before}
 use Rattle.irs_payments.specs.Exchanges.{BreaksExchanges}
 use Rattle.irs_payments.specs.Private.Listing.{ListsUpTo}
-use Rattle.irs_payments.specs.Private.Transfers.{listed}
+use Rattle.irs_payments.specs.Private.Transfers.{listed_transfer}
 use Rattle.irs_payments.specs.declared.exchanges.Transfer.{Transfer}
 use Rattle.irs_payments.proofs.ListedExchanges.{one_lacks, one_listed}
 use Rattle.irs_payments.proofs.exchanges.add.Goals as goal
@@ -14,7 +14,7 @@ returns-in-Some-exchange g c =
     let set = g.G.GoodDays.days c.args.days.now in
     let t = c.in-Some.transfer in
     let next : ListsUpTo s set (t ∷ left) c.args.listing =
-    subst (λ (o : Option Transfer). ListsUpTo s set (listed o ++ left) c.args.listing) c.in-Some.is h in
+    subst (λ (o : Option Transfer). ListsUpTo s set (listed_transfer o ++ left) c.args.listing) c.in-Some.is h in
     one_listed s set t left c.args.listing next c.in-Some-exchange.exchange c.push.result
     c.in-Some-exchange.ensures.some c.push.ensures
 
@@ -25,6 +25,6 @@ returns-in-None g c =
     let set = g.G.GoodDays.days c.args.days.now in
     let t = c.in-Some.transfer in
     let next : ListsUpTo s set (t ∷ left) c.args.listing =
-    subst (λ (o : Option Transfer). ListsUpTo s set (listed o ++ left) c.args.listing) c.in-Some.is h in
+    subst (λ (o : Option Transfer). ListsUpTo s set (listed_transfer o ++ left) c.args.listing) c.in-Some.is h in
     subst (First comes_before (BreaksExchanges s set)) (sym c.fault.ensures)
     (one_lacks s set t left c.args.listing next c.in-None.ensures.none)

@@ -2,7 +2,7 @@ use Rattle.std.proofs.Common.{◌≡◌, ◌<◌, ℕ, ℤ, length, arith, pos, 
 use Rattle.std.proofs.lemmas.List.{get_or_default}
 use Rattle.irs_adjust.specs.declared.moved.NoDate.{NoDate}
 use Rattle.irs_payments.specs.Private.Cuts.{cut_at}
-use Rattle.irs_payments.specs.PaymentDates.{LacksResult, LeavesRange}
+use Rattle.irs_payments.specs.PaymentDates.{PaymentLacksResult, PaymentLeavesRange}
 use Rattle.irs_payments.specs.Private.Dating.{date_place}
 use Rattle.irs_payments.proofs.DateLemmas.{outcome_err}
 use Rattle.irs_payments.proofs.PaymentLemmas.{place_low}
@@ -24,5 +24,5 @@ returns-in-Err g c =
     ∙ ap (λ (m : ℕ). day_at a (cut_at cuts m)) c.pay_place.ensures in
     let err : NoDate → Result ℤ NoDate = λ x. Err x in
     outcome_err s set c.args.unadjusted.now a cuts j c.in-Err.reason
-    (λ e. subst (λ (z : ℤ). LacksResult s.pay set z) start (c.in-Err.ensures.lacks (ap err e)))
-    (λ e. subst (λ (z : ℤ). LeavesRange s.pay set z) start (c.in-Err.ensures.leaves (ap err e)))
+    (λ e. subst (λ (z : ℤ). PaymentLacksResult s.pay set z) start (c.in-Err.ensures.lacks (ap err e)))
+    (λ e. subst (λ (z : ℤ). PaymentLeavesRange s.pay set z) start (c.in-Err.ensures.leaves (ap err e)))

@@ -1,5 +1,5 @@
 use Rattle.std.proofs.Common.{◌≡◌, ℕ, ◌<◌, length}
-use Rattle.irs_periods.specs.Adjusting.{AdjustsAt, days_by, last_of}
+use Rattle.irs_periods.specs.Adjusting.{AdjustsAt, boundary_days_by, last_of}
 use Rattle.irs_base.specs.Members.{day_at}
 use Rattle.irs_periods.proofs.adjusting.adjust_each.Given as goal
 
@@ -8,6 +8,6 @@ abbrev pub invariant-loop-i : goal.invariant-loop-i
 invariant-loop-i g l = record {
   so_far : length l.list ≡ l.i;
   each : (j : ℕ) → j < l.i
-      → AdjustsAt l.s (days_by g.G.GoodDays.days l.start l.end l.middle) (last_of l.days) j (day_at l.days j)
+      → AdjustsAt l.s (boundary_days_by g.G.GoodDays.days l.start l.end l.middle) (last_of l.days) j (day_at l.days j)
       (day_at l.list j);
 }

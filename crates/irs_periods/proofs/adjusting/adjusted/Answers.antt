@@ -4,7 +4,7 @@ use Rattle.irs_base.specs.Order.{First, comes_before}
 use Rattle.irs_base.specs.declared.places.Fault.{Fault}
 use Rattle.irs_periods.specs.Adjusting.{AdjustedList, BreaksAdjusted, MissesResult}
 use Rattle.irs_periods.specs.Private.Adjusting.{FirstNoResult, FirstNotAfter}
-use Rattle.irs_periods.specs.Adjusting.{days_by, last_of, no_result_at}
+use Rattle.irs_periods.specs.Adjusting.{boundary_days_by, last_of, no_result_at}
 use Rattle.irs_periods.proofs.AdjustedDecided.{adjusted_unbroken, first_no_result, first_not_after, none_flat, results_unbroken}
 use Rattle.irs_periods.proofs.AdjustedLemmas.{adjusted_exists, two_boundaries, few_days, rising_of}
 use Rattle.irs_periods.proofs.TermOrder.{begins_before_end}
@@ -44,7 +44,7 @@ returns-in-Some-first_without-clause-meets g c =
     let s = c.args.s.now in
     let b = c.args.unadjusted.now in
     let days = g.G.GoodDays.days in
-    let sets = days_by days c.args.start.now c.args.end.now c.args.middle.now in
+    let sets = boundary_days_by days c.args.start.now c.args.end.now c.args.middle.now in
     let i = c.in-Some-first_without.number in
     let first : FirstNoResult s sets b i =
     subst (λ (xs : List ℤ). FirstNoResult s sets xs i) c.as_slice-days.ensures.value c.in-Some-first_without.ensures.some in
@@ -59,7 +59,7 @@ returns-in-None-clause-memory g c =
     let s = c.args.s.now in
     let b = c.args.unadjusted.now in
     let days = g.G.GoodDays.days in
-    let sets = days_by days c.args.start.now c.args.end.now c.args.middle.now in
+    let sets = boundary_days_by days c.args.start.now c.args.end.now c.args.middle.now in
     let list = adjusted_exists s sets c.as_slice-days.result.now c.in-None.ensures.none in
     let unbroken =
     subst (λ (xs : List ℤ). (f : Fault) → MissesResult s sets xs f
@@ -71,7 +71,7 @@ returns-in-Some-first_not_after-clause-meets g c =
     let s = c.args.s.now in
     let b = c.args.unadjusted.now in
     let days = g.G.GoodDays.days in
-    let sets = days_by days c.args.start.now c.args.end.now c.args.middle.now in
+    let sets = boundary_days_by days c.args.start.now c.args.end.now c.args.middle.now in
     let list = c.in-Some.list in
     let i = c.in-Some-first_not_after.number in
     let first : FirstNotAfter list i =
@@ -86,7 +86,7 @@ returns-in-None-first_not_after-clause-meets g c =
     let s = c.args.s.now in
     let b = c.args.unadjusted.now in
     let days = g.G.GoodDays.days in
-    let sets = days_by days c.args.start.now c.args.end.now c.args.middle.now in
+    let sets = boundary_days_by days c.args.start.now c.args.end.now c.args.middle.now in
     let list = c.in-Some.list in
     let adjusted : AdjustedList s sets b list =
     subst (λ (xs : List ℤ). AdjustedList s sets xs list) c.as_slice-days.ensures.value c.in-Some.ensures in

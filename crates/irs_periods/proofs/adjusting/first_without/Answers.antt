@@ -2,7 +2,7 @@ use Rattle.std.proofs.Common.{ℤ, pos, arith, subst}
 use Rattle.std.proofs.lemmas.List.{get_or_read}
 use Rattle.std.proofs.lemmas.Option.{IfSome_then}
 use Rattle.irs_base.proofs.DateTexts.{IfNone_then}
-use Rattle.irs_periods.specs.Adjusting.{AdjustsAt, NoResult, days_by, last_of}
+use Rattle.irs_periods.specs.Adjusting.{AdjustsAt, NoResult, boundary_days_by, last_of}
 use Rattle.irs_periods.proofs.FirstResults.{each_place, first_alone, first_behind}
 use Rattle.irs_base.specs.Members.{day_at}
 use Rattle.irs_periods.proofs.adjusting.first_without.Goals as goal
@@ -12,7 +12,7 @@ returns-in-Some-clause-some g c =
     let s = c.args.s.now in
     let b = c.args.days.now in
     let days = g.G.GoodDays.days in
-    let sets = days_by days c.args.start.now c.args.end.now c.args.middle.now in
+    let sets = boundary_days_by days c.args.start.now c.args.end.now c.args.middle.now in
     let zeroth = get_or_read b 0 c.index-days-0.result (omega (arith, c.requires)) c.index-days-0.is (pos 0) in
     let at_first : (r : ℤ) × AdjustsAt s sets (last_of b) 0 (day_at b 0) r = (
       c.in-Some._first,
@@ -27,7 +27,7 @@ returns-in-Some-clause-none g c =
     let s = c.args.s.now in
     let b = c.args.days.now in
     let days = g.G.GoodDays.days in
-    let sets = days_by days c.args.start.now c.args.end.now c.args.middle.now in
+    let sets = boundary_days_by days c.args.start.now c.args.end.now c.args.middle.now in
     let zeroth = get_or_read b 0 c.index-days-0.result (omega (arith, c.requires)) c.index-days-0.is (pos 0) in
     let at_first : (r : ℤ) × AdjustsAt s sets (last_of b) 0 (day_at b 0) r = (
       c.in-Some._first,
@@ -42,7 +42,7 @@ returns-in-Some-None-clause-some g c =
     let s = c.args.s.now in
     let b = c.args.days.now in
     let days = g.G.GoodDays.days in
-    let sets = days_by days c.args.start.now c.args.end.now c.args.middle.now in
+    let sets = boundary_days_by days c.args.start.now c.args.end.now c.args.middle.now in
     let zeroth = get_or_read b 0 c.index-days-0.result (omega (arith, c.requires)) c.index-days-0.is (pos 0) in
     let misses : NoResult s sets b 0 = record {
       within = omega (arith, c.requires);

@@ -1,7 +1,7 @@
 use Rattle.std.proofs.Common.{◌≡◌, inl, inr, ℕ, ◌<◌, ℤ, pos, arith, subst}
 use Rattle.std.proofs.lemmas.Bool.{cases_lt}
 use Rattle.std.proofs.lemmas.List.{get_or_read}
-use Rattle.irs_periods.specs.Adjusting.{AdjustsAt, NoResult, days_by, last_of}
+use Rattle.irs_periods.specs.Adjusting.{AdjustsAt, NoResult, boundary_days_by, last_of}
 use Rattle.irs_periods.proofs.FirstResults.{first_inner, each_later}
 use Rattle.irs_base.specs.Members.{day_at}
 use Rattle.irs_periods.proofs.adjusting.later_without.Goals as goal
@@ -12,7 +12,7 @@ returns-in_default-adjust_at-clause-some g c =
     let b = c.args.days.now in
     let last = last_of b in
     let days = g.G.GoodDays.days in
-    let sets = days_by days c.args.start.now c.args.end.now c.args.middle.now in
+    let sets = boundary_days_by days c.args.start.now c.args.end.now c.args.middle.now in
     let i = c.loop-i.i in
     let inner : i < last = omega (arith, c.loop-i-test.true) in
     let some : 0 < i = omega (arith, c.loop-i.auto) in
@@ -32,7 +32,7 @@ loop-i-preserved g c = λ j low high.
     let b = c.args.days.now in
     let last = last_of b in
     let days = g.G.GoodDays.days in
-    let sets = days_by days c.args.start.now c.args.end.now c.args.middle.now in
+    let sets = boundary_days_by days c.args.start.now c.args.end.now c.args.middle.now in
     let i = c.loop-i.i in
     let inner : i < last = omega (arith, c.loop-i-test.true) in
     let here = get_or_read b i c.index-days-i.result (omega (arith, inner)) c.index-days-i.is (pos 0) in
@@ -51,7 +51,7 @@ returns-clause-none g c =
     let b = c.args.days.now in
     let last = last_of b in
     let days = g.G.GoodDays.days in
-    let sets = days_by days c.args.start.now c.args.end.now c.args.middle.now in
+    let sets = boundary_days_by days c.args.start.now c.args.end.now c.args.middle.now in
     let final = get_or_read b last c.index-days-last.result (omega (arith, c.requires)) c.index-days-last.is (pos 0) in
     each_later s sets b
     (c.in-Some._last, subst (λ (d : ℤ). AdjustsAt s sets last last d c.in-Some._last) final c.in-Some.ensures.some)

@@ -1,5 +1,5 @@
 use Rattle.std.proofs.Common.{ℕ, ℤ, ◌<◌, ◌≤◌}
-use Rattle.irs_periods.specs.Adjusting.{AdjustsAt, days_by, last_of}
+use Rattle.irs_periods.specs.Adjusting.{AdjustsAt, boundary_days_by, last_of}
 use Rattle.irs_base.specs.Members.{day_at}
 use Rattle.irs_periods.proofs.adjusting.later_without.Given as goal
 
@@ -7,4 +7,4 @@ use Rattle.irs_periods.proofs.adjusting.later_without.Given as goal
 abbrev pub invariant-loop-i : goal.invariant-loop-i
 invariant-loop-i g l =
     (j : ℕ) → 1 ≤ j → j < l.i
-    → (r : ℤ) × AdjustsAt l.s (days_by g.G.GoodDays.days l.start l.end l.middle) (last_of l.days) j (day_at l.days j) r
+    → (r : ℤ) × AdjustsAt l.s (boundary_days_by g.G.GoodDays.days l.start l.end l.middle) (last_of l.days) j (day_at l.days j) r

@@ -8,7 +8,7 @@ use Rattle.irs_periods.proofs.SpanDecided.{first_misfit, first_off_grid}
 use Rattle.irs_periods.proofs.Outcomes.{span_answers}
 use Rattle.irs_periods.proofs.TermOrder.{begins_before_end}
 use Rattle.irs_periods.proofs.SpanLemmas.{given_span_same}
-use Rattle.irs_terms.specs.Suiting.{IsTerm}
+use Rattle.irs_terms.specs.Suiting.{IsWholeTerm}
 use Rattle.irs_terms.specs.TermDates.{termination_of}
 use Rattle.irs_periods.proofs.span.timed_span.Goals as goal
 
@@ -35,7 +35,7 @@ returns-then-not-on_grid c =
     let anchor = c.anchor-anchor.result in
     let fit : Fits s.roll s.freq anchor = c.fits.ensures.0 c.if-not-fits.false in
     let span : Span = record { first = c.ends-first.result.0; last = c.ends-first.result.1; anchor = anchor } in
-    let timed : IsTerm s.freq → ⊥ = λ h. let same = rw h at c.requires.timed in cc in
+    let timed : IsWholeTerm s.freq → ⊥ = λ h. let same = rw h at c.requires.timed in cc in
     let regular : Regular s span = record {
       anchored = c.anchor-anchor.ensures;
       spans = rw c.requires.timed
@@ -51,7 +51,7 @@ returns-then-not-on_grid c =
 pub returns-then-not-fits : goal.returns-then-not-fits
 returns-then-not-fits c =
     let s = c.args.s.now in
-    let timed : IsTerm s.freq → ⊥ = λ h. let same = rw h at c.requires.timed in cc in
+    let timed : IsWholeTerm s.freq → ⊥ = λ h. let same = rw h at c.requires.timed in cc in
     let misfits : RollMisfits s =
     record {
       timed = timed;

@@ -1,10 +1,10 @@
 use Rattle.std.proofs.Common.{◌≡◌, length}
-use Rattle.irs_plain.specs.Elements.{last_name}
+use Rattle.irs_plain.specs.Elements.{last_name_after}
 use Rattle.irs_plain.proofs.elements.last_name.Given as goal
 
 -- the last name of what is left is that of the whole path
 abbrev pub invariant-loop-rest : goal.invariant-loop-rest
-invariant-loop-rest l = last_name l.last l.rest ≡ last_name l.fn.last l.fn.rest
+invariant-loop-rest l = last_name_after l.last l.rest ≡ last_name_after l.fn.last l.fn.rest
 
 -- each round drops one byte
 abbrev pub decreases-loop-rest : goal.decreases-loop-rest

@@ -3,7 +3,7 @@ use Rattle.irs_cli.proofs.PutLemmas.{first_part, grew_more, on_err, on_err_then,
 use Rattle.irs_outside.specs.Outside.{Grew, GrewByFront}
 use Rattle.irs_plain.specs.Centers.{centers_text}
 use Rattle.irs_plain.specs.Notes.{spot_texts}
-use Rattle.irs_plain.specs.Parts.{joined}
+use Rattle.irs_plain.specs.Parts.{joined_texts}
 use Rattle.irs_plain.proofs.PartLemmas.{joined_last}
 use Rattle.irs_plain.proofs.notes.put_spot.Goals as goal
 
@@ -16,7 +16,7 @@ returns-in_err-put_where-clause-err g c =
     let last = centers_text s.listed in
     on_err c.from_residual.result
     (subst (λ (t : List ℕ). GrewByFront before now t) (sym (joined_last texts last))
-    (first_part before now (joined texts) last c.in_err-put_where.ensures.err))
+    (first_part before now (joined_texts texts) last c.in_err-put_where.ensures.err))
 
 pub returns-clause-ok : goal.returns-clause-ok
 returns-clause-ok g c =
@@ -28,7 +28,7 @@ returns-clause-ok g c =
     let last = centers_text s.listed in
     on_ok_then c.put_centers.result c.put_centers.ensures.ok (λ k.
     subst (λ (t : List ℕ). Grew before now t) (sym (joined_last texts last))
-    (grew_more before between now (joined texts) last c.in_ok-put_where.ensures.ok k))
+    (grew_more before between now (joined_texts texts) last c.in_ok-put_where.ensures.ok k))
 
 pub returns-clause-err : goal.returns-clause-err
 returns-clause-err g c =
@@ -40,5 +40,5 @@ returns-clause-err g c =
     let last = centers_text s.listed in
     on_err_then c.put_centers.result c.put_centers.ensures.err (λ k.
     subst (λ (t : List ℕ). GrewByFront before now t) (sym (joined_last texts last))
-    (through_last_part before between now last (joined texts ++ last)
-    (record { front = joined texts; grew = c.in_ok-put_where.ensures.ok; is = refl }) k))
+    (through_last_part before between now last (joined_texts texts ++ last)
+    (record { front = joined_texts texts; grew = c.in_ok-put_where.ensures.ok; is = refl }) k))

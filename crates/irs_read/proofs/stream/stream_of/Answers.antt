@@ -1,5 +1,5 @@
 use Rattle.irs_elements.specs.Codes.{compounding_at, day_count_at, roll_at, stub_kind_at}
-use Rattle.irs_elements.specs.Dates.{day_at}
+use Rattle.irs_elements.specs.Dates.{leaf_date_at}
 use Rattle.irs_elements.specs.Find.{member, seen}
 use Rattle.irs_elements.specs.Words.{currency_at}
 use Rattle.irs_read.proofs.stream.stream_of.Goals as goal
@@ -35,8 +35,8 @@ returns c =
       first_start = c.in_ok-term.ensures.first_start i;
       termination = c.in_ok-term.ensures.termination i;
       period_adj = c.in_ok-term.ensures.period_adj i;
-      first_regular = (c.maybe_day.ensures ∙ ap (said day_at) c.member-2.ensures) i;
-      last_regular = (c.maybe_day-2.ensures ∙ ap (said day_at) c.member-3.ensures) i;
+      first_regular = (c.maybe_day.ensures ∙ ap (said leaf_date_at) c.member-2.ensures) i;
+      last_regular = (c.maybe_day-2.ensures ∙ ap (said leaf_date_at) c.member-3.ensures) i;
       stub = (c.stub_kind.ensures ∙ ap (said stub_kind_at) c.member-4.ensures) i;
       freq = c.frequency.ensures i;
       roll = roll i;

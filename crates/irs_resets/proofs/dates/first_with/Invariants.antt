@@ -1,9 +1,9 @@
 use Rattle.std.proofs.Common.{ℕ, ◌<◌, ◌≤◌}
-use Rattle.irs_resets.specs.ResetDates.{days_by, Fails}
+use Rattle.irs_resets.specs.ResetDates.{reset_days_by, DatesFail}
 use Rattle.irs_resets.proofs.dates.first_with.Given as goal
 
 -- no period before this one has the fault
 abbrev pub invariant-loop-number : goal.invariant-loop-number
 invariant-loop-number g l =
-    let days = days_by l.adjusted (g.G.GoodDays.days l.reset_days) (g.G.GoodDays.days l.fixing_days) in
-    (i : ℕ) → 1 ≤ i → i < l.number → Fails l.fault l.terms days i → ⊥
+    let days = reset_days_by l.adjusted (g.G.GoodDays.days l.reset_days) (g.G.GoodDays.days l.fixing_days) in
+    (i : ℕ) → 1 ≤ i → i < l.number → DatesFail l.fault l.terms days i → ⊥

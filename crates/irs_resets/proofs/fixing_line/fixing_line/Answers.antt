@@ -4,7 +4,7 @@ use Rattle.std.proofs.lemmas.Int.{ints}
 use Rattle.jiff_core.proofs.SignedLemmas.{signed_arith}
 use Rattle.irs_resets.specs.Words.{word, behind_gap}
 use Rattle.irs_resets.specs.declared.store.Slot.{Slot}
-use Rattle.irs_resets.specs.FixingLines.{Spells}
+use Rattle.irs_resets.specs.FixingLines.{SpellsRate}
 use Rattle.irs_resets.specs.Private.FixingLines.{IsTail}
 use Rattle.irs_resets.proofs.fixing_line.fixing_line.Goals as goal
 
@@ -35,7 +35,7 @@ pub returns-in_err-tail-clause-none : goal.returns-in_err-tail-clause-none
 returns-in_err-tail-clause-none c =
     let third = c.first_word.ensures.rest ∙ ap behind_gap c.first_date-date.ensures.rest in
     if_none c.from_residual-in_err-tail.result
-    ((index : List ℕ) (slot : Slot) (rate : ℤ) → Spells c.args.line.now index slot rate → ⊥)
+    ((index : List ℕ) (slot : Slot) (rate : ℤ) → SpellsRate c.args.line.now index slot rate → ⊥)
     (λ index slot rate s. c.in_err-tail.ensures.none slot.tenor index
     (subst (λ (l : List ℕ). IsTail l slot.tenor index) (sym third)
     (record { tenor_text = s.tenor; rest = s.rest; lawful = s.lawful })))

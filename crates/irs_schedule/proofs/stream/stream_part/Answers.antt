@@ -3,7 +3,7 @@ use Rattle.irs_base.proofs.HandedAnswers.{handed_on}
 use Rattle.irs_base.proofs.Outcomes.{stopped_meets}
 use Rattle.irs_terms.specs.declared.stream.Stream.{Stream}
 use Rattle.irs_schedule.specs.Private.Keeping.{MakePart}
-use Rattle.irs_schedule.specs.KeptTerms.{is_daily, is_floating, kept_of}
+use Rattle.irs_schedule.specs.KeptTerms.{is_daily, is_floating, kept_terms_of}
 use Rattle.irs_schedule.specs.Outcomes.{part_over, stream_of}
 use Rattle.irs_schedule.specs.Periods.{periods_by}
 use Rattle.irs_schedule.specs.Private.StageSets.{sets_of}
@@ -31,7 +31,7 @@ in_range days = record {
 
 -- the terms that are kept are those of the stream
 kept_is : (t : KeptTerms) (s : Stream) → t.currency ≡ s.currency → t.day_count ≡ s.day_count
-    → t.notional ≡ s.notional → t.leg ≡ s.leg → t ≡ kept_of s
+    → t.notional ≡ s.notional → t.leg ≡ s.leg → t ≡ kept_terms_of s
 kept_is t s currency day_count notional leg =
     λ i. record { currency = currency i; day_count = day_count i; notional = notional i; leg = leg i }
 

@@ -3,7 +3,7 @@ use Rattle.serde_json.specs.Data.{put}
 use Rattle.serde_json.specs.Find.{get_member}
 use Rattle.serde_json.specs.View.{view, members_view}
 use Rattle.serde_json.proofs.Views.{members_view-insert_entry, view-lookup}
-use Rattle.irs_xml.specs.Values.{joined, without}
+use Rattle.irs_xml.specs.Values.{joined_values, without}
 use Rattle.irs_xml.proofs.MemberLemmas.{members_view-remove_entry}
 use Rattle.irs_xml.proofs.members.put_child.Goals as goal
 
@@ -22,4 +22,4 @@ returns c =
     ∙ members_view-insert_entry c.remove-first.new.self.entries c.args.name c.in_ok-joined.joined
     ∙ ap (λ ms. put name (view c.in_ok-joined.joined) ms) left
     ∙ ap (λ d. put name d (without name (members_view old))) (c.in_ok-joined.ensures
-    ∙ ap (λ o. joined o (view c.args.value)) found)
+    ∙ ap (λ o. joined_values o (view c.args.value)) found)

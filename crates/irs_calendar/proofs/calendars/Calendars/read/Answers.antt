@@ -5,7 +5,7 @@ use Rattle.irs_calendar.specs.Private.Calendars.{calendars_in, SpotFails}
 use Rattle.irs_calendar.proofs.DistinctLemmas.{calendars_apart}
 use Rattle.irs_calendar.proofs.CalendarLemmas.{texts}
 use Rattle.irs_calendar.proofs.GrammarLemmas.{read_is_spelt}
-use Rattle.irs_calendar.specs.FirstFaults.{IsFirstFault, Spot}
+use Rattle.irs_calendar.specs.FirstFaults.{IsFirstCalendarFault, Spot}
 use Rattle.irs_calendar.proofs.FaultLemmas.{fault_is_first, one_first_fault, faulty_spell_none, spelt_or_faulty}
 use Rattle.irs_calendar.proofs.calendars.Calendars.read.Goals as goal
 
@@ -19,7 +19,7 @@ returns-clause-spelt c =
     read_is_spelt (texts c.args.files.now) c.in_ok-sections.sections apart c.in_ok-sections.ensures
 
 first_of : (o : Option Spot) (files : List (List ℕ)) → SpotFails o (calendars_in 1 [] files)
-    → IfSome o (IsFirstFault files)
+    → IfSome o (IsFirstCalendarFault files)
 first_of None files fails = tt
 first_of (Some s) files fails = fault_is_first files s fails
 

@@ -1,7 +1,7 @@
 use Rattle.std.proofs.Common.{◌≡◌, ℕ, ◌+◌, ◌-◌, ◌*◌, ◌^◌, ◌≤◌, length, sym, subst, arith}
 use Rattle.irs_calendar.specs.GoodDays.{Prev}
 use Rattle.irs_calendar.specs.Runs.{CoveredRuns, set_of_runs}
-use Rattle.irs_calendar.specs.Private.Splits.{comes_before, Splits}
+use Rattle.irs_calendar.specs.Private.Splits.{begins_or_ends_before, Splits}
 use Rattle.irs_calendar.specs.declared.search.End.TheVariants.{First}
 use Rattle.irs_calendar.proofs.Halving.{read_more}
 use Rattle.irs_base.proofs.Orders.{lt_true, lt_false}
@@ -18,7 +18,7 @@ returns-then-place-eq0-clause-none g c = λ r prev.
     let v : CoveredRuns =
     record { first = c.self.inside.first; last = c.self.inside.last; runs = c.self.inside.runs } in
     none_prev v c.args.d
-    (subst (λ (k : ℕ). Splits (comes_before First c.args.d) c.self.inside.runs k) c.if-place-eq0.true
+    (subst (λ (k : ℕ). Splits (begins_or_ends_before First c.args.d) c.self.inside.runs k) c.if-place-eq0.true
     c.count_before-place.ensures.place) r
     (subst (λ (z : CoveredRuns). Prev (set_of_runs z) c.args.d r) (sym c.self.view_is) prev)
 
@@ -30,7 +30,7 @@ returns-then-lt-3-clause-some g c =
     subst (λ (z : CoveredRuns). Prev (set_of_runs z) c.args.d c.read-run.result.last) c.self.view_is
     (prev_run v c.args.d (c.count_before-place.result - 1) c.read-run.result c.self.invariant
     (in_cover v c.args.d c.if-lt.ensures c.if-lt-2.ensures)
-    (subst (λ (k : ℕ). Splits (comes_before First c.args.d) c.self.inside.runs k) e
+    (subst (λ (k : ℕ). Splits (begins_or_ends_before First c.args.d) c.self.inside.runs k) e
     c.count_before-place.ensures.place) c.read-run.ensures.run
     (lt_true c.read-run.result.last c.args.d (sym c.if-lt-3.ensures)))
 
@@ -42,7 +42,7 @@ returns-else-lt-3-clause-some g c =
     subst (λ (z : CoveredRuns). Prev (set_of_runs z) c.args.d c.args.d) c.self.view_is
     (prev_here v c.args.d (c.count_before-place.result - 1) c.read-run.result c.self.invariant
     (in_cover v c.args.d c.if-lt.ensures c.if-lt-2.ensures)
-    (subst (λ (k : ℕ). Splits (comes_before First c.args.d) c.self.inside.runs k) e
+    (subst (λ (k : ℕ). Splits (begins_or_ends_before First c.args.d) c.self.inside.runs k) e
     c.count_before-place.ensures.place) c.read-run.ensures.run
     (lt_false c.read-run.result.last c.args.d (sym c.if-lt-3.ensures)))
 

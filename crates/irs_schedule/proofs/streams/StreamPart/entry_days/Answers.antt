@@ -2,7 +2,7 @@ use Rattle.std.proofs.Common.{◌-◌, ◌≤◌, ◌<ℤ◌, length, rules, sub
 use Rattle.std.specs.Int.{w64}
 use Rattle.std.proofs.lemmas.Int.{to_z-of_z}
 use Rattle.irs_schedule.specs.Parts.{Part}
-use Rattle.irs_schedule.specs.Periods.{count_of}
+use Rattle.irs_schedule.specs.Periods.{period_count}
 use Rattle.irs_schedule.specs.declared.entries.PeriodEntry.{PeriodEntry}
 use Rattle.irs_schedule.proofs.PeriodLemmas.{entry_at, length_periods, next_day}
 use Rattle.irs_base.specs.Members.{day_at}
@@ -23,7 +23,7 @@ returns c =
     let s = c.self.inside in
     let P : Part → Type 0 = λ p. c.args.number ≤ length p.periods in
     let high = subst P (sym c.self.view_is) c.requires.high in
-    let within : c.args.number ≤ count_of s.adjusted =
+    let within : c.args.number ≤ period_count s.adjusted =
     omega (arith, high, length_periods s.terms s.unadjusted s.adjusted s.resets s.rates) in
     let h = entry_at s.terms s.unadjusted s.adjusted s.resets s.rates c.args.number c.requires.low within in
     let f : FitsSigned w64 c.days_by.result = search rules in

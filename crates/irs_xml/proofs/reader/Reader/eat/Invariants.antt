@@ -1,8 +1,8 @@
 use Rattle.std.proofs.Common.{◌≡◌, drop}
-use Rattle.irs_xml.specs.Comments.{after}
+use Rattle.irs_xml.specs.Comments.{rest_after}
 use Rattle.irs_xml.specs.Seen.{seen}
 use Rattle.irs_xml.proofs.reader.Reader.eat.Given as goal
 
 -- what is left of the word is ahead just where the whole word is at the front
 abbrev pub invariant-loop-byte : goal.invariant-loop-byte
-invariant-loop-byte l = after (drop l.byte-index l.word) l.ahead ≡ after l.word (seen l.self-inside.rest.now)
+invariant-loop-byte l = rest_after (drop l.byte-index l.word) l.ahead ≡ rest_after l.word (seen l.self-inside.rest.now)

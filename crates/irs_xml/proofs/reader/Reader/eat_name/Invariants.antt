@@ -1,11 +1,11 @@
 use Rattle.std.proofs.Common.{◌≡◌, length}
-use Rattle.irs_xml.specs.Comments.{after}
+use Rattle.irs_xml.specs.Comments.{rest_after}
 use Rattle.irs_xml.specs.Seen.{seen}
 use Rattle.irs_xml.proofs.reader.Reader.eat_name.Given as goal
 
 -- what is left of the name is ahead just where the whole name is at the front
 abbrev pub invariant-loop-c : goal.invariant-loop-c
-invariant-loop-c l = after l.word l.ahead ≡ after (seen l.name) (seen l.self-inside.rest.now)
+invariant-loop-c l = rest_after l.word l.ahead ≡ rest_after (seen l.name) (seen l.self-inside.rest.now)
 
 -- each character that is compared shortens the name
 abbrev pub decreases-loop-c : goal.decreases-loop-c
