@@ -4,10 +4,15 @@ use Rattle.std.proofs.lemmas.Int.{to_z-of_z}
 use Rattle.irs_base.proofs.TextLengths.{small_abs_64, length_signed}
 use Rattle.irs_base.proofs.line.Line.put_signed.Goals as goal
 
-pub put_signed_number-requires : goal.put_signed_number-requires
-put_signed_number-requires c =
+pub push_signed_number-requires : goal.push_signed_number-requires
+push_signed_number-requires c =
     let f : FitsSigned w64 c.args.n = c.ranges.n in
-    simp to_z-of_z (omega (arith, c.requires, length_signed c.args.n (small_abs_64 c.args.n f)))
+    simp to_z-of_z (omega (
+      arith,
+      c.requires,
+      length_signed c.args.n (small_abs_64 c.args.n f),
+      simp length-append at (ap length c.push.ensures),
+    ))
 
 pub returns-clause-grows : goal.returns-clause-grows
 returns-clause-grows c =
@@ -15,5 +20,6 @@ returns-clause-grows c =
     omega (
       arith,
       length_signed c.args.n (small_abs_64 c.args.n f),
-      simp (to_z-of_z, length-append) at (ap length c.put_signed_number.ensures),
+      simp length-append at (ap length c.push.ensures),
+      simp (to_z-of_z, length-append) at (ap length c.push_signed_number.ensures),
     )
