@@ -8,29 +8,22 @@ use Rattle.std.proofs.lemmas.Option.{same_Some, slice_get-get_or, slice_get_with
 use Rattle.jiff_core.proofs.SignedLemmas.{signed_arith}
 use Rattle.irs_base.specs.Days.{IsDay}
 use Rattle.irs_base.specs.Limits.{most_rate}
-use Rattle.irs_base.specs.Members.{EachNumbered, Every, day_at}
+use Rattle.irs_base.specs.Members.{Every}
 use Rattle.irs_base.specs.declared.places.Fault.{Fault}
 use Rattle.irs_base.proofs.EveryLemmas.{all_numbered}
 use Rattle.irs_base.proofs.MemberLemmas.{every_get, numbered_get}
 use Rattle.irs_terms.specs.Lawful.{IsRate}
-use Rattle.irs_terms.specs.declared.frequency.Frequency.{Frequency}
 use Rattle.irs_terms.specs.declared.results.Reset.{Reset}
-use Rattle.irs_resets.specs.FixingFiles.{IsFixingFile}
-use Rattle.irs_resets.specs.Rates.{AreSmall, RateTable, rate_at}
+use Rattle.irs_resets.specs.Rates.{AreSmall}
 use Rattle.irs_resets.specs.ResetDates.{IsPeriod}
-use Rattle.irs_resets.specs.declared.store.Slot.{Slot}
 use Rattle.irs_schedule.specs.Parts.{IsDatedReset, Rises}
 use Rattle.irs_schedule.specs.RowsOf.{no_reset}
-use Rattle.irs_overnight.specs.DailyPeriods.{derived_period_at}
 use Rattle.irs_overnight.specs.DailySources.{DerivedSource, fixing_at}
 use Rattle.irs_overnight.specs.DerivedRows.{AreDerived, IsDerivedRow}
-use Rattle.irs_overnight.specs.DerivedRules.{BreaksDerived, FixingNotAfter, fixing_not_after_at, period_fault}
-use Rattle.irs_overnight.specs.Factors.{DerivedGrows, IsDerivedRate, derived_one}
-use Rattle.irs_overnight.specs.FileLaw.{AreFixings, AreKept, HasRate, IsSmallFound, file_text}
-use Rattle.irs_overnight.specs.FoundRates.{DailyPeriod, FindsRate, PassesRange}
-use Rattle.irs_overnight.specs.Observations.{first_absent}
+use Rattle.irs_overnight.specs.DerivedRules.{BreaksDerived, FixingNotAfter, fixing_not_after_at}
+use Rattle.irs_overnight.specs.FileLaw.{AreKept, IsSmallFound}
 use Rattle.irs_overnight.specs.Private.FileLaw.{IsInRange}
-use Rattle.irs_overnight.specs.Sources.{RateLines, rate_by}
+use Rattle.irs_overnight.specs.Sources.{rate_by}
 use Rattle.irs_overnight.specs.declared.derived.DerivedRow.{DerivedRow}
 use Rattle.irs_overnight.specs.declared.derived.Found.{Found}
 use Rattle.irs_overnight.specs.declared.derived.Found.TheVariants.{Rate, Missing}

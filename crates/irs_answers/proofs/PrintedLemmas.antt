@@ -1,8 +1,6 @@
 -- Where no rule is broken, the text that is due for `schedule` is that of every list in the relations.
 use Rattle.std.proofs.Common.{◌≡◌, ℕ, List, sym, ◌∙◌, ap}
-use Rattle.irs_schedule.specs.Parts.{Part}
 use Rattle.irs_schedule.specs.RowTexts.{schedule_text}
-use Rattle.irs_schedule.specs.Schedules.{IsSchedule}
 use Rattle.irs_answers.specs.declared.tasks.Task.TheVariants.{Schedule}
 use Rattle.irs_answers.specs.Due.{DueFor, Facts, IsTextOfEach, PassesEachStep}
 use Rattle.irs_answers.specs.Given.{Given}

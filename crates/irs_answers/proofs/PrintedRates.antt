@@ -4,14 +4,10 @@ use Rattle.std.proofs.Common.{ℤ, refl, sym, ap, subst, ◌∙◌, arith}
 use Rattle.std.specs.Prelude.{slice_get}
 use Rattle.std.proofs.lemmas.Option.{same_Some}
 use Rattle.irs_base.specs.Days.{IsDay}
-use Rattle.irs_base.specs.Members.{HoldsOf}
-use Rattle.irs_base.specs.Order.{Only}
 use Rattle.irs_base.specs.declared.places.Broken.{Broken}
 use Rattle.irs_base.specs.declared.places.Fault.{Fault}
-use Rattle.irs_base.proofs.MemberLemmas.{numbered_get}
 use Rattle.serde_json.specs.Data.{Data}
 use Rattle.irs_terms.specs.Lawful.{IsLawfulSwap, IsLawfulFloat, IsLawfulLeg, IsLawfulStubRate, IsLawfulStubs, IsRate}
-use Rattle.irs_terms.specs.declared.amounts.FloatTerms.{FloatTerms}
 use Rattle.irs_terms.specs.declared.amounts.StubRate.{StubRate}
 use Rattle.irs_terms.specs.declared.amounts.StubRate.TheVariants.{Index}
 use Rattle.irs_terms.specs.declared.amounts.StubTerms.{StubTerms}
@@ -24,9 +20,7 @@ use Rattle.irs_read.proofs.LawfulSwaps.{document_lawful, means_read}
 use Rattle.irs_resets.specs.FixingFiles.{IsFixingFile}
 use Rattle.irs_resets.specs.Rates.{AreSmall, RateTable, rate_at}
 use Rattle.irs_resets.specs.ResetDates.{IsPeriod}
-use Rattle.irs_resets.specs.declared.store.Slot.{Slot}
 use Rattle.irs_rules.proofs.Kept.{lawful_stream}
-use Rattle.irs_schedule.specs.DaySets.{reset_days}
 use Rattle.irs_schedule.specs.Parts.{Part}
 use Rattle.irs_schedule.specs.Schedules.{IsSchedule}
 use Rattle.irs_overnight.specs.DailySources.{DerivedSource, derived_source, fixing_at}
@@ -43,19 +37,18 @@ use Rattle.irs_average.specs.MeanRows.{AreMeans}
 use Rattle.irs_average.specs.MeanRules.{BreaksMeans}
 use Rattle.irs_average.specs.MeanSources.{MeanSource, averaging_by, mean_source, own_lines}
 use Rattle.irs_average.specs.StubRates.{IsStubRow, StubSource}
-use Rattle.irs_average.specs.Stubs.{GivesIndex, GivesOn, HasStub, IsStubOn, Stub, StubAsked, stub_asked}
+use Rattle.irs_average.specs.Stubs.{GivesOn, HasStub, IsStubOn, Stub, StubAsked, stub_asked}
 use Rattle.irs_average.specs.declared.means.Mean.{Mean}
 use Rattle.irs_average.specs.declared.stubs.Side.{Side}
 use Rattle.irs_average.specs.declared.stubs.Side.TheVariants.{Initial, Last}
 use Rattle.irs_answers.specs.Derived.{DueAveraged, DueCompounded, DueStub, FloatingStream, IsFloatingAt, NotFloating, PrintsOne}
 use Rattle.irs_answers.specs.Derived.{PrintsStub}
-use Rattle.irs_answers.specs.DerivedSchedules.{HasRateOf, HasRowRates, IsMadeWith}
+use Rattle.irs_answers.specs.DerivedSchedules.{IsMadeWith}
 use Rattle.irs_answers.specs.Due.{Answered, AreGivenFixings as FixingsGive, DueFor, Facts, PassesEachStep, SpellsTask}
 use Rattle.irs_answers.specs.Due.{facts}
-use Rattle.irs_answers.specs.Due.{rates_for}
 use Rattle.irs_answers.specs.Given.{Given}
 use Rattle.irs_answers.specs.KeptSchedules.{IsKeptSchedule}
-use Rattle.irs_answers.specs.PrintedRates.{AveragePrints, InterpolatePrints, OvernightPrints, PrintsRate, PrintsRates, asked_of}
+use Rattle.irs_answers.specs.PrintedRates.{AveragePrints, InterpolatePrints, OvernightPrints, asked_of}
 use Rattle.irs_answers.specs.PrintedRates.{with_fixings}
 use Rattle.irs_answers.specs.Steps.{Refuses, Rules, ReadStep}
 use Rattle.irs_answers.specs.declared.tasks.Task.{Task}

@@ -16,7 +16,6 @@ use Rattle.irs_answers.specs.Derived.{FloatingStream, IsFloatingAt}
 use Rattle.irs_answers.specs.DerivedSchedules.{HasRateOf, HasRowRates}
 use Rattle.irs_answers.specs.Due.{DueFor, Facts, PassesEachStep}
 use Rattle.irs_answers.specs.Given.{Given}
-use Rattle.irs_answers.specs.declared.tasks.Task.{Task}
 use Rattle.irs_answers.specs.declared.tasks.Task.TheVariants.{Schedule, Overnight, Average, Interpolate}
 
 -- the files of a task, with this text as the file of fixings

@@ -1,5 +1,5 @@
 //! The name of the centre at a place of K12.
-ghost use Rattle.std.specs.Prelude.{◌≡◌, ◌-◌, IfSome, Some, option_copied, slice_get};
+ghost use Rattle.std.specs.Prelude.{◌≡◌, ◌-◌, IfSome, Some, option_copied};
 ghost use Rattle.irs_answers.specs.Centers.{IsCenterAt, IsCenterIn, names_at as names_at_place};
 ghost use Rattle.irs_answers.specs.Forms.{source_by};
 ghost use Rattle.irs_rules.specs.Centers.{start_names as start_names_of};

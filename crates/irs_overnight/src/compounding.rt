@@ -12,11 +12,11 @@ ghost use Rattle.irs_overnight.specs.declared.derived.DerivedRow.{DerivedRow as 
 use crate::derived::Derived;
 use crate::rules::derived_rows;
 use crate::streams::floating_at;
-use irs_base::{Broken, Stopped, Text};
+use irs_base::{Broken, Stopped};
 use irs_calendar::GoodDays;
 use irs_resets::Fixings;
-use irs_schedule::{Schedule, StreamPart};
-use irs_terms::{FloatTerms, Swap};
+use irs_schedule::Schedule;
+use irs_terms::Swap;
 use std::alloc::Global;
 
 /// Why no rates are derived: the first broken rule, with the stream's number in its place, or memory
