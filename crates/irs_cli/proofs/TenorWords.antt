@@ -7,6 +7,7 @@ use Rattle.std.proofs.lemmas.Bool.{cases_lt}
 use Rattle.std.proofs.lemmas.Bool.Decides.{nat_tests}
 use Rattle.std.proofs.lemmas.Fmt.{decimal_digit, decimal_step}
 use Rattle.std.proofs.lemmas.Option.{same_Some}
+use Rattle.irs_base.proofs.TextLemmas.{of_two_digits}
 use Rattle.irs_resets.specs.Tenors.{digit_at, first_digit, tenor_at, tens, two_digit_number, hundreds, three_digits}
 use Rattle.irs_resets.specs.Tenors.{unit_of_letter}
 use Rattle.irs_resets.specs.Tenors.{with_unit}
@@ -70,14 +71,11 @@ record IsNumber (ds : List ℕ) (n : ℕ) : Type 0 where
   high : n ≤ 999
   is : ds ≡ decimal n
 
-two : (n : ℕ) → 10 ≤ n → n < 100 → decimal n ≡ (48 + n / 10) ∷ (48 + n % 10) ∷ []
-two n low high = rw (decimal_step n low (omega (arith, high)), decimal_digit (n / 10) (omega (arith, high))) refl
-
 three : (n : ℕ) → 100 ≤ n → n < 1000 → decimal n ≡ (48 + n / 100) ∷ (48 + n / 10 % 10) ∷ (48 + n % 10) ∷ []
 three n low high =
     let same : n / 10 / 10 ≡ n / 100 = omega arith in
     decimal_step n (omega (arith, low)) (omega (arith, high))
-    ∙ ap (λ ds. ds ++ (48 + n % 10) ∷ []) (two (n / 10) (omega (arith, low)) (omega (arith, high)))
+    ∙ ap (λ ds. ds ++ (48 + n % 10) ∷ []) (of_two_digits (n / 10) (omega (arith, low)) (omega (arith, high)))
     ∙ ap (λ m. (48 + m) ∷ (48 + n / 10 % 10) ∷ (48 + n % 10) ∷ []) same
 
 one_number : (a n : ℕ) → first_digit a ≡ Some n → IsNumber (a ∷ []) n
@@ -108,7 +106,7 @@ tens_number (Some x) (Some y) a b n f g e =
       high = omega (arith, high, small, same);
       is =
           ap₂ (λ s t. s ∷ t ∷ []) front back
-          ∙ sym (two n (omega (arith, low, same)) (omega (arith, high, small, same)));
+          ∙ sym (of_two_digits n (omega (arith, low, same)) (omega (arith, high, small, same)));
     }
 tens_number (Some x) None a b n f g e = cc
 tens_number None p a b n f g e = cc

@@ -1,19 +1,16 @@
 -- A day of the month that a roll names is a number from 1 to 30, and no other text is one.
 use Rattle.std.proofs.Common.{◌≡◌, inl, inr, ℕ, ◌+◌, ◌*◌, ◌-◌, ◌/◌, ◌%◌, ◌≤◌, ◌<◌, List, [], ◌∷◌, Option, Some, None, Bool}
 use Rattle.std.proofs.Common.{true, false, refl, sym, ◌∙◌, ap, ap₂, arith}
-use Rattle.std.specs.Fmt.{decimal}
 use Rattle.std.specs.Prelude.{nat_le, ◌&&◌, if◌then◌else◌}
 use Rattle.std.proofs.lemmas.Bool.{cases_lt}
 use Rattle.std.proofs.lemmas.Bool.Decides.{nat_tests}
-use Rattle.std.proofs.lemmas.Fmt.{decimal_digit, decimal_step}
+use Rattle.std.proofs.lemmas.Fmt.{decimal_digit}
 use Rattle.std.proofs.lemmas.Option.{same_Some}
+use Rattle.irs_base.proofs.TextLemmas.{of_two_digits}
 use Rattle.irs_elements.specs.Codes.{day_number_at, day_roll_at, is_first_digit}
 use Rattle.irs_terms.specs.declared.codes.RollCode.{RollCode}
 use Rattle.irs_terms.specs.declared.codes.RollCode.TheVariants.{Dom}
 use Rattle.irs_plain.specs.DayRolls.{IsDayRoll}
-
-two : (n : ℕ) → 10 ≤ n → n < 100 → decimal n ≡ (48 + n / 10) ∷ (48 + n % 10) ∷ []
-two n low high = rw (decimal_step n low (omega (arith, high)), decimal_digit (n / 10) (omega (arith, high))) refl
 
 first_range : (a : ℕ) → is_first_digit a ≡ true → (49 ≤ a) × (a ≤ 57)
 first_range a e = (grind (arith, nat_tests), grind (arith, nat_tests))
@@ -63,7 +60,7 @@ two_by true a b r e is =
       day = n;
       from_one = omega (arith, low, least);
       to_thirty = small.0;
-      is = ap₂ (λ s t. s ∷ t ∷ []) front back ∙ sym (two n (omega (arith, low, least)) (omega (arith, high, most)));
+      is = ap₂ (λ s t. s ∷ t ∷ []) front back ∙ sym (of_two_digits n (omega (arith, low, least)) (omega (arith, high, most)));
       gives = small.1;
     }
 two_by false a b r e is = cc
@@ -97,5 +94,5 @@ day_roll_read s r h =
     let high = h.to_thirty in
     ap day_roll_at h.is ∙ elim (cases_lt h.day 10) [
       | inl one ↦ ap day_roll_at (decimal_digit h.day one) ∙ one_read h.day low one
-      | inr more ↦ ap day_roll_at (two h.day more (omega (arith, high))) ∙ two_read h.day more high
+      | inr more ↦ ap day_roll_at (of_two_digits h.day more (omega (arith, high))) ∙ two_read h.day more high
     ] ∙ ap (λ (x : RollCode). Some x) (sym h.gives)
