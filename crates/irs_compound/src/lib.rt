@@ -20,7 +20,6 @@ pub use compounding::{Compounding, Flat, OutOfRange, Simple, SpreadExclusive, St
 pub use overnight::{overnight_rates_are_determined, rates_of_period};
 pub use payments::{payment_amount, payment_amount_is_bounded, payment_amount_is_determined};
 pub use periods::{Parts, PeriodTerm, Rates};
-pub use rates::{fixed_rates, period_rates};
+pub use rates::period_rates;
 pub use rising_rates::{rates_are_determined, rates_of_rising};
 pub use rising_steps::{in_force_of_rising, value_in_force_is_determined};
-pub use step_values::in_force;

@@ -11,9 +11,9 @@ ghost use Rattle.irs_terms.specs.Lawful.{IsRate, IsLawfulValues, IsLawfulFloat};
 ghost use Rattle.irs_base.specs.Limits.{most_rate};
 ghost use Rattle.irs_compound.specs.declared.periods.Rates.{Rates};
 ghost use Rattle.irs_compound.specs.InForce.{value_in_force};
-ghost use Rattle.irs_compound.specs.PeriodRates.{RatesOf, FixedRatesOf, rate_by_rounding, treated};
+ghost use Rattle.irs_compound.specs.PeriodRates.{RatesOf, rate_by_rounding, treated};
 ghost use Rattle.irs_compound.specs.Private.PeriodRates.{all_in_at};
-ghost use Rattle.irs_compound.specs.PeriodRates.{rates_of, fixed_rates_of};
+ghost use Rattle.irs_compound.specs.PeriodRates.{rates_of};
 ghost use Rattle.irs_compound.specs.Private.PeriodRates.{most_exact_base, most_exact_rate};
 ghost use Rattle.irs_compound.specs.PeriodRates.{most_rounded_rate};
 
@@ -34,18 +34,6 @@ pub fn period_rates(f: &FloatTerms, start: Day, observed: i64) -> Rates
     ensures all_in_fits { unsigned_abs result.all_in ≤ most_rounded_rate }
 {
     rates_on(f, start, observed)
-}
-
-/// The rates of a period of a fixed stream whose unadjusted start is `start`: both are the fixed
-/// rate in force, in units of 10^-9.
-pub fn fixed_rates(values: &StepValues, start: Day) -> Rates
-    requires { IsLawfulValues IsRate values.now }
-    ensures rates { FixedRatesOf values.now start result }
-    ensures value { result ≡ fixed_rates_of values.now start }
-    ensures base_fits { IsRate result.base }
-    ensures all_in_fits { IsRate result.all_in }
-{
-    fixed_from(rate_in_force(values, start))
 }
 
 /// Both rates are this one, which is at most 10 in size.

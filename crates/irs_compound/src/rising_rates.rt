@@ -15,9 +15,9 @@ use irs_terms::{FloatTerms, Leg, StepValues};
 
 /// The rates of a period by the leg of its stream. The steps rise by day, as the rules of the terms
 /// require. On a fixed stream they are those of the rate in force. On a floating one they are those of
-/// the observed rate, or `None` without one. The observed rate is at most 10 in size. The rates equal
-/// those of `fixed_rates` and `period_rates`, which visit each step. `start` is the period's unadjusted
-/// start; rates are in units of 10^-9.
+/// the observed rate, or `None` without one. These are those of `period_rates`, which visits
+/// each step. The observed rate is at most 10 in size. `start` is the period's unadjusted start; rates
+/// are in units of 10^-9.
 pub fn rates_of_rising(leg: &Leg, start: Day, observed: Option<i64>) -> Option<Rates>
     requires leg { IsLawfulLeg leg.now }
     requires rises { LegStepsRise leg.now }

@@ -8,8 +8,7 @@ use irs_base::Day;
 use irs_terms::{Step, StepValues};
 
 /// The value in force on day `d` of steps that rise by day, as the rules of the terms require. It is
-/// that of the last step not after `d`, or the initial value if there is none (FpML `Schedule`). It is
-/// that of `in_force`, which visits each step.
+/// that of the last step not after `d`, or the initial value if there is none (FpML `Schedule`).
 pub fn in_force_of_rising(values: &StepValues, d: Day) -> i128
     requires rises { StepsRise values.now.steps }
     ensures relation { InForce values.now d result }

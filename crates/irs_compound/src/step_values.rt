@@ -1,5 +1,5 @@
-//! The value that a schedule of steps gives on a day. It is that of the last step not after the day,
-//! else the initial value (FpML `Schedule`).
+//! The value that a schedule of steps gives on a day, in whatever order they are. It is that of the last
+//! step not after the day, else the initial value (FpML `Schedule`).
 ghost use Rattle.std.specs.Prelude.{◌≡◌};
 ghost use Rattle.irs_compound.specs.InForce.{InForce, counted_step, last_from, value_in_force};
 
@@ -8,7 +8,7 @@ use irs_terms::{Step, StepValues};
 
 /// The value in force on day `d`. It is that of the step with the greatest date not after `d`, or the
 /// initial value if there is none. Where several steps have that date, the first of them counts.
-pub fn in_force(values: &StepValues, d: Day) -> i128
+pub(crate) fn in_force(values: &StepValues, d: Day) -> i128
     ensures relation { InForce values.now d result }
     ensures value { result ≡ value_in_force values.now d }
 {
