@@ -207,7 +207,7 @@ class Version(InRoom):
     def test_another_kit(self) -> None:
         status, said = self.version()
         self.assertEqual(status, 1)
-        self.assertIn("crates/irs_plain/src/help.rt states the kit's logic sum as", said)
+        self.assertIn("crates/irs_main/src/help.rt states the kit's logic sum as", said)
         self.assertEqual(self.version("--sources"), (0, ""))
         self.assertEqual(self.version("--write")[0], 0)
         self.assertEqual(self.version(), (0, ""))

@@ -6,8 +6,8 @@ use Rattle.irs_cli.specs.Due.{Due, IsOneAnswer}
 use Rattle.irs_cli.specs.Fetching.{Gives}
 use Rattle.irs_cli.specs.Given.{TellsAll}
 use Rattle.irs_cli.specs.declared.causes.RunCause.{RunCause}
-use Rattle.irs_plain.specs.Sentences.{sentence_of}
-use Rattle.irs_plain.specs.Shown.{shown}
+use Rattle.irs_main.specs.Sentences.{sentence_of}
+use Rattle.irs_main.specs.Shown.{shown}
 use Rattle.irs_c.specs.Given.{AreText, IsAbsent, file_in, gives_in, words_in}
 use Rattle.irs_c.specs.Shown.{Shown}
 use Rattle.irs_c.specs.declared.each.Answer.{Answer}

@@ -12,7 +12,7 @@ use crate::each::{Answer, answer_each};
 use crate::given::{Bytes, File, Trade};
 use crate::telling::{Told, tell};
 use irs_base::Status;
-use irs_plain::VERSION;
+use irs_main::VERSION;
 use std::alloc::Global;
 
 /// Runs a command of the program over lent words and files, and returns its status. 0: done. 1: the
@@ -25,7 +25,7 @@ use std::alloc::Global;
 /// `said_needed`. Where a length is more than there is room for, a second call with that much room gives all.
 /// At 7 and 9 there is no text and no sentence. The call keeps nothing for the next one.
 ///
-/// The sentence is one line without its end. It has each word as `shown_words` of irs_plain shows it, without
+/// The sentence is one line without its end. It has each word as `shown_words` of irs_main shows it, without
 /// controls. It is empty where there is nothing to say: at 0, unless payments have no amount as a fixing is missing.
 #[unsafe(no_mangle)]
 pub extern "C" fn irs_run(

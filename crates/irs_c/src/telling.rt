@@ -6,14 +6,14 @@ ghost use Rattle.irs_cli.specs.Due.{Due};
 ghost use Rattle.irs_c.specs.Each.{IsRun};
 ghost use Rattle.irs_c.specs.Private.Each.{IsCommonIn, outcome_by};
 ghost use Rattle.irs_c.specs.Given.{file_in, gives_in, IsAbsent};
-ghost use Rattle.irs_plain.specs.Sentences.{sentence_of};
-ghost use Rattle.irs_plain.specs.Shown.{shown};
+ghost use Rattle.irs_main.specs.Sentences.{sentence_of};
+ghost use Rattle.irs_main.specs.Shown.{shown};
 
 use crate::given::{File, GivenFiles};
 use crate::kept::Kept;
 use irs_base::Status;
 use irs_cli::{Common, RunCause, cause_of_run};
-use irs_plain::{put_sentence, shown_words};
+use irs_main::{put_sentence, shown_words};
 use std::alloc::Global;
 
 /// What a run comes to.

@@ -30,9 +30,9 @@ pub enum Subject {
     Files,
     /// Sinks in memory, by irs_outside.
     Sinks,
-    /// The sentences on what runs came to, by irs_plain.
+    /// The sentences on what runs came to, by irs_main.
     Sentences,
-    /// What a sentence adds, by irs_plain and irs_locate.
+    /// What a sentence adds, by irs_main and irs_locate.
     Notes,
 }
 

@@ -4,8 +4,8 @@ use crate::causes::cause_of;
 use crate::told::Told;
 use crate::words::words_of;
 use irs_cli::RunCause;
+use irs_main::put_sentence;
 use irs_outside::MemSink;
-use irs_plain::put_sentence;
 use std::alloc::Global;
 
 /// The most bytes of a sentence of the rows.

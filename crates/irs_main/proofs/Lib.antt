@@ -1,2 +1,14 @@
+pub mod TableLaws
+pub mod NameLaws
+pub mod CutLemmas
+pub mod PieceLemmas
+pub mod PartLemmas
+pub mod ShownLaws
+pub mod VisibleLaws
+pub mod CenterLaws
+pub mod SlipLemmas
+pub mod SilenceLaws
+pub mod CodeLaws
+pub mod DayRolls
 pub mod LineLemmas
 pub mod TellLemmas

@@ -2,8 +2,8 @@
 use Rattle.std.proofs.Common.{◌≡◌, ℕ, List, [], ◌++◌, codes, Option, inl, inr, refl, sym, ◌∙◌, ap, subst, append_assoc}
 use Rattle.std.proofs.Common.{◌==◌, if◌then◌else◌, arith, Bool, true, false}
 use Rattle.irs_outside.specs.Outside.{Grew, GrewByFront}
-use Rattle.irs_plain.specs.Sentences.{is_silent, sentence_of}
-use Rattle.irs_plain.proofs.PieceLemmas.{grew_nothing, through_all}
+use Rattle.irs_main.specs.Sentences.{is_silent, sentence_of}
+use Rattle.irs_main.proofs.PieceLemmas.{grew_nothing, through_all}
 use Rattle.irs_cli.proofs.PutLemmas.{Through, first_part, through_last, through_last_part, through_more, through_part}
 use Rattle.irs_cli.specs.Causes.{run_status}
 use Rattle.irs_cli.specs.declared.causes.RunCause.{RunCause}

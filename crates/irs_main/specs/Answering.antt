@@ -7,7 +7,7 @@ use Rattle.irs_cli.specs.Causes.{IsCauseOfWritten, run_status}
 use Rattle.irs_cli.specs.Commands.{Words}
 use Rattle.irs_cli.specs.Run.{Ran, Source, Written}
 use Rattle.irs_cli.specs.declared.causes.RunCause.{RunCause}
-use Rattle.irs_plain.specs.Sentences.{is_silent, sentence_of}
+use Rattle.irs_main.specs.Sentences.{is_silent, sentence_of}
 
 -- ---- the program itself
 

@@ -1,1 +1,3 @@
+pub mod Lookup
+pub mod Parts
 pub mod Answering

@@ -4,17 +4,19 @@
 //! Words, texts and statuses are our rule.
 ghost use Rattle.std.specs.Prelude.{◌≡◌, ℕ, ◌<◌, List, true, false, map, option_map, IsSome, OnOk, OnErr};
 ghost use Rattle.irs_outside.specs.Outside.{Grew, GrewByFront, Rose};
-ghost use Rattle.irs_plain.specs.Sentences.{is_silent as is_silent_of};
-ghost use Rattle.irs_plain.specs.Shown.{shown};
-ghost use Rattle.irs_plain.specs.Words.{word_texts};
+ghost use Rattle.irs_main.specs.Sentences.{is_silent as is_silent_of};
+ghost use Rattle.irs_main.specs.Shown.{shown};
+ghost use Rattle.irs_main.specs.Words.{word_texts};
 ghost use Rattle.irs_cli.specs.Causes.{run_status};
 ghost use Rattle.irs_cli.specs.Run.{source, written};
 ghost use Rattle.irs_main.specs.Answering.{CameTo, Explained, Printed, explanation_of, itself_of};
 ghost use Rattle.irs_main.specs.Private.Answering.{SaysNoWord};
 
+use crate::help::{COMMANDS, HELP, VERSION};
 use crate::pieces::put_lines;
+use crate::sentences::{is_silent, put_sentence};
+use crate::shown::shown_words;
 use irs_cli::{Cause, Files, Note, PutFailed, RunCause, Sink, Status, cause_of_run};
-use irs_plain::{COMMANDS, HELP, VERSION, is_silent, put_sentence, shown_words};
 use std::alloc::Global;
 
 /// Answers the words: prints what they ask for, and says on `errors` what that means. It returns what the words

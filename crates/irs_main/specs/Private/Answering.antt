@@ -3,7 +3,7 @@
 use Rattle.std.specs.Prelude.{◌≡◌, ◌⊎◌, true}
 use Rattle.irs_cli.specs.declared.causes.RunCause.{RunCause}
 use Rattle.irs_cli.specs.declared.causes.RunCause.TheVariants.{PutFailed, NoMemory}
-use Rattle.irs_plain.specs.Sentences.{is_silent}
+use Rattle.irs_main.specs.Sentences.{is_silent}
 
 -- ---- what is said
 

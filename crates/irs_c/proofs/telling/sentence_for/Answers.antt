@@ -1,7 +1,7 @@
 use Rattle.std.proofs.Common.{◌≡◌, ap, subst, ◌∙◌}
 use Rattle.std.specs.Prelude.{IfOk}
 use Rattle.irs_cli.specs.Commands.{Words, word_texts}
-use Rattle.irs_plain.specs.Sentences.{sentence_of}
+use Rattle.irs_main.specs.Sentences.{sentence_of}
 use Rattle.irs_c.proofs.telling.sentence_for.Goals as goal
 
 pub returns-clause-done : goal.returns-clause-done

@@ -1,6 +1,6 @@
 use Rattle.std.proofs.Common.{refl, ◌∙◌}
 use Rattle.irs_cli.proofs.PutLemmas.{on_err}
-use Rattle.irs_plain.proofs.PieceLemmas.{piece_failed, piece_put}
+use Rattle.irs_main.proofs.PieceLemmas.{piece_failed, piece_put}
 use Rattle.irs_main.proofs.LineLemmas.{line_in, lines_in}
 use Rattle.irs_main.proofs.pieces.put_lines.Goals as goal
 

@@ -1,0 +1,16 @@
+use Rattle.std.proofs.Common.{ℕ, List, OnOk, OnErr, subst}
+use Rattle.irs_outside.specs.Outside.{Grew, GrewByFront}
+use Rattle.irs_main.proofs.sentences.put_told.Goals as goal
+
+pub returns-clause-ok : goal.returns-clause-ok
+returns-clause-ok g c =
+    let before = g.S.Sink.written c.args.out.now in
+    let now = g.S.Sink.written c.put_parts.new.out in
+    subst (λ (t : List ℕ). OnOk c.put_parts.result (Grew before now t)) c.say-sentence.ensures c.put_parts.ensures.ok
+
+pub returns-clause-err : goal.returns-clause-err
+returns-clause-err g c =
+    let before = g.S.Sink.written c.args.out.now in
+    let now = g.S.Sink.written c.put_parts.new.out in
+    subst (λ (t : List ℕ). OnErr c.put_parts.result (GrewByFront before now t)) c.say-sentence.ensures
+    c.put_parts.ensures.err

@@ -1,5 +1,0 @@
-use Rattle.irs_plain.proofs.CenterLaws.{list_visible}
-use Rattle.irs_plain.proofs.centers.lists_are_visible.Goals as goal
-
-pub returns : goal.returns
-returns c = list_visible

@@ -1,6 +1,0 @@
-use Rattle.std.proofs.Common.{length}
-use Rattle.irs_plain.proofs.wrong_words.+fields.Given as goal
-
--- the rest of the line is shorter
-abbrev pub decreases-fields : goal.decreases-fields
-decreases-fields l = length l.line.now
