@@ -635,7 +635,7 @@ class Rows(InRoom):
     LIST = "crates/irs_base/specs/PathList.antt"
     TABLE = "crates/irs_read/src/table.rt"
     FILES = [LIST, TABLE, "crates/irs_base/src/elements.rt", "crates/irs_base/specs/Elements.antt",
-             "crates/irs_audit/src/flow_table.rt"]
+             "crates/irs_flows/src/flow_table.rt"]
     LEAF = "calculationPeriodDates/stubPeriodType"
 
     def change(self, name: str, old: str, new: str) -> None:

@@ -7,16 +7,16 @@ use Rattle.irs_base.specs.declared.places.Broken.{Broken}
 use Rattle.irs_base.specs.declared.places.Place.{Place}
 use Rattle.irs_answers.specs.Forms.{IsReadable, TextReads, SourceText}
 use Rattle.irs_schedule.specs.Parts.{Part}
-use Rattle.irs_audit.specs.FlowFaults.{FlowFault}
-use Rattle.irs_audit.specs.FlowMeaning.{flow_parts_in}
-use Rattle.irs_audit.specs.FlowParts.{FlowPart}
-use Rattle.irs_audit.specs.FlowReading.{FlowsOf, IsFirstShape, shape_kind_of}
+use Rattle.irs_flows.specs.FlowFaults.{FlowFault}
+use Rattle.irs_flows.specs.FlowMeaning.{flow_parts_in}
+use Rattle.irs_flows.specs.FlowParts.{FlowPart}
+use Rattle.irs_flows.specs.FlowReading.{FlowsOf, IsFirstShape, shape_kind_of}
 use Rattle.irs_audit.specs.Verdicts.{IsVerdict}
 use Rattle.irs_audit.specs.declared.departures.Verdict.{Verdict}
 use Rattle.irs_audit.specs.declared.departures.Verdict.TheVariants.{Yes, No}
-use Rattle.irs_audit.specs.declared.error.FlowErr.TheVariants as flowing
-use Rattle.irs_audit.specs.declared.error.ShapeKind.{ShapeKind}
-use Rattle.irs_audit.specs.declared.error.ShapeKind.TheVariants.{NotJson}
+use Rattle.irs_flows.specs.declared.error.FlowErr.TheVariants as flowing
+use Rattle.irs_flows.specs.declared.error.ShapeKind.{ShapeKind}
+use Rattle.irs_flows.specs.declared.error.ShapeKind.TheVariants.{NotJson}
 use Rattle.irs_answers.specs.declared.refusals.Refusal.{Refusal}
 use Rattle.irs_answers.specs.declared.refusals.Refusal.TheVariants.{Calendars, Fixings, Flows, Memory, Rule, Unreadable}
 use Rattle.irs_answers.specs.declared.refusals.Refusal.TheVariants.{UnreadableFlows}

@@ -6,11 +6,11 @@ use Rattle.irs_base.specs.Order.{First, Only, is_before}
 use Rattle.irs_base.specs.declared.places.Broken.{Broken}
 use Rattle.irs_answers.specs.Forms.{TextReads, SourceText}
 use Rattle.irs_xml.specs.Document.{XmlReads}
-use Rattle.irs_audit.specs.FlowFaults.{FlowFault}
-use Rattle.irs_audit.specs.FlowParts.{FlowPart}
-use Rattle.irs_audit.specs.FlowReading.{FlowsOf, shape_kind_of}
+use Rattle.irs_flows.specs.FlowFaults.{FlowFault}
+use Rattle.irs_flows.specs.FlowParts.{FlowPart}
+use Rattle.irs_flows.specs.FlowReading.{FlowsOf, shape_kind_of}
 use Rattle.irs_audit.specs.Verdicts.{IsVerdict}
-use Rattle.irs_audit.specs.declared.error.ShapeKind.TheVariants.{NotJson}
+use Rattle.irs_flows.specs.declared.error.ShapeKind.TheVariants.{NotJson}
 use Rattle.irs_calendar.specs.declared.sections.Section.{Section}
 use Rattle.irs_calendar.specs.FirstFaults.{IsFirstCalendarFault}
 use Rattle.irs_calendar.specs.Grammar.{CalFiles}

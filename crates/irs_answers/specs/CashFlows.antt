@@ -4,13 +4,13 @@ use Rattle.serde_json.specs.Data.{Data}
 use Rattle.irs_base.specs.Order.{First, Only, is_before}
 use Rattle.irs_base.specs.declared.places.Broken.{Broken}
 use Rattle.irs_schedule.specs.Parts.{Part}
-use Rattle.irs_audit.specs.FlowFaults.{FlowFault}
-use Rattle.irs_audit.specs.FlowParts.{FlowPart}
-use Rattle.irs_audit.specs.FlowReading.{FlowsOf, shape_kind_of}
+use Rattle.irs_flows.specs.FlowFaults.{FlowFault}
+use Rattle.irs_flows.specs.FlowParts.{FlowPart}
+use Rattle.irs_flows.specs.FlowReading.{FlowsOf, shape_kind_of}
 use Rattle.irs_audit.specs.Verdicts.{IsVerdict, row_count, unfixed_count}
 use Rattle.irs_audit.specs.declared.departures.Verdict.{Verdict}
 use Rattle.irs_audit.specs.declared.departures.Verdict.TheVariants.{Yes}
-use Rattle.irs_audit.specs.declared.error.ShapeKind.TheVariants.{NotJson}
+use Rattle.irs_flows.specs.declared.error.ShapeKind.TheVariants.{NotJson}
 use Rattle.irs_breaks.specs.BreakLists.{HasBreak, IsBreakList}
 use Rattle.irs_breaks.specs.BreakTexts.{breaks_text}
 use Rattle.irs_breaks.specs.Findings.{Findings}

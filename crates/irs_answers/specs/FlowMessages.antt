@@ -4,8 +4,8 @@ use Rattle.irs_audit.specs.RowNames.{field_name, row_name}
 use Rattle.irs_audit.specs.declared.departures.Departure.{Departure}
 use Rattle.irs_audit.specs.declared.departures.Verdict.{Verdict}
 use Rattle.irs_audit.specs.declared.departures.Verdict.TheVariants.{Yes, No}
-use Rattle.irs_audit.specs.declared.error.ShapeKind.{ShapeKind}
-use Rattle.irs_audit.specs.declared.error.ShapeKind.TheVariants as shape
+use Rattle.irs_flows.specs.declared.error.ShapeKind.{ShapeKind}
+use Rattle.irs_flows.specs.declared.error.ShapeKind.TheVariants as shape
 use Rattle.irs_base.specs.Elements.{document}
 use Rattle.irs_base.specs.Paths.{path_of}
 use Rattle.irs_base.specs.declared.places.Place.{Place}

@@ -23,9 +23,9 @@ use Rattle.irs_schedule.specs.DatedRules.{DatedKept, DatedBroken}
 use Rattle.irs_schedule.specs.Parts.{Part}
 use Rattle.irs_schedule.specs.Schedules.{IsSchedule}
 use Rattle.irs_terms.specs.declared.stream_list.Swap.{Swap}
-use Rattle.irs_audit.specs.declared.error.FlowErr.{FlowErr}
-use Rattle.irs_audit.specs.declared.error.FlowErr.TheVariants as flowing
-use Rattle.irs_audit.specs.declared.error.ShapeKind.TheVariants.{NotJson}
+use Rattle.irs_flows.specs.declared.error.FlowErr.{FlowErr}
+use Rattle.irs_flows.specs.declared.error.FlowErr.TheVariants as flowing
+use Rattle.irs_flows.specs.declared.error.ShapeKind.TheVariants.{NotJson}
 use Rattle.irs_answers.specs.declared.refusals.Refusal.{Refusal}
 use Rattle.irs_answers.specs.declared.refusals.Refusal.TheVariants.{Rule, Calendars, Fixings, Flows, Memory}
 use Rattle.irs_answers.specs.declared.refusals.Refusal.TheVariants.{Unreadable, UnreadableFlows}

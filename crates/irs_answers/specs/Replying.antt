@@ -1,13 +1,13 @@
 -- What a reply is: its status and its text.
 use Rattle.std.specs.Prelude.{ℕ, List, []}
-use Rattle.irs_audit.specs.declared.error.FlowErr.{FlowErr}
-use Rattle.irs_audit.specs.declared.error.FlowErr.TheVariants as flowing
+use Rattle.irs_flows.specs.declared.error.FlowErr.{FlowErr}
+use Rattle.irs_flows.specs.declared.error.FlowErr.TheVariants as flowing
 use Rattle.irs_calendar.specs.declared.calendars.CalErr.{CalErr}
 use Rattle.irs_calendar.specs.declared.calendars.CalErr.TheVariants as calendar
 use Rattle.irs_calendar.specs.declared.machine.Fault.TheVariants.{Syntax, Repeat, TooMany}
 use Rattle.irs_resets.specs.declared.fixings.FixErr.{FixErr}
 use Rattle.irs_schedule.specs.RowTexts.{schedule_text}
-use Rattle.irs_audit.specs.declared.error.ShapeKind.TheVariants.{NotJson}
+use Rattle.irs_flows.specs.declared.error.ShapeKind.TheVariants.{NotJson}
 use Rattle.irs_answers.specs.FlowMessages.{bad_flows, verdict_status, verdict_text, whole_document}
 use Rattle.irs_answers.specs.Messages.{bad_calendar, bad_fixings, refused, unreadable}
 use Rattle.irs_answers.specs.declared.refusals.Refusal.{Refusal}

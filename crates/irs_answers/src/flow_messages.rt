@@ -2,10 +2,11 @@
 //! no memory.
 ghost use Rattle.std.specs.Prelude.{◌≡◌, ◌≤◌, ◌++◌, ◌∷◌, codes, decimal, length};
 ghost use Rattle.irs_answers.specs.FlowMessages.{bad_flows, departure_text, shape_name, whole_document};
-ghost use Rattle.irs_audit.specs.declared.error.ShapeKind.TheVariants.{NotJson};
+ghost use Rattle.irs_flows.specs.declared.error.ShapeKind.TheVariants.{NotJson};
 
-use irs_audit::{Departure, ShapeKind};
+use irs_audit::Departure;
 use irs_base::{Elem, Line, Place};
+use irs_flows::ShapeKind;
 
 /// The line of flows that agree: `yes ROWS UNFIXED`.
 pub(crate) fn yes_line(rows: u32, unfixed: u32, line: &mut Line)

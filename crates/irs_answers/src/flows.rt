@@ -9,7 +9,8 @@ ghost use Rattle.irs_answers.specs.Private.Unread.{IsOfFlows};
 
 use crate::forms::{ReadErr, Source, read_document};
 use crate::refusals::Refusal;
-use irs_audit::{Flows, Verdict, audit, read_flows};
+use irs_audit::{Verdict, audit};
+use irs_flows::{Flows, read_flows};
 use irs_schedule::Schedule;
 use std::alloc::Global;
 

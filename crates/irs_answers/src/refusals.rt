@@ -6,9 +6,9 @@ ghost use Rattle.irs_answers.specs.declared.refusals.Refusal.TheVariants.{Fixing
 ghost use Rattle.irs_answers.specs.declared.refusals.Refusal.TheVariants.{Memory as OfMemory};
 
 use crate::forms::{ReadErr, Unread};
-use irs_audit::FlowErr;
 use irs_base::{Broken, Memory, Stopped};
 use irs_calendar::CalErr;
+use irs_flows::FlowErr;
 use irs_resets::FixErr;
 
 /// Why a task isn't carried out: the first step that fails.

@@ -14,9 +14,10 @@ ghost use Rattle.irs_answers.specs.Replying.{calendars_text, fixings_text, flows
 use crate::flow_messages::{bad_flows_line, departure_line, not_read_line, yes_line};
 use crate::messages::{bad_calendar_line, bad_fixings_line, refused_line, unreadable_line};
 use crate::refusals::Refusal;
-use irs_audit::{FlowErr, Verdict};
+use irs_audit::Verdict;
 use irs_base::{Line, Memory};
 use irs_calendar::CalErr;
+use irs_flows::FlowErr;
 use irs_resets::FixErr;
 use irs_schedule::Schedule;
 use std::alloc::Global;

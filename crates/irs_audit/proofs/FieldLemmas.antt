@@ -17,10 +17,10 @@ use Rattle.irs_audit.specs.declared.departures.Field.TheVariants.{AdjustedStartD
 use Rattle.irs_audit.specs.declared.departures.Field.TheVariants.{CalculationPeriodNumberOfDays, NotionalAmount, Rate}
 use Rattle.irs_audit.specs.declared.departures.Field.TheVariants.{DayCountYearFraction}
 use Rattle.irs_audit.specs.declared.departures.Field.TheVariants.{ResetDate, AdjustedFixingDate, ObservedRate}
-use Rattle.irs_audit.specs.declared.flows.FlowExchange.{FlowExchange}
-use Rattle.irs_audit.specs.declared.flows.FlowPayment.{FlowPayment}
-use Rattle.irs_audit.specs.declared.flows.FlowPeriod.{FlowPeriod}
-use Rattle.irs_audit.specs.declared.flows.FlowReset.{FlowReset}
+use Rattle.irs_flows.specs.declared.flows.FlowExchange.{FlowExchange}
+use Rattle.irs_flows.specs.declared.flows.FlowPayment.{FlowPayment}
+use Rattle.irs_flows.specs.declared.flows.FlowPeriod.{FlowPeriod}
+use Rattle.irs_flows.specs.declared.flows.FlowReset.{FlowReset}
 use Rattle.irs_audit.specs.DepartureOrder.{field_before}
 use Rattle.irs_audit.specs.FieldDepartures.{ExchangeDeparts, PaymentDeparts, PeriodDeparts, ResetDeparts}
 use Rattle.irs_audit.specs.Private.FieldTables.{first_true}

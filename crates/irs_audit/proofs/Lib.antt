@@ -1,9 +1,3 @@
-pub mod FlowLaws
-pub mod FlowStated
-pub mod FlowSteps
-pub mod FlowRules
-pub mod FlowClean
-pub mod FlowOutcomes
 pub mod ValueLemmas
 pub mod TableLemmas
 pub mod FieldLemmas
@@ -16,4 +10,3 @@ pub mod StatedLemmas
 pub mod StatedBounds
 pub mod SumLemmas
 pub mod Standards
-pub mod FlowsWithin

@@ -15,7 +15,7 @@ use Rattle.irs_audit.specs.declared.departures.RowKind.TheVariants.{Stream, Exch
 use Rattle.irs_audit.specs.Agreement.{RowDeparts, KindDeparts}
 use Rattle.irs_audit.specs.DepartureOrder.{kind_place, field_before, departs_before}
 use Rattle.irs_audit.specs.FieldDepartures.{ExchangeDeparts, PaymentDeparts, PeriodDeparts}
-use Rattle.irs_audit.specs.FlowParts.{FlowPart}
+use Rattle.irs_flows.specs.FlowParts.{FlowPart}
 use Rattle.irs_audit.specs.Private.RowSets.{AmongRows, AmongStream}
 use Rattle.irs_audit.proofs.OrderLemmas.{first_of_both}
 use Rattle.irs_base.specs.Order.{First, IsFirst, level}

@@ -33,12 +33,12 @@ use Rattle.irs_audit.specs.declared.departures.RowKind.{RowKind}
 use Rattle.irs_audit.specs.declared.departures.RowKind.TheVariants.{Stream, Exchange as ExchangeRow}
 use Rattle.irs_audit.specs.declared.departures.RowKind.TheVariants.{Payment as PaymentRow, Period as PeriodRow}
 use Rattle.irs_audit.specs.declared.departures.RowKind.TheVariants.{Reset as ResetRow}
-use Rattle.irs_audit.specs.declared.flows.FlowExchange.{FlowExchange}
-use Rattle.irs_audit.specs.declared.flows.FlowPayment.{FlowPayment}
-use Rattle.irs_audit.specs.declared.flows.FlowPeriod.{FlowPeriod}
+use Rattle.irs_flows.specs.declared.flows.FlowExchange.{FlowExchange}
+use Rattle.irs_flows.specs.declared.flows.FlowPayment.{FlowPayment}
+use Rattle.irs_flows.specs.declared.flows.FlowPeriod.{FlowPeriod}
 use Rattle.irs_audit.specs.Agreement.{RowDeparts, KindDeparts, StreamDeparts, Agrees}
 use Rattle.irs_audit.specs.FieldDepartures.{ExchangeDeparts, PaymentDeparts, PeriodDeparts, ResetDeparts}
-use Rattle.irs_audit.specs.FlowParts.{FlowPart}
+use Rattle.irs_flows.specs.FlowParts.{FlowPart}
 use Rattle.irs_audit.specs.StatedFlows.{stated_number, stated_amount, stated_fraction, stated_exchange, stated_payment}
 use Rattle.irs_audit.specs.StatedFlows.{stated_reset, period_with, stated_period, stated_periods_from, stated_part}
 use Rattle.irs_audit.specs.StatedFlows.{stated_flows}

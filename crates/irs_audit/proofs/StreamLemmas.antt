@@ -11,7 +11,7 @@ use Rattle.irs_audit.specs.declared.departures.RowKind.{RowKind}
 use Rattle.irs_audit.specs.declared.departures.RowKind.TheVariants.{Stream}
 use Rattle.irs_audit.specs.Agreement.{StreamDeparts, Departs}
 use Rattle.irs_audit.specs.DepartureOrder.{departs_before}
-use Rattle.irs_audit.specs.FlowParts.{FlowPart}
+use Rattle.irs_flows.specs.FlowParts.{FlowPart}
 use Rattle.irs_audit.specs.Private.StreamSets.{OfStream}
 use Rattle.irs_base.specs.Order.{First, IsFirst}
 use Rattle.irs_base.proofs.Firsts.{level_later}

@@ -16,7 +16,7 @@ use Rattle.irs_base.specs.Rounding.{Rounded}
 use Rattle.irs_base.specs.declared.rounding.Direction.TheVariants.{Nearest}
 use Rattle.irs_base.proofs.RoundingLaws.{nearest_once}
 use Rattle.irs_terms.specs.declared.results.Frac.{Frac}
-use Rattle.irs_audit.specs.declared.flows.StatedFraction.{StatedFraction}
+use Rattle.irs_flows.specs.declared.flows.StatedFraction.{StatedFraction}
 use Rattle.irs_audit.specs.StatedValues.{StatesNumber, StatesFraction}
 use Rattle.irs_base.specs.Limits.{most_numerator}
 use Rattle.irs_audit.specs.Private.Comparisons.{most_scaled}

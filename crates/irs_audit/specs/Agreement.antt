@@ -7,8 +7,8 @@ use Rattle.irs_audit.specs.declared.departures.Field.{Field}
 use Rattle.irs_audit.specs.declared.departures.Field.TheVariants.{Missing, Extra}
 use Rattle.irs_audit.specs.declared.departures.RowKind.{RowKind}
 use Rattle.irs_audit.specs.declared.departures.RowKind.TheVariants.{Stream, Exchange, Payment, Period, Reset}
-use Rattle.irs_audit.specs.declared.flows.FlowReset.{FlowReset}
-use Rattle.irs_audit.specs.FlowParts.{FlowPart}
+use Rattle.irs_flows.specs.declared.flows.FlowReset.{FlowReset}
+use Rattle.irs_flows.specs.FlowParts.{FlowPart}
 use Rattle.irs_audit.specs.FieldDepartures.{ExchangeDeparts, PaymentDeparts, PeriodDeparts, ResetDeparts}
 
 -- A row of the schedule and one of the flows, each where there is one. One that only the schedule has is missing, and

@@ -1,4 +1,3 @@
-pub mod FlowMeaning
 pub mod Comparisons
 pub mod FieldTables
 pub mod RowSets

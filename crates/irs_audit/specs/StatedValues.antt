@@ -4,7 +4,7 @@ use Rattle.irs_base.specs.Rounding.{Rounded}
 use Rattle.irs_base.specs.declared.line.Dec.{Dec}
 use Rattle.irs_base.specs.declared.rounding.Direction.TheVariants.{Nearest}
 use Rattle.irs_terms.specs.declared.results.Frac.{Frac}
-use Rattle.irs_audit.specs.declared.flows.StatedFraction.{StatedFraction}
+use Rattle.irs_flows.specs.declared.flows.StatedFraction.{StatedFraction}
 
 -- a number stated in units of 10^-12 is equal to `units` units of 10^-places
 abbrev pub StatesNumber : ℤ → ℕ → ℤ → Type 0

@@ -6,7 +6,7 @@ use Rattle.irs_audit.specs.declared.departures.Verdict.{Verdict}
 use Rattle.irs_audit.specs.declared.departures.Verdict.TheVariants.{Yes, No}
 use Rattle.irs_audit.specs.Agreement.{Agrees, Departs}
 use Rattle.irs_audit.specs.DepartureOrder.{departs_before}
-use Rattle.irs_audit.specs.FlowParts.{FlowPart}
+use Rattle.irs_flows.specs.FlowParts.{FlowPart}
 use Rattle.irs_base.specs.Order.{First}
 
 -- how many exchanges, payments, calculation periods and resets a stream has

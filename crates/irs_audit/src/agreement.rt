@@ -13,7 +13,8 @@ ghost use Rattle.irs_base.specs.Order.{IsFirst};
 use crate::counts::{row_count, unfixed_count};
 use crate::rows::{first_of_rows, item};
 use crate::stated_rows::{StatedRows, StatedStreams};
-use crate::{Departure, Field, Flows, RowKind, Verdict};
+use crate::{Departure, Field, RowKind, Verdict};
+use irs_flows::Flows;
 use irs_schedule::{Schedule, StreamPart};
 
 // A whole stream departs.

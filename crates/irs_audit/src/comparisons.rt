@@ -8,8 +8,8 @@ ghost use Rattle.irs_audit.specs.StatedValues.{NotStatedRightly};
 ghost use Rattle.irs_audit.specs.Comparisons.{IsBoundedFraction};
 ghost use Rattle.irs_audit.specs.Private.Comparisons.{most_scaled};
 
-use crate::StatedFraction;
 use irs_base::{Day, Dec, Direction, round};
+use irs_flows::StatedFraction;
 use irs_terms::{Currency, Frac};
 
 // A stated fraction with at least this number of decimals is rounded; one with fewer is exact.

@@ -9,12 +9,13 @@ ghost use Rattle.irs_audit.specs.Private.FieldTables.{first_true};
 ghost use Rattle.irs_audit.specs.StatedValues.{StatesNumber, StatesAmount, StatedWrongly, NotStatedRightly, WhereKnown};
 ghost use Rattle.irs_base.specs.Order.{IsFirst};
 
+use crate::Field;
 use crate::comparisons::{
     amount_is_not_right, count_is_wrong, currency_is_wrong, day_is_not_right, day_is_wrong,
     fraction_is_wrong, number_is_wrong,
 };
-use crate::{Field, FlowExchange, FlowPayment, FlowPeriod, FlowReset};
 use irs_base::Dec;
+use irs_flows::{FlowExchange, FlowPayment, FlowPeriod, FlowReset};
 use irs_schedule::{CalculationPeriod, PaymentEntry};
 use irs_terms::{Currency, Exchange, Reset};
 

@@ -7,7 +7,7 @@ ghost use Rattle.irs_audit.specs.StatedFlows.{stated_part};
 
 use crate::rows::item;
 use crate::stating::{exchange_at, payment_at, period_at, reset_at};
-use crate::{FlowExchange, FlowPayment, FlowPeriod, FlowReset, FlowStream};
+use irs_flows::{FlowExchange, FlowPayment, FlowPeriod, FlowReset, FlowStream};
 use irs_schedule::StreamPart;
 
 /// The rows of one stream.

@@ -12,8 +12,10 @@ ghost use Rattle.irs_audit.specs.StatedFlows.{stated_periods_from, stated_reset}
 
 use crate::comparisons::{power_of_ten, scaled};
 use crate::rows::item;
-use crate::{FlowExchange, FlowPayment, FlowPeriod, FlowReset, FlowStream, Flows, StatedFraction};
 use irs_base::{Day, Dec, Direction, Memory, round};
+use irs_flows::{
+    FlowExchange, FlowPayment, FlowPeriod, FlowReset, FlowStream, Flows, StatedFraction,
+};
 use irs_schedule::{CalculationPeriod, PaymentEntry, Schedule, StreamPart};
 use irs_terms::{Currency, Exchange, Frac, Reset};
 use std::alloc::Global;

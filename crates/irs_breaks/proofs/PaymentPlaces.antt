@@ -8,7 +8,7 @@ use Rattle.irs_base.specs.Members.{Pairs}
 use Rattle.irs_schedule.specs.Parts.{EntriesCover, KeepsBounds, Part}
 use Rattle.irs_schedule.specs.declared.entries.PaymentEntry.{PaymentEntry}
 use Rattle.irs_schedule.proofs.WalkLemmas.{covers_within}
-use Rattle.irs_audit.specs.declared.flows.FlowPayment.{FlowPayment}
+use Rattle.irs_flows.specs.declared.flows.FlowPayment.{FlowPayment}
 
 -- the periods of a payment are periods of its stream
 pub record HasPeriods (from last : ℕ) (x : PaymentEntry) : Type 0 where

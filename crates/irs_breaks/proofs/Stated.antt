@@ -15,12 +15,12 @@ use Rattle.irs_schedule.specs.Parts.{IsWithin, KeepsBounds, Part}
 use Rattle.irs_schedule.specs.PeriodViews.{dated_period, period_at}
 use Rattle.irs_schedule.specs.declared.entries.PaymentEntry.{PaymentEntry}
 use Rattle.irs_schedule.specs.declared.views.CalculationPeriod.{CalculationPeriod}
-use Rattle.irs_audit.specs.FlowParts.{FlowPart}
+use Rattle.irs_flows.specs.FlowParts.{FlowPart}
 use Rattle.irs_audit.specs.StatedFlows.{stated_amount, stated_exchange, stated_flows, stated_number, stated_part, stated_payment}
 use Rattle.irs_audit.specs.StatedFlows.{stated_period, stated_periods_from, stated_reset}
-use Rattle.irs_audit.specs.declared.flows.FlowExchange.{FlowExchange}
-use Rattle.irs_audit.specs.declared.flows.FlowPayment.{FlowPayment}
-use Rattle.irs_audit.specs.declared.flows.FlowPeriod.{FlowPeriod}
+use Rattle.irs_flows.specs.declared.flows.FlowExchange.{FlowExchange}
+use Rattle.irs_flows.specs.declared.flows.FlowPayment.{FlowPayment}
+use Rattle.irs_flows.specs.declared.flows.FlowPeriod.{FlowPeriod}
 use Rattle.irs_audit.proofs.StatedLemmas.{flows_agree, stated_at, stated_get}
 use Rattle.irs_breaks.specs.BreakLists.{IsBreakList}
 use Rattle.irs_breaks.specs.Counting.{counts_in, number_of, same_standing}

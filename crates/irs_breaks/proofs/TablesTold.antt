@@ -2,8 +2,8 @@
 use Rattle.std.proofs.Common.{◌≡◌, ℕ, ◌-◌, List, length, length-drop, map, take, drop, Option, ℤ, arith, sym, subst, ap, ◌∙◌}
 use Rattle.std.proofs.lemmas.List.{take_all}
 use Rattle.irs_base.specs.Members.{Every}
-use Rattle.irs_audit.specs.FlowParts.{FlowPart}
-use Rattle.irs_audit.specs.declared.flows.FlowPeriod.{FlowPeriod}
+use Rattle.irs_flows.specs.FlowParts.{FlowPart}
+use Rattle.irs_flows.specs.declared.flows.FlowPeriod.{FlowPeriod}
 use Rattle.irs_breaks.specs.Findings.{EachRow, Findings}
 use Rattle.irs_breaks.specs.Private.Findings.{Adds}
 use Rattle.irs_breaks.specs.PairedRows.{IsPairing, IsPlacedRow}

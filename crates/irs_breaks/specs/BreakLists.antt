@@ -4,10 +4,10 @@ use Rattle.irs_base.specs.Days.{first_day}
 use Rattle.irs_terms.specs.declared.results.Exchange.{Exchange}
 use Rattle.irs_schedule.specs.Parts.{Part}
 use Rattle.irs_schedule.specs.declared.entries.PaymentEntry.{PaymentEntry}
-use Rattle.irs_audit.specs.FlowParts.{FlowPart}
+use Rattle.irs_flows.specs.FlowParts.{FlowPart}
 use Rattle.irs_audit.specs.declared.departures.RowKind.TheVariants as row
-use Rattle.irs_audit.specs.declared.flows.FlowExchange.{FlowExchange}
-use Rattle.irs_audit.specs.declared.flows.FlowPayment.{FlowPayment}
+use Rattle.irs_flows.specs.declared.flows.FlowExchange.{FlowExchange}
+use Rattle.irs_flows.specs.declared.flows.FlowPayment.{FlowPayment}
 use Rattle.irs_breaks.specs.Findings.{Findings, Then, UpTo, no_findings, one_break}
 use Rattle.irs_breaks.specs.RowFindings.{FindsRows, IsExchangeRow, IsPaymentRow, break_at}
 use Rattle.irs_breaks.specs.declared.findings.What.{What}

@@ -10,7 +10,7 @@ use Rattle.irs_base.specs.declared.line.Dec.{Dec}
 use Rattle.irs_terms.specs.declared.currency.Currency.{Currency}
 use Rattle.irs_schedule.specs.RowTexts.{dec_or_dash}
 use Rattle.irs_audit.specs.RowNames.{field_name, row_name}
-use Rattle.irs_audit.specs.declared.flows.StatedFraction.{StatedFraction}
+use Rattle.irs_flows.specs.declared.flows.StatedFraction.{StatedFraction}
 use Rattle.irs_breaks.specs.Counting.{counted_as}
 use Rattle.irs_breaks.specs.Findings.{Findings}
 use Rattle.irs_breaks.specs.declared.findings.Break.{Break}

@@ -8,10 +8,10 @@ use Rattle.irs_schedule.specs.declared.entries.PaymentEntry.{PaymentEntry}
 use Rattle.irs_schedule.specs.declared.views.CalculationPeriod.{CalculationPeriod}
 use Rattle.irs_audit.specs.declared.departures.Field.{Field}
 use Rattle.irs_audit.specs.declared.departures.Field.TheVariants as field
-use Rattle.irs_audit.specs.declared.flows.FlowExchange.{FlowExchange}
-use Rattle.irs_audit.specs.declared.flows.FlowPayment.{FlowPayment}
-use Rattle.irs_audit.specs.declared.flows.FlowPeriod.{FlowPeriod}
-use Rattle.irs_audit.specs.declared.flows.FlowReset.{FlowReset}
+use Rattle.irs_flows.specs.declared.flows.FlowExchange.{FlowExchange}
+use Rattle.irs_flows.specs.declared.flows.FlowPayment.{FlowPayment}
+use Rattle.irs_flows.specs.declared.flows.FlowPeriod.{FlowPeriod}
+use Rattle.irs_flows.specs.declared.flows.FlowReset.{FlowReset}
 use Rattle.irs_breaks.specs.declared.values.FieldValues.{FieldValues}
 use Rattle.irs_breaks.specs.declared.values.Values.{Values}
 use Rattle.irs_breaks.specs.declared.values.Values.TheVariants.{Counts, Currencies, Dates, Fractions, Numbers}

@@ -3,8 +3,8 @@ use Rattle.std.specs.Prelude.{◌≡◌, ℕ, ◌+◌, ◌-◌, ℤ, List, Optio
 use Rattle.irs_base.specs.Days.{first_day}
 use Rattle.irs_schedule.specs.Parts.{Part}
 use Rattle.irs_schedule.specs.declared.entries.PaymentEntry.{PaymentEntry}
-use Rattle.irs_audit.specs.FlowParts.{FlowPart}
-use Rattle.irs_audit.specs.declared.flows.FlowPayment.{FlowPayment}
+use Rattle.irs_flows.specs.FlowParts.{FlowPart}
+use Rattle.irs_flows.specs.declared.flows.FlowPayment.{FlowPayment}
 use Rattle.irs_breaks.specs.BreakLists.{exchange_dates, first_due, payment_row_dates, stated_exchange_dates}
 use Rattle.irs_breaks.specs.BreakLists.{stated_payment_dates}
 use Rattle.irs_breaks.specs.Dated.{rows_from}

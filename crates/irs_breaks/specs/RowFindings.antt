@@ -11,13 +11,13 @@ use Rattle.irs_schedule.specs.Parts.{Part}
 use Rattle.irs_schedule.specs.PeriodViews.{period_at}
 use Rattle.irs_schedule.specs.declared.entries.PaymentEntry.{PaymentEntry}
 use Rattle.irs_schedule.specs.declared.views.CalculationPeriod.{CalculationPeriod}
-use Rattle.irs_audit.specs.FlowParts.{FlowPart}
+use Rattle.irs_flows.specs.FlowParts.{FlowPart}
 use Rattle.irs_audit.specs.declared.departures.RowKind.{RowKind}
 use Rattle.irs_audit.specs.declared.departures.RowKind.TheVariants as row
-use Rattle.irs_audit.specs.declared.flows.FlowExchange.{FlowExchange}
-use Rattle.irs_audit.specs.declared.flows.FlowPayment.{FlowPayment}
-use Rattle.irs_audit.specs.declared.flows.FlowPeriod.{FlowPeriod}
-use Rattle.irs_audit.specs.declared.flows.FlowReset.{FlowReset}
+use Rattle.irs_flows.specs.declared.flows.FlowExchange.{FlowExchange}
+use Rattle.irs_flows.specs.declared.flows.FlowPayment.{FlowPayment}
+use Rattle.irs_flows.specs.declared.flows.FlowPeriod.{FlowPeriod}
+use Rattle.irs_flows.specs.declared.flows.FlowReset.{FlowReset}
 use Rattle.irs_breaks.specs.Counting.{AreBreaks, counts_in}
 use Rattle.irs_breaks.specs.Fields.{exchange_fields, payment_fields, period_fields, reset_fields, reset_or_nothing}
 use Rattle.irs_breaks.specs.Fields.{notional_of}

@@ -9,8 +9,9 @@ ghost use Rattle.irs_breaks.specs.Fields.{reset_fields};
 ghost use Rattle.irs_breaks.specs.Fields.{reset_or_nothing};
 
 use crate::values::{FieldValues, Values};
-use irs_audit::{Field, FlowExchange, FlowPayment, FlowPeriod, FlowReset};
+use irs_audit::Field;
 use irs_base::{Day, Dec};
+use irs_flows::{FlowExchange, FlowPayment, FlowPeriod, FlowReset};
 use irs_schedule::{CalculationPeriod, PaymentEntry};
 use irs_terms::{Currency, Exchange, Reset};
 

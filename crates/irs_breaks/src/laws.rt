@@ -1,8 +1,8 @@
 //! Laws of the pairing and of the list of breaks, each the contract of a function that does nothing.
 ghost use Rattle.std.specs.Prelude.{◌≡◌, List, None, Option, sum_by, ℤ};
 ghost use Rattle.irs_audit.specs.Agreement.{Agrees};
-ghost use Rattle.irs_audit.specs.FlowBounds.{FlowsAreWithin};
-ghost use Rattle.irs_audit.specs.FlowParts.{FlowPart};
+ghost use Rattle.irs_flows.specs.FlowBounds.{FlowsAreWithin};
+ghost use Rattle.irs_flows.specs.FlowParts.{FlowPart};
 ghost use Rattle.irs_audit.specs.StatedFlows.{stated_flows};
 ghost use Rattle.irs_breaks.specs.BreakLists.{HasBreak, IsBreakList};
 ghost use Rattle.irs_breaks.specs.Findings.{Findings};

@@ -17,8 +17,9 @@ use crate::pairing::pair_rows;
 use crate::period_breaks::push_periods;
 use crate::row_breaks::{member_at, place_of, push_fields, push_ours, push_theirs};
 use crate::values::FieldValues;
-use irs_audit::{FlowPayment, FlowStream, RowKind};
+use irs_audit::RowKind;
 use irs_base::{Day, Memory};
+use irs_flows::{FlowPayment, FlowStream};
 use irs_schedule::{PaymentEntry, StreamPart};
 use std::alloc::Global;
 

@@ -11,8 +11,9 @@ ghost use Rattle.irs_breaks.specs.Private.Findings.{Adds};
 use crate::exchange_breaks::push_exchanges;
 use crate::findings::{BreakList, BreakPlace, What};
 use crate::payment_breaks::push_payments;
-use irs_audit::{FlowStream, Flows, RowKind};
+use irs_audit::RowKind;
 use irs_base::{Day, Memory};
+use irs_flows::{FlowStream, Flows};
 use irs_schedule::{Schedule, StreamPart};
 use std::alloc::Global;
 

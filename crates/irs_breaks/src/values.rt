@@ -3,10 +3,10 @@ ghost use Rattle.std.specs.Prelude.{◌≡◌, ◌↔◌, IsTrue};
 ghost use Rattle.irs_breaks.specs.Values.{CanBeCompared, Differ, standing_of, stands_by};
 
 use irs_audit::{
-    Field, StatedFraction, count_is_wrong, currency_is_wrong, day_is_wrong, fraction_is_wrong,
-    number_is_wrong,
+    Field, count_is_wrong, currency_is_wrong, day_is_wrong, fraction_is_wrong, number_is_wrong,
 };
 use irs_base::{Day, Dec};
+use irs_flows::StatedFraction;
 use irs_terms::{Currency, Frac};
 
 /// The two values of a field: that of the schedule, where it is known, and that of the cash flows, where it is

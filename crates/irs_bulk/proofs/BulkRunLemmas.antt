@@ -15,8 +15,8 @@ use Rattle.irs_terms.specs.declared.stream_list.Swap.{Swap}
 use Rattle.irs_audit.specs.StatedFlows.{stated_flows}
 use Rattle.irs_audit.specs.Verdicts.{IsVerdict}
 use Rattle.irs_audit.specs.declared.departures.Verdict.{Verdict}
-use Rattle.irs_audit.specs.declared.error.FlowErr.{FlowErr}
-use Rattle.irs_audit.specs.declared.error.FlowErr.TheVariants as flowing
+use Rattle.irs_flows.specs.declared.error.FlowErr.{FlowErr}
+use Rattle.irs_flows.specs.declared.error.FlowErr.TheVariants as flowing
 use Rattle.irs_audit.proofs.VerdictLemmas.{one_verdict}
 use Rattle.irs_answers.specs.declared.tasks.Task.TheVariants.{Schedule}
 use Rattle.irs_answers.specs.declared.refusals.Refusal.{Refusal}

@@ -1,10 +1,11 @@
 //! What a run came to, by its status and the line that it printed.
 use crate::order_rows::{broken_of, elem_of};
 use irs_answers::{Refusal, Unread};
-use irs_audit::{Departure, Field, FlowErr, RowKind, ShapeKind};
+use irs_audit::{Departure, Field, RowKind};
 use irs_base::Place;
 use irs_calendar::CalErr;
 use irs_cli::{Cause, Note, RunCause};
+use irs_flows::{FlowErr, ShapeKind};
 use irs_resets::FixErr;
 
 /// What a run came to that printed this line, without its end. `None` comes for a line that no run prints, and

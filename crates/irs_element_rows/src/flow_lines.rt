@@ -5,7 +5,7 @@
 //! calculation period in front. Amounts, notionals and rates are in units of 10^-12.
 use crate::lines::Lines;
 use crate::told::Told;
-use irs_audit::{FlowExchange, FlowPayment, FlowPeriod, FlowReset, FlowStream, Flows};
+use irs_flows::{FlowExchange, FlowPayment, FlowPeriod, FlowReset, FlowStream, Flows};
 
 impl Lines<'_, '_> {
     fn push_exchange(&mut self, n: usize, exchange: &FlowExchange) {

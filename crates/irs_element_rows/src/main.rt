@@ -1,5 +1,5 @@
 //! The element rows. An element of a document is taken away, repeated or given another value. A row
-//! has what the readers of irs_read and irs_audit and the command `audit` report of it. Other rows
+//! has what the readers of irs_read and irs_flows and the command `audit` report of it. Other rows
 //! have the values of texts of leaves. The rest are worked examples. They are JSON texts and FpML XML,
 //! broken rules in order, and emitted cash flows. There are also files and sinks in memory, and
 //! sentences with what is added to them.

@@ -4,10 +4,10 @@ use crate::swap_lines::tell_swap;
 use crate::told::Told;
 use crate::values::Tell;
 use crate::words::words_of;
-use irs_audit::{FlowErr, ShapeKind, read_flows};
 use irs_calendar::Calendars;
 use irs_cli::{MemFiles, MemSink, run};
 use irs_emit::emit_flows;
+use irs_flows::{FlowErr, ShapeKind, read_flows};
 use irs_json::Value;
 use irs_read::{ReadErr, read_swap};
 use irs_resets::Fixings;
@@ -20,7 +20,7 @@ use std::alloc::Global;
 pub enum Reader {
     /// `read_swap` of irs_read: the terms of a swap.
     Terms,
-    /// `read_flows` of irs_audit: cash flows.
+    /// `read_flows` of irs_flows: cash flows.
     Flows,
     /// `run` of irs_cli: whether the cash flows among the terms agree with them.
     Audit,

@@ -1,8 +1,8 @@
 //! The lines of the tables of elements: a line for each row, in their order, with the path, the kind
 //! and the count.
 use crate::told::Told;
-use irs_audit::{FLOW_NAMES, FLOW_ROWS, PERIOD_NAMES, PERIOD_ROWS};
 use irs_elements::{Choice, Count, Kind, Leaf, Row};
+use irs_flows::{FLOW_NAMES, FLOW_ROWS, PERIOD_NAMES, PERIOD_ROWS};
 use irs_read::{NAMES, ROWS, SWAP_NAMES, SWAP_ROWS};
 
 /// The most rows above another one, below the first.

@@ -1,7 +1,7 @@
 //! How the values of swaps and cash flows are reported.
 use crate::told::Told;
-use irs_audit::StatedFraction;
 use irs_base::{Broken, Day, Dec, Place};
+use irs_flows::StatedFraction;
 use irs_terms::{
     AdjustableDate, Adjustments, CalculationParameters, Centers, Currency, Frequency, Offset,
     StepValues, StubRate,

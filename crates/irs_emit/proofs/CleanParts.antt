@@ -1,12 +1,12 @@
 -- The emitted value has no fault of the tables of cash flows.
-use Rattle.irs_audit.specs.declared.flow_table.TheConstants.{FLOW_ROWS, PERIOD_ROWS}
-use Rattle.irs_audit.proofs.FlowLaws.{flow_code_names, flow_names_are, flow_rows_are, period_code_names}
-use Rattle.irs_audit.proofs.FlowLaws.{period_names_are, period_rows_are}
-use Rattle.irs_audit.specs.FlowFaults.{CashflowsFault, FlowFault, OnceFault, PeriodFault, PeriodsFault, FlowStreamFault}
-use Rattle.irs_audit.specs.FlowFaults.{FlowStreamsFault, FlowSwapFault, below, ended, has_both_rates, in_period}
-use Rattle.irs_audit.specs.FlowFaults.{in_stream}
-use Rattle.irs_audit.specs.FlowFaults.{is_sound, many_periods, many_streams, no_stream}
-use Rattle.irs_audit.specs.FlowLines.{flow_names, flow_rows, period_names, period_table_rows}
+use Rattle.irs_flows.specs.declared.flow_table.TheConstants.{FLOW_ROWS, PERIOD_ROWS}
+use Rattle.irs_flows.proofs.FlowLaws.{flow_code_names, flow_names_are, flow_rows_are, period_code_names}
+use Rattle.irs_flows.proofs.FlowLaws.{period_names_are, period_rows_are}
+use Rattle.irs_flows.specs.FlowFaults.{CashflowsFault, FlowFault, OnceFault, PeriodFault, PeriodsFault, FlowStreamFault}
+use Rattle.irs_flows.specs.FlowFaults.{FlowStreamsFault, FlowSwapFault, below, ended, has_both_rates, in_period}
+use Rattle.irs_flows.specs.FlowFaults.{in_stream}
+use Rattle.irs_flows.specs.FlowFaults.{is_sound, many_periods, many_streams, no_stream}
+use Rattle.irs_flows.specs.FlowLines.{flow_names, flow_rows, period_names, period_table_rows}
 use Rattle.irs_base.specs.Limits.{most_rows, most_streams}
 use Rattle.irs_base.proofs.MemberLemmas.{every_get}
 use Rattle.irs_base.specs.Members.{Every}

@@ -1,6 +1,6 @@
 -- Each emitted row has no fault of the tables of cash flows.
-use Rattle.irs_audit.specs.declared.flow_table.TheConstants.{FLOW_ROWS, PERIOD_ROWS}
-use Rattle.irs_audit.proofs.FlowLaws.{flow_code_names, period_code_names}
+use Rattle.irs_flows.specs.declared.flow_table.TheConstants.{FLOW_ROWS, PERIOD_ROWS}
+use Rattle.irs_flows.proofs.FlowLaws.{flow_code_names, period_code_names}
 use Rattle.irs_base.specs.Days.{IsDay}
 use Rattle.irs_base.specs.Texts.{day_text, dec_text}
 use Rattle.irs_elements.specs.Elements.{has_odd, is_refused, is_required, is_unknown, most, name_at}

@@ -1,5 +1,5 @@
 -- Each leaf reads back as its value.
-use Rattle.irs_audit.specs.FlowMeaning.{stated}
+use Rattle.irs_flows.specs.FlowMeaning.{stated}
 use Rattle.irs_elements.specs.Dates.{leaf_date_at}
 use Rattle.irs_elements.specs.Fractions.{fraction_at}
 use Rattle.irs_elements.specs.Numbers.{amount_at, whole_at}

@@ -1,12 +1,12 @@
 -- The value of a schedule states its flows.
-use Rattle.irs_audit.specs.FlowFaults.{few, payments_in, periods_in, flow_periods_of}
-use Rattle.irs_audit.specs.FlowMeaning.{exchange_in, flows_in, payment_in, period_in, flow_part_in, flow_parts_in}
-use Rattle.irs_audit.specs.FlowParts.{FlowPart}
+use Rattle.irs_flows.specs.FlowFaults.{few, payments_in, periods_in, flow_periods_of}
+use Rattle.irs_flows.specs.FlowMeaning.{exchange_in, flows_in, payment_in, period_in, flow_part_in, flow_parts_in}
+use Rattle.irs_flows.specs.FlowParts.{FlowPart}
 use Rattle.irs_audit.specs.StatedFlows.{stated_exchange, stated_flows, stated_part, stated_payment, stated_period}
 use Rattle.irs_audit.specs.StatedFlows.{stated_periods_from}
-use Rattle.irs_audit.specs.declared.flows.FlowExchange.{FlowExchange}
-use Rattle.irs_audit.specs.declared.flows.FlowPayment.{FlowPayment}
-use Rattle.irs_audit.specs.declared.flows.FlowPeriod.{FlowPeriod}
+use Rattle.irs_flows.specs.declared.flows.FlowExchange.{FlowExchange}
+use Rattle.irs_flows.specs.declared.flows.FlowPayment.{FlowPayment}
+use Rattle.irs_flows.specs.declared.flows.FlowPeriod.{FlowPeriod}
 use Rattle.irs_audit.proofs.BoundLemmas.{payments_few}
 use Rattle.irs_base.specs.Limits.{most_rows}
 use Rattle.irs_base.specs.Members.{Every}

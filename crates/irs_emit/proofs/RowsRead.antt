@@ -1,12 +1,12 @@
 -- Each row reads back as the flow that states it.
-use Rattle.irs_audit.specs.FlowMeaning.{payment_in, period_in, flow_reset_in, stated}
+use Rattle.irs_flows.specs.FlowMeaning.{payment_in, period_in, flow_reset_in, stated}
 use Rattle.irs_audit.specs.StatedFlows.{stated_amount, stated_exchange, stated_number, stated_payment, stated_period}
 use Rattle.irs_audit.specs.StatedFlows.{stated_reset}
-use Rattle.irs_audit.specs.declared.flows.FlowExchange.{FlowExchange}
-use Rattle.irs_audit.specs.declared.flows.FlowPayment.{FlowPayment}
-use Rattle.irs_audit.specs.declared.flows.FlowPeriod.{FlowPeriod}
-use Rattle.irs_audit.specs.declared.flows.FlowReset.{FlowReset}
-use Rattle.irs_audit.specs.declared.flows.StatedFraction.{StatedFraction}
+use Rattle.irs_flows.specs.declared.flows.FlowExchange.{FlowExchange}
+use Rattle.irs_flows.specs.declared.flows.FlowPayment.{FlowPayment}
+use Rattle.irs_flows.specs.declared.flows.FlowPeriod.{FlowPeriod}
+use Rattle.irs_flows.specs.declared.flows.FlowReset.{FlowReset}
+use Rattle.irs_flows.specs.declared.flows.StatedFraction.{StatedFraction}
 use Rattle.irs_base.specs.declared.line.Dec.{Dec}
 use Rattle.irs_elements.specs.Codes.{first_there}
 use Rattle.irs_elements.specs.Dates.{leaf_date_at}

@@ -1,5 +1,5 @@
 -- Each leaf reads back as its value, by the rules of cash flows.
-use Rattle.irs_audit.specs.FlowMeaning.{stated}
+use Rattle.irs_flows.specs.FlowMeaning.{stated}
 use Rattle.irs_audit.specs.StatedFlows.{stated_amount, stated_fraction, stated_number}
 use Rattle.irs_base.specs.Days.{IsDay}
 use Rattle.irs_base.specs.declared.line.Dec.{Dec}

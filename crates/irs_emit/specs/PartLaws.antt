@@ -1,6 +1,6 @@
 -- The value of a stream, and that of a schedule, states the flows of the schedule.
-use Rattle.irs_audit.specs.FlowMeaning.{flow_part_in}
-use Rattle.irs_audit.specs.FlowReading.{FlowsOf}
+use Rattle.irs_flows.specs.FlowMeaning.{flow_part_in}
+use Rattle.irs_flows.specs.FlowReading.{FlowsOf}
 use Rattle.irs_audit.specs.StatedFlows.{stated_flows, stated_part}
 use Rattle.irs_audit.specs.Verdicts.{IsVerdict, row_count, unfixed_count}
 use Rattle.irs_audit.specs.declared.departures.Verdict.TheVariants.{Yes}

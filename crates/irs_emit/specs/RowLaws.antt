@@ -1,5 +1,5 @@
 -- Each row reads back as the flow that states it.
-use Rattle.irs_audit.specs.FlowMeaning.{exchange_in, payment_in, period_in, flow_reset_in}
+use Rattle.irs_flows.specs.FlowMeaning.{exchange_in, payment_in, period_in, flow_reset_in}
 use Rattle.irs_audit.specs.StatedFlows.{stated_exchange, stated_fraction, stated_payment, stated_period, stated_reset}
 use Rattle.irs_base.specs.Days.{IsDay}
 use Rattle.irs_base.specs.declared.line.Dec.{Dec}

@@ -27,19 +27,19 @@ use Rattle.irs_read.specs.Documents.{the_swap}
 use Rattle.irs_schedule.specs.Parts.{EntriesCover, IsWithin, Part}
 use Rattle.irs_schedule.specs.declared.entries.PaymentEntry.{PaymentEntry}
 use Rattle.irs_audit.proofs.BoundLemmas.{payments_few}
-use Rattle.irs_audit.proofs.FlowLaws.{flow_code_names, flow_names_are, flow_rows_are}
+use Rattle.irs_flows.proofs.FlowLaws.{flow_code_names, flow_names_are, flow_rows_are}
 use Rattle.irs_audit.proofs.StatedLemmas.{flows_agree}
-use Rattle.irs_audit.specs.FlowFaults.{CashflowsFault, FlowFault, OnceFault, PeriodsFault, FlowStreamFault}
-use Rattle.irs_audit.specs.FlowFaults.{FlowStreamsFault}
-use Rattle.irs_audit.specs.FlowFaults.{FlowSwapFault, below, ended, few, in_stream}
-use Rattle.irs_audit.specs.FlowFaults.{is_sound, many_streams, no_stream, payments_in, periods_in, flow_periods_of}
-use Rattle.irs_audit.specs.FlowLines.{flow_names, flow_rows}
-use Rattle.irs_audit.specs.FlowMeaning.{exchange_in, flows_in, payment_in, period_in, flow_part_in, flow_parts_in}
-use Rattle.irs_audit.specs.FlowParts.{FlowPart}
-use Rattle.irs_audit.specs.declared.flow_table.TheConstants.{FLOW_ROWS}
-use Rattle.irs_audit.specs.declared.flows.FlowExchange.{FlowExchange}
-use Rattle.irs_audit.specs.declared.flows.FlowPayment.{FlowPayment}
-use Rattle.irs_audit.specs.declared.flows.FlowPeriod.{FlowPeriod}
+use Rattle.irs_flows.specs.FlowFaults.{CashflowsFault, FlowFault, OnceFault, PeriodsFault, FlowStreamFault}
+use Rattle.irs_flows.specs.FlowFaults.{FlowStreamsFault}
+use Rattle.irs_flows.specs.FlowFaults.{FlowSwapFault, below, ended, few, in_stream}
+use Rattle.irs_flows.specs.FlowFaults.{is_sound, many_streams, no_stream, payments_in, periods_in, flow_periods_of}
+use Rattle.irs_flows.specs.FlowLines.{flow_names, flow_rows}
+use Rattle.irs_flows.specs.FlowMeaning.{exchange_in, flows_in, payment_in, period_in, flow_part_in, flow_parts_in}
+use Rattle.irs_flows.specs.FlowParts.{FlowPart}
+use Rattle.irs_flows.specs.declared.flow_table.TheConstants.{FLOW_ROWS}
+use Rattle.irs_flows.specs.declared.flows.FlowExchange.{FlowExchange}
+use Rattle.irs_flows.specs.declared.flows.FlowPayment.{FlowPayment}
+use Rattle.irs_flows.specs.declared.flows.FlowPeriod.{FlowPeriod}
 use Rattle.irs_emit.proofs.Clean.{NoFault, ValuesFree, absent_free, object_free, one_value, passed_free, present_free}
 use Rattle.irs_emit.proofs.CleanParts.{array_free, emitted_free}
 use Rattle.irs_emit.proofs.CleanRows.{currency_kept, day_kept, exchange_free, leaf_member, no_row, number_kept}

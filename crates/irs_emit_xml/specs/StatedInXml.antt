@@ -1,5 +1,5 @@
 -- What the document of a schedule states.
-use Rattle.irs_audit.specs.FlowReading.{FlowsOf}
+use Rattle.irs_flows.specs.FlowReading.{FlowsOf}
 use Rattle.irs_audit.specs.StatedFlows.{stated_flows}
 use Rattle.irs_audit.specs.Verdicts.{IsVerdict, row_count, unfixed_count}
 use Rattle.irs_audit.specs.declared.departures.Verdict.TheVariants.{Yes}

@@ -6,9 +6,10 @@
 ghost use Rattle.irs_schedule.specs.RowTexts.{RowHasPlaces};
 
 use anyhow::{Context, Result, bail};
-use irs_audit::{Verdict, audit, read_flows};
+use irs_audit::{Verdict, audit};
 use irs_base::{Day, Line, read_date};
 use irs_calendar::Calendars;
+use irs_flows::read_flows;
 use irs_json::parse;
 use irs_read::read_swap;
 use irs_resets::Fixings;

@@ -1,7 +1,7 @@
 -- The row of a rule in the table has the name that is printed, and so has that of a fault of cash flows.
 use Rattle.irs_answers.specs.FlowMessages.{shape_name}
-use Rattle.irs_audit.specs.declared.error.ShapeKind.{ShapeKind}
-use Rattle.irs_audit.specs.declared.error.ShapeKind.TheVariants as shape
+use Rattle.irs_flows.specs.declared.error.ShapeKind.{ShapeKind}
+use Rattle.irs_flows.specs.declared.error.ShapeKind.TheVariants as shape
 use Rattle.irs_base.proofs.TextLemmas.{of_two_digits}
 use Rattle.irs_base.specs.Rules.{rule_number}
 use Rattle.irs_base.specs.declared.places.Rule.{Rule}

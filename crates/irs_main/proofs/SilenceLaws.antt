@@ -7,7 +7,7 @@ use Rattle.irs_answers.specs.declared.notes.Note.{Note}
 use Rattle.irs_answers.specs.declared.notes.Note.TheVariants.{Nothing, Unfixed, Spot, Front}
 use Rattle.irs_answers.specs.declared.refusals.Refusal.{Refusal}
 use Rattle.irs_answers.specs.declared.refusals.Refusal.TheVariants as refusal
-use Rattle.irs_audit.specs.declared.error.FlowErr.TheVariants as flowing
+use Rattle.irs_flows.specs.declared.error.FlowErr.TheVariants as flowing
 use Rattle.irs_calendar.specs.declared.calendars.CalErr.TheVariants as calendar
 use Rattle.irs_cli.specs.declared.causes.RunCause.{RunCause}
 use Rattle.irs_cli.specs.declared.causes.RunCause.TheVariants as cause

@@ -1,6 +1,6 @@
 -- The words of a rule and of a fault of cash flows, by the table.
-use Rattle.irs_audit.specs.declared.error.ShapeKind.{ShapeKind}
-use Rattle.irs_audit.specs.declared.error.ShapeKind.TheVariants as shape
+use Rattle.irs_flows.specs.declared.error.ShapeKind.{ShapeKind}
+use Rattle.irs_flows.specs.declared.error.ShapeKind.TheVariants as shape
 use Rattle.irs_base.specs.declared.places.Rule.{Rule}
 use Rattle.irs_base.specs.declared.places.Rule.TheVariants as rule
 use Rattle.irs_main.specs.Rules.{texts_after, texts_before}

@@ -7,10 +7,10 @@ use Rattle.irs_answers.specs.declared.refusals.Refusal.{Refusal}
 use Rattle.irs_answers.specs.declared.refusals.Refusal.TheVariants as refusal
 use Rattle.irs_audit.specs.RowNames.{field_name, row_name}
 use Rattle.irs_audit.specs.declared.departures.Departure.{Departure}
-use Rattle.irs_audit.specs.declared.error.FlowErr.{FlowErr}
-use Rattle.irs_audit.specs.declared.error.FlowErr.TheVariants as flowing
-use Rattle.irs_audit.specs.declared.error.ShapeKind.{ShapeKind}
-use Rattle.irs_audit.specs.declared.error.ShapeKind.TheVariants.{NotJson}
+use Rattle.irs_flows.specs.declared.error.FlowErr.{FlowErr}
+use Rattle.irs_flows.specs.declared.error.FlowErr.TheVariants as flowing
+use Rattle.irs_flows.specs.declared.error.ShapeKind.{ShapeKind}
+use Rattle.irs_flows.specs.declared.error.ShapeKind.TheVariants.{NotJson}
 use Rattle.irs_base.specs.Elements.{document}
 use Rattle.irs_base.specs.Paths.{path_of}
 use Rattle.irs_base.specs.Rules.{rule_number}

@@ -35,10 +35,11 @@ use crate::parts::{Part, Sentence, of_parts, of_three, put_parts, short};
 use crate::words::word_at;
 use crate::wrong_words::{is_help, unlisted};
 use irs_answers::{Refusal, Unread};
-use irs_audit::{Departure, FlowErr, ShapeKind};
+use irs_audit::Departure;
 use irs_base::{Broken, Elem, Place, Rule};
 use irs_calendar::CalErr;
 use irs_cli::{Cause, Role, RunCause, file_name};
+use irs_flows::{FlowErr, ShapeKind};
 use irs_outside::{PutFailed, Sink};
 use irs_resets::FixErr;
 

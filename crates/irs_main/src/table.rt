@@ -1,7 +1,7 @@
 //! The sentences of the rules K1 to K49 and of the faults of cash flows, as two parallel lists. They hold what
 //! is said before the element, and after it.
 ghost use Rattle.irs_answers.specs.FlowMessages.{shape_name};
-ghost use Rattle.irs_audit.specs.declared.error.ShapeKind.{ShapeKind as ShapeSpec};
+ghost use Rattle.irs_flows.specs.declared.error.ShapeKind.{ShapeKind as ShapeSpec};
 ghost use Rattle.irs_base.specs.Rules.{rule_number};
 ghost use Rattle.irs_base.specs.declared.places.Rule.{Rule as RuleSpec};
 ghost use Rattle.irs_main.specs.Lookup.{row_of_rule, row_of_shape, text_at};

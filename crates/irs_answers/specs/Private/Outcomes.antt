@@ -3,9 +3,9 @@
 use Rattle.std.specs.Prelude.{ℕ, List, Result, Ok, Err}
 use Rattle.irs_answers.specs.Forms.{IsUnread, TextReads, SourceText}
 use Rattle.serde_json.specs.Data.{Data}
-use Rattle.irs_audit.specs.FlowParts.{FlowPart}
-use Rattle.irs_audit.specs.FlowReading.{FlowsOf, IsFirstFlowFault}
-use Rattle.irs_audit.specs.declared.error.FlowErr.{FlowErr}
+use Rattle.irs_flows.specs.FlowParts.{FlowPart}
+use Rattle.irs_flows.specs.FlowReading.{FlowsOf, IsFirstFlowFault}
+use Rattle.irs_flows.specs.declared.error.FlowErr.{FlowErr}
 use Rattle.irs_answers.specs.declared.refusals.Refusal.{Refusal}
 use Rattle.irs_answers.specs.declared.refusals.Refusal.TheVariants.{Rule, Calendars, Fixings, Flows, Memory}
 use Rattle.irs_answers.specs.declared.refusals.Refusal.TheVariants.{Unreadable, UnreadableFlows}

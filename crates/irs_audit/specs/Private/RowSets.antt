@@ -5,7 +5,7 @@ use Rattle.irs_schedule.specs.Parts.{Part}
 use Rattle.irs_audit.specs.declared.departures.Departure.{Departure}
 use Rattle.irs_audit.specs.declared.departures.RowKind.{RowKind}
 use Rattle.irs_audit.specs.Agreement.{KindDeparts}
-use Rattle.irs_audit.specs.FlowParts.{FlowPart}
+use Rattle.irs_flows.specs.FlowParts.{FlowPart}
 
 -- the departures among the rows of a kind, up to the row numbered `last`
 pub record AmongRows (k : ℕ) (kind : RowKind) (p : Part) (g : FlowPart) (last : ℕ) (d : Departure) : Type 0 where

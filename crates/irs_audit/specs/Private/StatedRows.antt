@@ -1,7 +1,7 @@
 -- Private: no public contract rests on this file.
 -- The rows that an audit compares with those of a schedule.
 use Rattle.std.specs.Prelude.{List, map}
-use Rattle.irs_audit.specs.FlowParts.{FlowPart}
+use Rattle.irs_flows.specs.FlowParts.{FlowPart}
 use Rattle.irs_audit.specs.StatedFlows.{stated_part}
 use Rattle.irs_audit.specs.declared.stated_rows.StatedRows.{StatedRows}
 use Rattle.irs_audit.specs.declared.stated_rows.StatedRows.TheVariants as rows

@@ -3,8 +3,8 @@
 use Rattle.std.specs.Prelude.{◌≡◌, ℕ, List}
 use Rattle.std.specs.Prelude.{Some}
 use Rattle.std.specs.Prelude.{slice_get}
-use Rattle.irs_audit.specs.FlowParts.{FlowPart}
-use Rattle.irs_audit.specs.declared.flows.FlowPayment.{FlowPayment}
+use Rattle.irs_flows.specs.FlowParts.{FlowPart}
+use Rattle.irs_flows.specs.declared.flows.FlowPayment.{FlowPayment}
 use Rattle.irs_breaks.specs.RowFindings.{periods_before}
 
 -- ---- payments

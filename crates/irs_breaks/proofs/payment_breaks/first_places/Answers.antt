@@ -1,7 +1,7 @@
 use Rattle.std.proofs.Common.{◌+◌, min, length, List, subst, sym, ap, ◌∙◌, arith}
 use Rattle.std.proofs.Common.{get_or}
-use Rattle.irs_audit.specs.declared.flows.FlowPayment.{FlowPayment}
-use Rattle.irs_audit.specs.declared.flows.FlowPeriod.{FlowPeriod}
+use Rattle.irs_flows.specs.declared.flows.FlowPayment.{FlowPayment}
+use Rattle.irs_flows.specs.declared.flows.FlowPeriod.{FlowPeriod}
 use Rattle.irs_breaks.proofs.PaymentsTold.{StartsUpTo, starts_all, starts_more}
 use Rattle.irs_breaks.proofs.payment_breaks.first_places.Goals as goal
 

@@ -1,5 +1,0 @@
-use Rattle.irs_audit.proofs.FlowsWithin.{read_within}
-use Rattle.irs_audit.proofs.flow_reader.read_flows_are_within.Goals as goal
-
-pub returns : goal.returns
-returns c = read_within

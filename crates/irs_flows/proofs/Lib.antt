@@ -1,0 +1,7 @@
+pub mod FlowLaws
+pub mod FlowStated
+pub mod FlowSteps
+pub mod FlowRules
+pub mod FlowClean
+pub mod FlowOutcomes
+pub mod FlowsWithin

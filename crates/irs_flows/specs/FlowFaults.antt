@@ -1,0 +1,131 @@
+-- The faults of a document of cash flows.
+use Rattle.irs_flows.specs.FlowLines.{flow_names, flow_rows, period_names, period_table_rows}
+use Rattle.irs_base.specs.Elements.{cashflows, flow_period, swap, swap_stream}
+use Rattle.irs_base.specs.declared.places.Broken.{Broken}
+use Rattle.irs_base.specs.declared.places.Rule.{Rule}
+use Rattle.irs_base.specs.declared.places.Rule.TheVariants.{K2, K3, K7}
+use Rattle.irs_elements.specs.Elements.{FaultAt, has_odd}
+use Rattle.irs_elements.specs.Find.{values_in}
+use Rattle.irs_elements.specs.declared.table.Choice.TheVariants.{Free}
+use Rattle.irs_elements.specs.declared.table.Kind.TheVariants.{Object}
+use Rattle.irs_json.specs.Carrier.{child_of}
+use Rattle.irs_json.specs.Names.{element_names}
+use Rattle.irs_read.specs.Documents.{the_swap}
+use Rattle.irs_read.specs.Swaps.{Among}
+use Rattle.irs_base.specs.Limits.{most_rows, most_streams}
+use Rattle.serde_json.specs.Data.{Data}
+use Rattle.std.specs.List.{flat_map}
+use Rattle.std.specs.Prelude.{◌≡◌, ◌⊎◌, ℕ, ◌+◌, ◌<◌, ◌≤◌, nat_le, Bool, true, not, ◌&&◌, List, [], ◌∷◌, length, Option}
+use Rattle.std.specs.Prelude.{Some, None, is_some, option_and_then, codes, Ok, Err, if◌then◌else◌}
+
+-- a rule that is broken in a stream, or outside the streams, at an element without index
+abbrev pub flow_broken_at : ℕ → Rule → ℕ → Broken
+flow_broken_at stream rule elem = record { rule = rule; place = record { stream = stream; elem = elem; index = 0 } }
+
+-- the fault x, where the test is true
+abbrev pub FaultIf : Bool → Broken → Broken → Type 0
+FaultIf b x f = (b ≡ true) × (f ≡ x)
+
+-- ---- an object of which most members are passed over
+
+-- d is an object, and its `@id` and `@href`, where they occur, are texts
+abbrev pub is_sound : Data → Bool
+is_sound d = is_some (element_names d) && not (has_odd d)
+
+-- a value that is not such an object breaks K3
+abbrev pub OwnFault : ℕ → ℕ → Data → Broken → Type 0
+OwnFault stream elem d = FaultIf (not (is_sound d)) (flow_broken_at stream K3 elem)
+
+-- ---- calculation periods
+
+-- the one value of a list
+abbrev pub sole : List Data → Option Data
+sole [] = None
+sole (x ∷ []) = Some x
+sole (x ∷ y ∷ rest) = None
+
+-- whether the one `floatingRateDefinition` of a period has a `calculatedRate`
+abbrev pub has_calculated_rate : Data → Bool
+has_calculated_rate d =
+    is_some (option_and_then (child_of (codes "calculatedRate"))
+    (sole (values_in (codes "floatingRateDefinition") (Some d))))
+
+-- whether a period has both rates
+abbrev pub has_both_rates : Data → Bool
+has_both_rates d = is_some (child_of (codes "fixedRate") d) && has_calculated_rate d
+
+-- the faults of the calculation period with this number: those of its table, and that it has both rates
+abbrev pub PeriodFault : ℕ → ℕ → Data → Broken → Type 0
+PeriodFault stream number d f =
+    FaultAt period_table_rows period_names stream 0 (Object Free) number d f
+    ⊎ FaultIf (has_both_rates d) (flow_broken_at stream K7 flow_period) f
+
+-- the calculation periods of a payment
+abbrev pub periods_in : Data → List Data
+periods_in d = values_in (codes "calculationPeriod") (Some d)
+
+-- the calculation periods of payments, in order
+abbrev pub flow_periods_of : List Data → List Data
+flow_periods_of payments = flat_map periods_in payments
+
+-- the faults of calculation periods that come after the first `before` of the stream
+abbrev pub PeriodsFrom : ℕ → ℕ → List Data → Broken → Type 0
+PeriodsFrom stream before = Among (λ j. PeriodFault stream (before + j + 1))
+
+-- the faults of all calculation periods of a stream
+pub data PeriodsFault (stream : ℕ) (ds : List Data) : Broken → Type 0 where
+  -- there are too many of them
+  many_periods : most_rows < length ds → PeriodsFault stream ds (flow_broken_at stream K7 flow_period)
+  -- there are not, and one of them has the fault
+  in_period : (f : Broken) → length ds ≤ most_rows → PeriodsFrom stream 0 ds f → PeriodsFault stream ds f
+
+-- ---- the cash flows of a stream
+
+-- the payments of cash flows; where there are too many, none of them is looked into
+abbrev pub few : List Data → List Data
+few ds = if nat_le (length ds) most_rows then ds else []
+
+-- the payments of a `cashflows` that may be absent; none of them is looked into where there are too many
+abbrev pub payments_in : Option Data → List Data
+payments_in o = few (values_in (codes "paymentCalculationPeriod") o)
+
+-- the faults of cash flows: those of their table, and those of the periods of their payments
+abbrev pub CashflowsFault : ℕ → Data → Broken → Type 0
+CashflowsFault stream d f =
+    FaultAt flow_rows flow_names stream 0 (Object Free) 0 d f
+    ⊎ PeriodsFault stream (flow_periods_of (payments_in (Some d))) f
+
+-- the faults of the values of `cashflows`, which occurs once
+abbrev pub OnceFault : ℕ → List Data → Broken → Type 0
+OnceFault stream [] f = f ≡ flow_broken_at stream K2 cashflows
+OnceFault stream (x ∷ []) f = CashflowsFault stream x f
+OnceFault stream (x ∷ y ∷ rest) f = f ≡ flow_broken_at stream K7 cashflows
+
+-- the faults of the stream with this number: its own, and where it is an object those of its cash flows
+abbrev pub FlowStreamFault : ℕ → Data → Broken → Type 0
+FlowStreamFault number d f = OwnFault number swap_stream d f
+    ⊎ ((is_some (element_names d) ≡ true) × OnceFault number (values_in (codes "cashflows") (Some d)) f)
+
+-- ---- the document
+
+-- the faults of streams
+pub data FlowStreamsFault (ds : List Data) : Broken → Type 0 where
+  -- there is none
+  no_stream : length ds ≡ 0 → FlowStreamsFault ds (flow_broken_at 0 K2 swap_stream)
+  -- there are more than eight
+  many_streams : most_streams < length ds → FlowStreamsFault ds (flow_broken_at 0 K7 swap_stream)
+  -- there are one to eight, and one of them has the fault
+  in_stream : (f : Broken) → 0 < length ds → length ds ≤ most_streams → Among (λ j. FlowStreamFault (j + 1)) ds f
+      → FlowStreamsFault ds f
+
+-- the faults of a swap: its own, and where it is an object those of its streams
+abbrev pub FlowSwapFault : Data → Broken → Type 0
+FlowSwapFault d f = OwnFault 0 swap d f
+    ⊎ ((is_some (element_names d) ≡ true) × FlowStreamsFault (values_in (codes "swapStream") (Some d)) f)
+
+-- the faults of a document of cash flows
+pub data FlowFault (d : Data) : Broken → Type 0 where
+  -- a rule ends the way to the swap
+  ended : (f : Broken) → the_swap d ≡ Err f → FlowFault d f
+  -- the swap has the fault
+  below : (s : Data) (f : Broken) → the_swap d ≡ Ok s → FlowSwapFault s f → FlowFault d f

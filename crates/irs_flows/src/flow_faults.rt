@@ -1,0 +1,276 @@
+//! The first fault of a document of cash flows: its own, and those of its streams, of their
+//! `cashflows`, and of the calculation periods. Periods are counted through all payments of a
+//! stream.
+//!
+//! The carrier, the table and the order of faults are our rule.
+ghost use Rattle.irs_flows.specs.FlowFaults.{CashflowsFault, FlowFault, OnceFault, OwnFault, PeriodFault, PeriodsFault};
+ghost use Rattle.irs_flows.specs.FlowFaults.{PeriodsFrom, FlowStreamFault, FlowStreamsFault, FlowSwapFault};
+ghost use Rattle.irs_flows.specs.FlowFaults.{flow_broken_at as at_of};
+ghost use Rattle.irs_flows.specs.FlowFaults.{has_both_rates as has_both_rates_of};
+ghost use Rattle.irs_flows.specs.FlowFaults.{has_calculated_rate as has_calculated_rate_of, is_sound as is_sound_of};
+ghost use Rattle.irs_flows.specs.FlowFaults.{payments_in, flow_periods_of, sole as sole_of};
+ghost use Rattle.irs_base.specs.Elements.{flow_period};
+ghost use Rattle.irs_elements.specs.Elements.{is_odd as is_odd_of};
+ghost use Rattle.irs_elements.specs.Private.Elements.{fault_if};
+ghost use Rattle.irs_elements.specs.Find.{seen};
+ghost use Rattle.irs_json.specs.Carrier.{child_of};
+ghost use Rattle.irs_read.specs.Swaps.{Among};
+ghost use Rattle.irs_base.specs.Limits.{most_rows, most_streams};
+ghost use Rattle.serde_json.specs.View.{view};
+ghost use Rattle.std.specs.Prelude.{◌≡◌, ◌+◌, ◌<◌, ◌^◌, ◌≤◌, length, map, nat_le};
+ghost use Rattle.irs_base.specs.Order.{IsFirstBroken};
+
+use crate::flow_table::{
+    FLOW_ENDS, FLOW_NAMES, FLOW_ROWS, FLOWS, PERIOD, PERIOD_ENDS, PERIOD_NAMES, PERIOD_ROWS,
+};
+use irs_base::{Broken, Elem, MOST_ROWS, MOST_STREAMS, Place, Rule};
+use irs_elements::{Table, earlier, first_fault, values, values_at};
+use irs_json::{Value, child, members};
+use irs_read::the_swap;
+
+// A rule that is broken at an element without index.
+fn at(stream: u8, rule: Rule, elem: Elem) -> Broken
+    ensures { result ≡ at_of stream rule elem }
+{
+    Broken {
+        rule,
+        place: Place {
+            stream,
+            elem,
+            index: 0,
+        },
+    }
+}
+
+// ---- an object of which most members are passed over
+
+// Whether an attribute is there and is no text.
+fn is_odd(v: &Value, name: &str) -> bool
+    ensures { result ≡ is_odd_of (child_of name.now (view v.now)) }
+{
+    match child(v, name) {
+        None => false,
+        Some(found) => found.as_str().is_none(),
+    }
+}
+
+// Whether `v` is an object whose `@id` and `@href`, where they occur, are texts.
+fn is_sound(v: &Value) -> bool
+    ensures { result ≡ is_sound_of (view v.now) }
+{
+    members(v).is_some() && !(is_odd(v, "@id") || is_odd(v, "@href"))
+}
+
+fn own_fault(stream: u8, elem: Elem, v: &Value) -> Option<Broken>
+    ensures { IsFirstBroken (OwnFault stream elem (view v.now)) result }
+{
+    if is_sound(v) {
+        None
+    } else {
+        Some(at(stream, Rule::K3, elem))
+    }
+}
+
+// ---- calculation periods
+
+// The one value of a list.
+fn sole(list: &[Value]) -> Option<&Value>
+    ensures { seen result ≡ sole_of (map view list.now) }
+{
+    match list {
+        [] => None,
+        [one] => Some(one),
+        [_, _, ..] => None,
+    }
+}
+
+// Whether the one `floatingRateDefinition` of a period has a `calculatedRate`.
+fn has_calculated_rate(v: &Value) -> bool
+    ensures { result ≡ has_calculated_rate_of (view v.now) }
+{
+    match sole(values_at(v, "floatingRateDefinition")) {
+        None => false,
+        Some(float) => child(float, "calculatedRate").is_some(),
+    }
+}
+
+// Whether a period has both rates.
+fn has_both_rates(v: &Value) -> bool
+    ensures { result ≡ has_both_rates_of (view v.now) }
+{
+    child(v, "fixedRate").is_some() && has_calculated_rate(v)
+}
+
+fn both_rates_fault(stream: u8, v: &Value) -> Option<Broken>
+    ensures { result ≡ fault_if (has_both_rates_of (view v.now)) (at_of stream Rule.K7 flow_period) }
+{
+    if has_both_rates(v) {
+        Some(at(stream, Rule::K7, Elem::FLOW_PERIOD))
+    } else {
+        None
+    }
+}
+
+// The first fault of the calculation period with this number.
+fn period_fault(stream: u8, number: u32, v: &Value) -> Option<Broken>
+    ensures { IsFirstBroken (PeriodFault stream number (view v.now)) result }
+{
+    let table = Table {
+        rows: &PERIOD_ROWS,
+        names: &PERIOD_NAMES,
+        ends: &PERIOD_ENDS,
+        stream,
+    };
+    let own = first_fault(&table, 0, PERIOD, number, v);
+    earlier(own, both_rates_fault(stream, v))
+}
+
+// The first fault of calculation periods that come after the first `before` of the stream.
+fn periods_behind(stream: u8, before: u32, list: &[Value]) -> Option<Broken>
+    requires { before + length list.now < 2 ^ 32 }
+    ensures { IsFirstBroken (PeriodsFrom stream before (map view list.now)) result }
+{
+    let mut first = None;
+    for j in 0..list.len() {
+        let number = before + j as u32 + 1;
+        first = earlier(first, period_fault(stream, number, &list[j]));
+    }
+    first
+}
+
+// The first fault of the calculation periods of payments.
+fn each_period_fault(stream: u8, payments: &[Value]) -> Option<Broken>
+    requires { length (flow_periods_of (map view payments.now)) ≤ most_rows }
+    ensures { IsFirstBroken (PeriodsFrom stream 0 (flow_periods_of (map view payments.now))) result }
+{
+    let mut first = None;
+    let mut before = 0;
+    for p in 0..payments.len() {
+        let list = values_at(&payments[p], "calculationPeriod");
+        first = earlier(first, periods_behind(stream, before, list));
+        before += list.len() as u32;
+    }
+    first
+}
+
+// Whether payments have at most as many calculation periods as a stream may have.
+fn are_few(payments: &[Value]) -> bool
+    ensures { result ≡ nat_le (length (flow_periods_of (map view payments.now))) most_rows }
+{
+    let mut left = MOST_ROWS as usize;
+    for p in 0..payments.len() {
+        let count = values_at(&payments[p], "calculationPeriod").len();
+        if left < count {
+            return false;
+        }
+        left -= count;
+    }
+    true
+}
+
+fn periods_fault(stream: u8, payments: &[Value]) -> Option<Broken>
+    ensures { IsFirstBroken (PeriodsFault stream (flow_periods_of (map view payments.now))) result }
+{
+    if are_few(payments) {
+        each_period_fault(stream, payments)
+    } else {
+        Some(at(stream, Rule::K7, Elem::FLOW_PERIOD))
+    }
+}
+
+// ---- the cash flows of a stream
+
+/// The payments of cash flows; none where there are too many.
+pub fn payments_of<'a>(v: Option<&'a Value>) -> &'a [Value]
+    ensures { map view result.now ≡ payments_in (seen v.entry) }
+{
+    let list = values(v, "paymentCalculationPeriod");
+    if list.len() <= MOST_ROWS as usize {
+        list
+    } else {
+        &[]
+    }
+}
+
+fn cashflows_fault(stream: u8, v: &Value) -> Option<Broken>
+    ensures { IsFirstBroken (CashflowsFault stream (view v.now)) result }
+{
+    let table = Table {
+        rows: &FLOW_ROWS,
+        names: &FLOW_NAMES,
+        ends: &FLOW_ENDS,
+        stream,
+    };
+    let own = first_fault(&table, 0, FLOWS, 0, v);
+    earlier(own, periods_fault(stream, payments_of(Some(v))))
+}
+
+// The first fault of the values of `cashflows`, which occurs once.
+fn once_fault(stream: u8, list: &[Value]) -> Option<Broken>
+    ensures { IsFirstBroken (OnceFault stream (map view list.now)) result }
+{
+    match list {
+        [] => Some(at(stream, Rule::K2, Elem::CASHFLOWS)),
+        [one] => cashflows_fault(stream, one),
+        [_, _, ..] => Some(at(stream, Rule::K7, Elem::CASHFLOWS)),
+    }
+}
+
+// The first fault of the stream with this number.
+fn stream_fault(number: u8, v: &Value) -> Option<Broken>
+    ensures { IsFirstBroken (FlowStreamFault number (view v.now)) result }
+{
+    let own = own_fault(number, Elem::SWAP_STREAM, v);
+    match members(v) {
+        None => own,
+        Some(_) => earlier(own, once_fault(number, values_at(v, "cashflows"))),
+    }
+}
+
+// ---- the document
+
+// The first fault of one to eight streams.
+fn each_stream_fault(list: &[Value]) -> Option<Broken>
+    requires { length list.now ≤ most_streams }
+    ensures { IsFirstBroken (Among (λ j. FlowStreamFault (j + 1)) (map view list.now)) result }
+{
+    let mut first = None;
+    for j in 0..list.len() {
+        let number = j as u8 + 1;
+        first = earlier(first, stream_fault(number, &list[j]));
+    }
+    first
+}
+
+// The first fault of streams, and their count.
+fn streams_fault(list: &[Value]) -> Option<Broken>
+    ensures { IsFirstBroken (FlowStreamsFault (map view list.now)) result }
+{
+    if list.len() == 0 {
+        Some(at(0, Rule::K2, Elem::SWAP_STREAM))
+    } else if list.len() > MOST_STREAMS {
+        Some(at(0, Rule::K7, Elem::SWAP_STREAM))
+    } else {
+        each_stream_fault(list)
+    }
+}
+
+fn swap_fault(v: &Value) -> Option<Broken>
+    ensures { IsFirstBroken (FlowSwapFault (view v.now)) result }
+{
+    let own = own_fault(0, Elem::SWAP, v);
+    match members(v) {
+        None => own,
+        Some(_) => earlier(own, streams_fault(values_at(v, "swapStream"))),
+    }
+}
+
+/// The first fault of a document of cash flows; `None` exactly where it has none.
+pub fn first_in_flows(v: &Value) -> Option<Broken>
+    ensures { IsFirstBroken (FlowFault (view v.now)) result }
+{
+    match the_swap(v) {
+        Ok(swap) => swap_fault(swap),
+        Err(broken) => Some(broken),
+    }
+}

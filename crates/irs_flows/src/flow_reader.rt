@@ -1,0 +1,108 @@
+//! Reading cash flows: the flows that a document states, or its first fault.
+ghost use Rattle.irs_elements.specs.Private.Elements.{IsOfTables};
+ghost use Rattle.irs_elements.specs.Find.{values_in};
+ghost use Rattle.irs_flows.specs.FlowBounds.{FlowsAreWithin};
+ghost use Rattle.irs_flows.specs.FlowOutcomes.{HidesNone, flows_of_document};
+ghost use Rattle.irs_base.specs.Outcomes.{Determined};
+ghost use Rattle.irs_flows.specs.FlowMeaning.{flow_part_in, flow_parts_in};
+ghost use Rattle.irs_flows.specs.Private.FlowMeaning.{AllHaveFewPeriods};
+ghost use Rattle.irs_flows.specs.FlowParts.{FlowPart};
+ghost use Rattle.irs_flows.specs.FlowReading.{FlowsOf, IsFirstFlowFault, shape_kind_of as kind_by};
+ghost use Rattle.irs_flows.specs.FlowsStated.{EachFlowStated};
+ghost use Rattle.irs_flows.specs.declared.error.FlowErr.TheVariants.{Shape};
+ghost use Rattle.serde_json.specs.Data.{Data};
+ghost use Rattle.serde_json.specs.View.{view};
+ghost use Rattle.std.specs.Prelude.{◌≡◌, IfErr, IfOk, List, Some, codes, map};
+
+use crate::flow_faults::first_in_flows;
+use crate::flow_rows::stream_flows;
+use crate::{FlowErr, FlowStream, Flows, ShapeKind};
+use irs_base::{Broken, Memory, Rule};
+use irs_elements::values_at;
+use irs_json::Value;
+use irs_read::the_swap;
+use std::alloc::Global;
+
+// The kind of a fault by its rule. The tables of elements have the rules K2 to K7.
+#[tactic(auto, using(crate::proofs::FlowRules::last_kind))]
+fn kind_of(rule: Rule) -> ShapeKind
+    requires { IsOfTables rule }
+    ensures { result ≡ kind_by rule }
+{
+    if rule == Rule::K2 {
+        ShapeKind::Missing
+    } else if rule == Rule::K3 {
+        ShapeKind::Kind
+    } else if rule == Rule::K4 {
+        ShapeKind::Unknown
+    } else if rule == Rule::K5 {
+        ShapeKind::Profile
+    } else if rule == Rule::K6 {
+        ShapeKind::Value
+    } else {
+        ShapeKind::Count
+    }
+}
+
+fn shape(fault: Broken) -> FlowErr
+    requires { IsOfTables fault.rule }
+    ensures { result ≡ Shape (kind_by fault.rule) fault.place }
+{
+    FlowErr::Shape(kind_of(fault.rule), fault.place)
+}
+
+fn each_stream(alloc: Global, found: &[Value]) -> Result<Vec<FlowStream>, Memory>
+    requires { AllHaveFewPeriods (map view found.now) }
+    ensures { IfOk result (λ list. list.items ≡ map flow_part_in (map view found.now)) }
+{
+    let mut list = Vec::new(alloc);
+    for j in 0..found.len() {
+        list.push(stream_flows(alloc, &found[j])?)?;
+    }
+    Ok(list)
+}
+
+// The flows of a swap that has no fault.
+fn flows_of(alloc: Global, v: &Value) -> Result<Flows, Memory>
+    requires { AllHaveFewPeriods (values_in (codes "swapStream") (Some (view v.now))) }
+    ensures { IfOk result (λ flows. flows ≡ flow_parts_in (view v.now)) }
+{
+    let streams = each_stream(alloc, values_at(v, "swapStream"))?;
+    Ok(Flows::new(streams))
+}
+
+/// The cash flows that a document states. `Shape` comes exactly where the document has a fault, and
+/// has the first. Faults are in the order of their streams, and then of their kinds (`ShapeKind`).
+/// Those of one kind are in the order of the table's elements, and then of the index. The faults
+/// are the rules K2 to K7 on the tables of cash flows; `NotJson` never comes. Dates are day numbers
+/// from 1970-01-01, amounts and rates in units of 10^-12.
+pub fn read_flows(alloc: Global, v: &Value) -> Result<Flows, FlowErr>
+    ensures flows { IfOk result (λ flows. FlowsOf (view v.now) flows) }
+    // No field is passed over: each leaf that occurs has a value of its kind.
+    ensures stated { IfOk result (λ _. EachFlowStated (view v.now)) }
+    ensures fault { IfErr result (λ e. IsFirstFlowFault (view v.now) e) }
+    // Running out of memory hides no fault.
+    ensures memory { IfErr result (λ e. HidesNone (view v.now) e) }
+{
+    if let Some(fault) = first_in_flows(v) {
+        return Err(shape(fault));
+    }
+    match the_swap(v) {
+        Err(fault) => Err(shape(fault)),
+        Ok(found) => Ok(flows_of(alloc, found)?),
+    }
+}
+
+/// A law: a document states one list of flows and has no fault, or one fault is its first.
+pub fn flows_of_document_are_determined(v: &Value)
+    ensures { Determined (flows_of_document (view v.now)) }
+{
+    // hands the prover what the faults are
+    let _fault = first_in_flows(v);
+}
+
+/// The cash flows of every document keep bounds. The calculation periods of a stream are those of its payments. Each
+/// adjusted date that is stated is a day of the range.
+pub fn read_flows_are_within()
+    ensures { (d : Data) (flows : List FlowPart) → FlowsOf d flows → FlowsAreWithin flows }
+{}
