@@ -17,9 +17,9 @@ behind_point (c ∷ cs) = if c == 46 then cs else behind_point cs
 
 -- digits before and after the point, some in all, and at most 18 before it
 abbrev pub are_parts : List ℕ → List ℕ → Bool
-are_parts whole fraction =
-    list_all is_digit whole
-    && (list_all is_digit fraction && (nat_lt 0 (length whole + length fraction) && nat_le (length whole) 18))
+are_parts before behind =
+    list_all is_digit before
+    && (list_all is_digit behind && (nat_lt 0 (length before + length behind) && nat_le (length before) 18))
 
 -- in units of 10^-places; past the places there are only zeros
 unfoldable pub unsigned_at : ℕ → List ℕ → Option ℕ
