@@ -6,7 +6,7 @@ use Rattle.jiff_core.proofs.SignedLemmas.{signed_arith}
 use Rattle.irs_base.proofs.MemberLemmas.{every_get, some_is}
 use Rattle.irs_base.proofs.RoundingLaws.{nearest_once}
 use Rattle.irs_base.specs.declared.line.Dec.{Dec}
-use Rattle.irs_terms.specs.Currencies.{decimals_of}
+use Rattle.irs_terms.specs.Lawful.{decimals_of}
 use Rattle.irs_terms.specs.declared.codes.DayCountCode.{DayCountCode}
 use Rattle.irs_terms.specs.declared.codes.DayCountCode.TheVariants.{OneOne, ActActIsda, Act365Fixed, Act360, Thirty360}
 use Rattle.irs_terms.specs.declared.codes.DayCountCode.TheVariants.{ThirtyE360, ThirtyE360Isda}
@@ -16,8 +16,8 @@ use Rattle.irs_daycount.specs.FractionLaws.{one_fraction}
 use Rattle.irs_daycount.specs.Private.FractionLaws.{one_days, one_denominator}
 use Rattle.irs_schedule.specs.Parts.{IsWithin, KeepsBounds, Part}
 use Rattle.irs_schedule.specs.declared.views.CalculationPeriod.{CalculationPeriod}
-use Rattle.irs_accrue.specs.Accruals.{Accrues, AccruesIn, IsAccrual, IsAccrued, IsInterest, IsOutside}
-use Rattle.irs_accrue.specs.Shares.{CountedTo, HasRun}
+use Rattle.irs_accrue.specs.Accruals.{Accrues, AccruesIn, IsAccrual, IsAccrued, IsInterest, IsOutside, CountedTo}
+use Rattle.irs_accrue.specs.Accruals.{HasRun}
 use Rattle.irs_accrue.specs.declared.accruals.Accrual.{Accrual}
 use Rattle.irs_accrue.specs.declared.accruals.Accrual.TheVariants.{Outside, Inside}
 use Rattle.irs_accrue.proofs.Periods.{RunsFromTo, one_number, rises_to, runs_from_to}

@@ -4,8 +4,8 @@ use Rattle.std.proofs.Common.{◌∙◌, subst, arith}
 use Rattle.jiff_core.proofs.SignedLemmas.{signed_arith}
 use Rattle.irs_base.proofs.MemberLemmas.{some_is}
 use Rattle.irs_base.specs.declared.line.Dec.{Dec}
-use Rattle.irs_terms.specs.Currencies.{decimals_of}
-use Rattle.irs_terms.specs.StepDates.{LegStepsRise}
+use Rattle.irs_terms.specs.Lawful.{decimals_of}
+use Rattle.irs_terms.specs.TermDates.{LegStepsRise}
 use Rattle.irs_terms.specs.declared.amounts.FloatTerms.{FloatTerms}
 use Rattle.irs_terms.specs.declared.amounts.Leg.{Leg}
 use Rattle.irs_terms.specs.declared.amounts.Leg.TheVariants.{Fixed, Floating}
@@ -17,25 +17,23 @@ use Rattle.irs_terms.specs.declared.stream.Stream.{Stream}
 use Rattle.irs_calendar.specs.GoodDays.{DaySet}
 use Rattle.irs_periods.proofs.OneSpan.{one_span}
 use Rattle.irs_resets.proofs.KindLaws.{one_kind}
-use Rattle.irs_resets.specs.ObservedRates.{IsPeriodKind}
-use Rattle.irs_resets.specs.Rates.{RateTable}
+use Rattle.irs_resets.specs.Rates.{IsPeriodKind, RateTable}
 use Rattle.irs_resets.specs.declared.observed.PeriodKind.{PeriodKind}
 use Rattle.irs_observed.proofs.PeriodLemmas.{one_end, one_start}
 use Rattle.irs_observed.proofs.RunningLemmas.{before_above, one_before}
-use Rattle.irs_observed.specs.RunningRates.{IsRateBefore}
+use Rattle.irs_observed.specs.OvernightRates.{IsRateBefore}
 use Rattle.irs_observed.specs.declared.overnight_rate.OvernightRate.{OvernightRate}
 use Rattle.irs_observed.specs.declared.overnight_rate.OvernightRate.TheVariants.{Stated, Known, Absent, OutOfRange}
-use Rattle.irs_compound.specs.Private.OvernightLaws.{one_overnight}
-use Rattle.irs_compound.specs.OvernightRates.{IsAbove as HasDenominator}
+use Rattle.irs_compound.specs.Private.RateLaws.{one_overnight}
+use Rattle.irs_compound.specs.PeriodRates.{IsAbove as HasDenominator}
 use Rattle.irs_compound.specs.declared.periods.Rates.{Rates}
 use Rattle.irs_schedule.specs.Parts.{KeepsBounds, Part}
 use Rattle.irs_schedule.specs.declared.views.CalculationPeriod.{CalculationPeriod}
-use Rattle.irs_accrue.specs.Accruals.{IsAccrued}
+use Rattle.irs_accrue.specs.Accruals.{IsAccrued, HasRun}
 use Rattle.irs_accrue.specs.DailyAccruals.{AccruesAs, AccruesBy, AccruesDaily, DailyTerms, EarnsBefore, GivesRate}
 use Rattle.irs_accrue.specs.DailyAccruals.{IsAccrualBy, IsAccrualOf, IsAccrualWith, IsDailyAccrual, before_first, daily_terms}
 use Rattle.irs_accrue.specs.DailyAccruals.{method_of, observing, on_first, daily_rates_of, run_of, unobserved}
 use Rattle.irs_accrue.specs.DailyAccruals.{whole_period}
-use Rattle.irs_accrue.specs.Shares.{HasRun}
 use Rattle.irs_accrue.specs.declared.accruals.Accrual.{Accrual}
 use Rattle.irs_accrue.specs.declared.accruals.Accrual.TheVariants.{Outside, Inside}
 use Rattle.irs_accrue.proofs.OneAccrual.{IsAbove, both_accrued, both_run, den_above, inside_same, not_outside, one_in}

@@ -6,10 +6,10 @@ use Rattle.std.proofs.lemmas.Bool.{cases_order}
 use Rattle.std.proofs.lemmas.Option.{slice_get_cases, slice_get_within}
 use Rattle.jiff_core.proofs.SignedLemmas.{signed_arith}
 use Rattle.irs_base.proofs.MemberLemmas.{every_get, some_is}
-use Rattle.irs_base.specs.Members.{day_at}
+use Rattle.irs_base.specs.Lists.{day_at}
 use Rattle.irs_terms.specs.Lawful.{IsNotional}
 use Rattle.irs_schedule.specs.Parts.{IsEntry, KeepsBounds, Part, Rises}
-use Rattle.irs_schedule.specs.PeriodViews.{dated_period, period_at}
+use Rattle.irs_schedule.specs.RowsOf.{dated_period, period_at}
 use Rattle.irs_schedule.specs.declared.entries.PeriodEntry.{PeriodEntry}
 use Rattle.irs_schedule.specs.declared.views.CalculationPeriod.{CalculationPeriod}
 use Rattle.irs_schedule.proofs.PeriodLemmas.{next_day}

@@ -2,7 +2,7 @@
 use Rattle.std.proofs.Common.{inl, inr, ℕ, ◌≤◌, List, Option, Some, None, IfSome, ℤ, sym, subst, arith}
 use Rattle.irs_base.specs.declared.line.Dec.{Dec}
 use Rattle.irs_terms.proofs.CurrencyLemmas.{decimals_few}
-use Rattle.irs_terms.specs.Currencies.{decimals_of}
+use Rattle.irs_terms.specs.Lawful.{decimals_of}
 use Rattle.irs_terms.specs.declared.amounts.FloatTerms.{FloatTerms}
 use Rattle.irs_terms.specs.declared.amounts.StubTerms.{StubTerms}
 use Rattle.irs_terms.specs.declared.parameters.CalculationParameters.{CalculationParameters}

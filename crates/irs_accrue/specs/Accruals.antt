@@ -1,20 +1,50 @@
--- What has accrued on a day: the simple interest of the calculation period that runs on it. That nothing but this
--- period is looked at is our rule.
-use Rattle.std.specs.Prelude.{◌≡◌, ◌⊎◌, ℕ, ◌-◌, ◌^◌, ◌≤◌, List, length, Option, Some, None, ℤ, pos, ◌*ℤ◌, ◌<ℤ◌, ◌≤ℤ◌}
-use Rattle.std.specs.Prelude.{unsigned_abs, IfSome}
-use Rattle.irs_base.specs.Limits.{most_rate}
-use Rattle.irs_base.specs.Members.{HoldsOf, day_at}
-use Rattle.irs_base.specs.Rounding.{Rounded}
+-- What has accrued on a day, and its line.
+use Rattle.std.specs.Prelude.{◌≡◌, false, ℤ, pos, ◌-ℤ◌, ◌<ℤ◌, ◌⊎◌, ℕ, ◌-◌, ◌^◌, ◌≤◌, List, length, Option, Some, None}
+use Rattle.std.specs.Prelude.{◌*ℤ◌, ◌≤ℤ◌, unsigned_abs, IfSome, ◌∷◌, ◌++◌, codes}
+use Rattle.std.specs.Fmt.{decimal, signed_decimal}
+use Rattle.irs_base.specs.Limits.{most_rate, Rounded}
+use Rattle.irs_base.specs.Lists.{HoldsOf, day_at}
 use Rattle.irs_base.specs.declared.line.Dec.{Dec}
 use Rattle.irs_base.specs.declared.rounding.Direction.TheVariants.{Nearest}
-use Rattle.irs_terms.specs.Currencies.{decimals_of}
+use Rattle.irs_terms.specs.declared.codes.DayCountCode.{DayCountCode}
+use Rattle.irs_terms.specs.declared.codes.DayCountCode.TheVariants.{OneOne, ActActIsda, Act365Fixed, Act360, Thirty360}
+use Rattle.irs_terms.specs.declared.codes.DayCountCode.TheVariants.{ThirtyE360, ThirtyE360Isda}
 use Rattle.irs_terms.specs.declared.results.Frac.{Frac}
+use Rattle.irs_terms.specs.Lawful.{decimals_of}
+use Rattle.irs_daycount.specs.Fractions.{Days, Fraction, denominator_of}
 use Rattle.irs_schedule.specs.Parts.{Part}
-use Rattle.irs_schedule.specs.PeriodViews.{period_at}
+use Rattle.irs_schedule.specs.RowsOf.{period_at, dec_or_dash}
 use Rattle.irs_schedule.specs.declared.views.CalculationPeriod.{CalculationPeriod}
-use Rattle.irs_accrue.specs.Shares.{HasRun}
 use Rattle.irs_accrue.specs.declared.accruals.Accrual.{Accrual}
 use Rattle.irs_accrue.specs.declared.accruals.Accrual.TheVariants.{Outside, Inside}
+
+-- ---- the part of a calculation period that has run before a day; that it is counted so is our rule
+-- The period runs from s, included, to e, excluded, and d is a day of it.
+
+-- days and fraction by a code that counts from s to d. On the first day there are none. After it they are those of a
+-- period from s to d that isn't its stream's last
+pub record CountedTo (code : DayCountCode) (s d days : ℤ) (frac : Frac) : Type 0 where
+  pub none : d ≡ s → (days ≡ pos 0) × (frac.num ≡ pos 0) × (frac.den ≡ denominator_of code)
+  pub some : s <ℤ d → Days code s d false days × Fraction code s d false frac
+
+-- days and fraction by 1/1, where the whole period is 1: the days that have run, of all its days
+pub record OfWhole (s d e days : ℤ) (frac : Frac) : Type 0 where
+  pub passed : days ≡ d -ℤ s
+  pub num : frac.num ≡ d -ℤ s
+  pub den : frac.den ≡ e -ℤ s
+
+-- the days that have run before d, and their fraction
+abbrev pub HasRun : DayCountCode → ℤ → ℤ → ℤ → ℤ → Frac → Type 0
+HasRun OneOne s d e days frac = OfWhole s d e days frac
+HasRun ActActIsda s d e days frac = CountedTo ActActIsda s d days frac
+HasRun Act365Fixed s d e days frac = CountedTo Act365Fixed s d days frac
+HasRun Act360 s d e days frac = CountedTo Act360 s d days frac
+HasRun Thirty360 s d e days frac = CountedTo Thirty360 s d days frac
+HasRun ThirtyE360 s d e days frac = CountedTo ThirtyE360 s d days frac
+HasRun ThirtyE360Isda s d e days frac = CountedTo ThirtyE360Isda s d days frac
+
+-- ---- what has accrued on a day: the simple interest of the calculation period that runs on it
+-- That nothing but this period is looked at is our rule.
 
 -- v is notional times rate times fraction to the nearest unit of this number of decimals. Notionals are in units of
 -- 10^-4 and rates in units of 10^-9
@@ -64,3 +94,16 @@ Accrues parts stream d a = HoldsOf (λ p. IsAccrual p d a) parts stream
 abbrev pub AccrualHasPlaces : Accrual → Type 0
 AccrualHasPlaces Outside = Unit {0}
 AccrualHasPlaces (Inside number days frac amount) = IfSome amount (λ v. v.places ≤ 12)
+
+-- ---- the line of what has accrued in a stream
+
+-- the fields after the stream's number
+abbrev pub accrual_fields : Accrual → List ℕ
+accrual_fields Outside = codes " none"
+accrual_fields (Inside number days frac amount) =
+    32 ∷ decimal number ++ 32 ∷ signed_decimal days ++ 32 ∷ signed_decimal frac.num ++ 47 ∷ signed_decimal frac.den
+    ++ 32 ∷ dec_or_dash amount
+
+-- `a STREAM none` or `a STREAM PERIOD DAYS NUM/DEN AMOUNT`, `-` where there is no amount, and a line feed
+unfoldable pub accrual_text : ℕ → Accrual → List ℕ
+accrual_text stream a = (codes "a" ++ 32 ∷ decimal stream ++ accrual_fields a) ++ codes "\n"

@@ -2,7 +2,7 @@
 -- daily rates of its members before the day give. That the members are those of the whole period is our rule.
 use Rattle.std.specs.Prelude.{◌≡◌, ◌⊎◌, ℕ, length, Option, Some, None, option_map, ℤ, pos, ◌<ℤ◌, ◌≤ℤ◌}
 use Rattle.irs_base.specs.declared.line.Dec.{Dec}
-use Rattle.irs_terms.specs.Currencies.{decimals_of}
+use Rattle.irs_terms.specs.Lawful.{decimals_of}
 use Rattle.irs_terms.specs.declared.amounts.FloatTerms.{FloatTerms}
 use Rattle.irs_terms.specs.declared.amounts.Leg.{Leg}
 use Rattle.irs_terms.specs.declared.amounts.Leg.TheVariants.{Fixed, Floating}
@@ -14,22 +14,18 @@ use Rattle.irs_terms.specs.declared.results.Span.{Span}
 use Rattle.irs_terms.specs.declared.stream.Stream.{Stream}
 use Rattle.irs_calendar.specs.GoodDays.{DaySet}
 use Rattle.irs_periods.specs.Spans.{Regular}
-use Rattle.irs_resets.specs.ObservedRates.{IsPeriodKind}
-use Rattle.irs_resets.specs.Rates.{RateTable}
+use Rattle.irs_resets.specs.Rates.{IsPeriodKind, RateTable}
 use Rattle.irs_resets.specs.declared.observed.PeriodKind.{PeriodKind}
-use Rattle.irs_observed.specs.DailyRates.{DailyRates, daily_rates}
-use Rattle.irs_observed.specs.ObservationPeriods.{IsObservationPeriod, ObservedPeriod, observed_period}
-use Rattle.irs_observed.specs.OvernightRates.{method_by}
-use Rattle.irs_observed.specs.RateOrigins.{HasOwnRate}
-use Rattle.irs_observed.specs.RunningRates.{IsRateBefore}
+use Rattle.irs_observed.specs.ObservedRates.{DailyRates, daily_rates}
+use Rattle.irs_observed.specs.Observations.{IsObservationPeriod, ObservedPeriod, observed_period}
+use Rattle.irs_observed.specs.OvernightRates.{method_by, HasOwnRate, IsRateBefore}
 use Rattle.irs_observed.specs.declared.method.DailyRateMethod.{DailyRateMethod}
 use Rattle.irs_observed.specs.declared.overnight_rate.OvernightRate.{OvernightRate}
-use Rattle.irs_compound.specs.OvernightRates.{AreRatesBy}
+use Rattle.irs_compound.specs.PeriodRates.{AreRatesBy}
 use Rattle.irs_compound.specs.declared.periods.Rates.{Rates}
 use Rattle.irs_schedule.specs.Parts.{Part}
 use Rattle.irs_schedule.specs.declared.views.CalculationPeriod.{CalculationPeriod}
-use Rattle.irs_accrue.specs.Accruals.{IsAccrual, IsAccrued, IsOutside, Runs}
-use Rattle.irs_accrue.specs.Shares.{HasRun}
+use Rattle.irs_accrue.specs.Accruals.{IsAccrual, IsAccrued, IsOutside, Runs, HasRun}
 use Rattle.irs_accrue.specs.declared.accruals.Accrual.{Accrual}
 use Rattle.irs_accrue.specs.declared.accruals.Accrual.TheVariants.{Outside, Inside}
 

@@ -1,5 +1,3 @@
-pub mod Shares
 pub mod Accruals
 pub mod DailyAccruals
-pub mod AccrualTexts
 pub mod Private

@@ -6,16 +6,13 @@
 //! observed ends on the day moved back. So on the first days nothing has accrued yet, not even the
 //! spread. These rules are ours.
 ghost use Rattle.std.specs.Prelude.{◌≡◌, ◌<ℤ◌, ◌≤ℤ◌, ℤ, IfOk};
-ghost use Rattle.irs_terms.specs.Currencies.{decimals_of};
-ghost use Rattle.irs_terms.specs.Lawful.{IsLawfulLeg, IsLawfulStream, IsNotional};
-ghost use Rattle.irs_terms.specs.StepDates.{LegStepsRise};
-ghost use Rattle.irs_terms.specs.Suiting.{FrequencySuits};
-ghost use Rattle.irs_terms.specs.TermDates.{DatesInOrder};
+ghost use Rattle.irs_terms.specs.Lawful.{decimals_of, IsLawfulLeg, IsLawfulStream, IsNotional};
+ghost use Rattle.irs_terms.specs.TermDates.{LegStepsRise, FrequencySuits, DatesInOrder};
 ghost use Rattle.irs_periods.specs.Spans.{Regular};
-ghost use Rattle.irs_observed.specs.ObservationPeriods.{Shifts};
+ghost use Rattle.irs_observed.specs.Observations.{Shifts};
 ghost use Rattle.irs_observed.specs.OvernightRates.{HasBounds};
 ghost use Rattle.irs_accrue.specs.Accruals.{Runs};
-ghost use Rattle.irs_periods.specs.Outcomes.{HasSpan};
+ghost use Rattle.irs_periods.specs.Boundaries.{HasSpan};
 ghost use Rattle.irs_accrue.specs.DailyAccruals.{AccruesAs, AccruesDaily, EarnsBefore, GivesRate, IsDailyAccrual};
 ghost use Rattle.irs_accrue.specs.DailyAccruals.{daily_terms, no_amount_yet};
 ghost use Rattle.irs_accrue.specs.Private.Sizes.{IsSmall};

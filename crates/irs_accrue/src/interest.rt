@@ -3,8 +3,7 @@
 ghost use Rattle.std.specs.Prelude.{◌≡◌, ◌*◌, ◌<◌, ◌≤◌, ◌^◌, pos, ◌*ℤ◌, ◌<ℤ◌, ◌≤ℤ◌, unsigned_abs};
 ghost use Rattle.irs_base.specs.Days.{all_days};
 ghost use Rattle.irs_base.specs.Limits.{most_numerator, most_rate};
-ghost use Rattle.irs_terms.specs.Currencies.{decimals_of};
-ghost use Rattle.irs_terms.specs.Lawful.{IsNotional};
+ghost use Rattle.irs_terms.specs.Lawful.{decimals_of, IsNotional};
 ghost use Rattle.irs_accrue.specs.Accruals.{IsAccrued, IsInterest};
 ghost use Rattle.irs_accrue.specs.Private.Sizes.{IsSmall, most_product, most_scaled, most_divisor};
 

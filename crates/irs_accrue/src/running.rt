@@ -1,6 +1,6 @@
 //! The calculation period that runs on a day.
 ghost use Rattle.std.specs.Prelude.{ℕ, ◌<◌, ◌≤◌, ◌<ℤ◌, ◌≤ℤ◌, length, IfSome, IfNone};
-ghost use Rattle.irs_base.specs.Members.{day_at};
+ghost use Rattle.irs_base.specs.Lists.{day_at};
 ghost use Rattle.irs_accrue.specs.Accruals.{IsOutside, Runs};
 
 use irs_base::Day;

@@ -5,7 +5,7 @@
 //! of the period's days.
 ghost use Rattle.std.specs.Prelude.{◌≡◌, ◌<ℤ◌, ◌≤ℤ◌, pos, ◌-ℤ◌};
 ghost use Rattle.irs_daycount.specs.Fractions.{denominator_of};
-ghost use Rattle.irs_accrue.specs.Shares.{CountedTo, HasRun, OfWhole};
+ghost use Rattle.irs_accrue.specs.Accruals.{CountedTo, HasRun, OfWhole};
 ghost use Rattle.irs_accrue.specs.Private.Sizes.{IsSmall};
 
 use irs_base::Day;

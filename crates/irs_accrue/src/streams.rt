@@ -2,11 +2,9 @@
 //! rates, else by the rates of the calculation periods.
 ghost use Rattle.std.specs.Prelude.{◌≡◌, IfOk};
 ghost use Rattle.irs_terms.specs.Lawful.{IsLawfulStream};
-ghost use Rattle.irs_terms.specs.StepDates.{LegStepsRise};
-ghost use Rattle.irs_terms.specs.Suiting.{FrequencySuits};
-ghost use Rattle.irs_terms.specs.TermDates.{DatesInOrder};
+ghost use Rattle.irs_terms.specs.TermDates.{LegStepsRise, FrequencySuits, DatesInOrder};
 ghost use Rattle.irs_accrue.specs.Accruals.{AccrualHasPlaces};
-ghost use Rattle.irs_periods.specs.Outcomes.{HasSpan};
+ghost use Rattle.irs_periods.specs.Boundaries.{HasSpan};
 ghost use Rattle.irs_accrue.specs.DailyAccruals.{IsAccrualOf, IsAccrualWith};
 ghost use Rattle.irs_accrue.specs.declared.accruals.Accrual.{Accrual as AnAccrual};
 

@@ -3,8 +3,7 @@
 //!
 //! The format is ours. Amounts have the decimals of their currency; what isn't known is `-`.
 ghost use Rattle.std.specs.Prelude.{◌≡◌, ◌+◌, ◌≤◌, ◌++◌, length};
-ghost use Rattle.irs_accrue.specs.Accruals.{AccrualHasPlaces};
-ghost use Rattle.irs_accrue.specs.AccrualTexts.{accrual_fields, accrual_text};
+ghost use Rattle.irs_accrue.specs.Accruals.{AccrualHasPlaces, accrual_fields, accrual_text};
 
 use crate::Accrual;
 use irs_base::Line;
@@ -36,7 +35,7 @@ fn put_fields(line: &mut Line, a: &Accrual)
 /// Replaces what the line holds with the line of what has accrued in the stream with this number. It
 /// is `a STREAM none`, or `a STREAM PERIOD DAYS NUM/DEN AMOUNT` with `-` where there is no amount.
 /// It takes no memory.
-#[tactic(auto, unfolding(crate::specs::AccrualTexts::accrual_text))]
+#[tactic(auto, unfolding(crate::specs::Accruals::accrual_text))]
 pub fn accrued_text(stream: u8, a: &Accrual, line: &mut Line)
     requires { AccrualHasPlaces a.now }
     ensures { line.new ≡ accrual_text stream a.now }

@@ -5,7 +5,7 @@ use Rattle.irs_terms.specs.declared.codes.ConvCode.TheVariants.{Following, ModFo
 use Rattle.irs_terms.specs.declared.codes.ConvCode.TheVariants.{Nearest, Unadjusted}
 use Rattle.irs_calendar.specs.GoodDays.{DaySet}
 use Rattle.irs_adjust.specs.ConventionLaws.{one_same, one_next, one_prev, one_modfollows, one_modprecedes, one_nearest}
-use Rattle.irs_adjust.specs.Codes.{Adjusts}
+use Rattle.irs_adjust.specs.MovedDays.{Adjusts}
 
 -- a convention gives at most one day
 pub one_adjusts : (code : ConvCode) (s : DaySet) (d r t : ℤ) → Adjusts code s d r → Adjusts code s d t → r ≡ t

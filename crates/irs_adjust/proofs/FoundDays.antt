@@ -4,16 +4,14 @@ use Rattle.std.proofs.Common.{◌∙◌, subst}
 use Rattle.std.proofs.lemmas.Bool.{cases_Bool, cases_eq, both_ways}
 use borrow.Author.Differences.{up, down}
 use Rattle.jiff_core.proofs.SignedLemmas.{signed_arith}
-use Rattle.irs_base.specs.Days.{IsDay, weekday_at}
-use Rattle.irs_base.specs.Months.{InMonth}
+use Rattle.irs_base.specs.Days.{IsDay, weekday_at, InMonth}
 use Rattle.irs_base.proofs.MonthLemmas.{has_month, same_month}
 use Rattle.irs_terms.specs.declared.codes.ConvCode.{ConvCode}
 use Rattle.irs_terms.specs.declared.codes.ConvCode.TheVariants.{Following, ModFollowing, Preceding, ModPreceding}
 use Rattle.irs_terms.specs.declared.codes.ConvCode.TheVariants.{Nearest, Unadjusted}
 use Rattle.irs_calendar.specs.GoodDays.{DaySet, InCover, IsGood, Next, Prev}
-use Rattle.irs_adjust.specs.Conventions.{SameMonth, ModFollows, ModPrecedes, IsSundayOrMonday, GoesNearest}
+use Rattle.irs_adjust.specs.MovedDays.{SameMonth, ModFollows, ModPrecedes, IsSundayOrMonday, GoesNearest, Adjusts}
 use Rattle.irs_adjust.specs.ConventionLaws.{one_next, one_prev, next_stays, prev_stays}
-use Rattle.irs_adjust.specs.Codes.{Adjusts}
 use Rattle.irs_base.specs.Private.Order.{IsDecided}
 use Rattle.irs_base.proofs.Decided.{order_of, decides_same}
 

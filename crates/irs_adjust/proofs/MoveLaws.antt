@@ -1,14 +1,13 @@
 -- A day that an offset moves and a convention then adjusts comes to one date, or fails in one way.
 use Rattle.std.proofs.Common.{◌≡◌, ◌⊎◌, inl, inr, ℤ, refl, sym, ◌∙◌, subst}
 use Rattle.irs_base.specs.Days.{IsDay}
-use Rattle.irs_terms.specs.DayTypes.{IsSaid}
+use Rattle.irs_terms.specs.Centers.{IsSaid}
 use Rattle.irs_terms.specs.declared.adjustments.Offset.{Offset}
 use Rattle.irs_terms.specs.declared.codes.ConvCode.{ConvCode}
 use Rattle.irs_terms.specs.declared.codes.DayKind.{DayKind}
 use Rattle.irs_terms.specs.declared.codes.DayKind.TheVariants.{Business, Calendar, Unsaid}
 use Rattle.irs_calendar.specs.GoodDays.{DaySet}
-use Rattle.irs_adjust.specs.Codes.{Adjusts}
-use Rattle.irs_adjust.specs.MovedDays.{MovesAndAdjusts, MovesNowhere, LacksResult, LeavesRange}
+use Rattle.irs_adjust.specs.MovedDays.{Adjusts, MovesAndAdjusts, MovesNowhere, LacksResult, LeavesRange}
 use Rattle.irs_adjust.specs.Private.MovedDays.{no_move_of}
 use Rattle.irs_adjust.specs.declared.moved.NoDate.TheVariants.{OutOfRange}
 use Rattle.irs_adjust.proofs.CodeLaws.{one_adjusts}

@@ -8,9 +8,8 @@ use Rattle.irs_terms.specs.declared.adjustments.Offset.{Offset}
 use Rattle.irs_calendar.specs.GoodDays.{DaySet, InCover, IsGood}
 use Rattle.irs_adjust.specs.declared.ways.Way.{Way}
 use Rattle.irs_adjust.specs.declared.ways.Way.TheVariants.{Ahead, Back}
-use Rattle.irs_adjust.specs.Ways.{MovesOn}
-use Rattle.irs_adjust.specs.Private.Ways.{IsNextOn}
-use Rattle.irs_adjust.specs.Offsets.{MovesBusiness, MovesCalendar, MovesDays, Moves}
+use Rattle.irs_adjust.specs.MovedDays.{MovesOn, MovesBusiness, MovesCalendar, MovesDays, Moves}
+use Rattle.irs_adjust.specs.Private.MovedDays.{IsNextOn}
 use Rattle.irs_adjust.proofs.WayLemmas.{Reached, reached_none, reached_more, moved, none_moved}
 use Rattle.irs_adjust.proofs.FoundDays.{InRange, IsFound, decides_le, decides_in_cover, decides_next, decides_prev}
 use Rattle.irs_base.specs.Private.Order.{IsDecided}

@@ -5,7 +5,7 @@ use Rattle.irs_terms.specs.declared.codes.DayKind.TheVariants.{Business, Calenda
 use Rattle.irs_terms.specs.declared.adjustments.Offset.{Offset}
 use Rattle.irs_calendar.specs.GoodDays.{DaySet}
 use Rattle.irs_adjust.specs.declared.ways.Way.TheVariants.{Ahead, Back}
-use Rattle.irs_adjust.specs.Offsets.{MovesBusiness, MovesDays, Moves}
+use Rattle.irs_adjust.specs.MovedDays.{MovesBusiness, MovesDays, Moves}
 use Rattle.irs_adjust.proofs.WayLemmas.{one_moves}
 
 one_business : (n : ℤ) (s : DaySet) (d r t : ℤ) → MovesBusiness n s d r → MovesBusiness n s d t → r ≡ t

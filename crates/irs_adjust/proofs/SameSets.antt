@@ -9,10 +9,8 @@ use Rattle.irs_terms.specs.declared.adjustments.Offset.{Offset}
 use Rattle.irs_calendar.specs.GoodDays.{DaySet, InCover, IsGood, Next, Prev, SameDays}
 use Rattle.irs_adjust.specs.declared.ways.Way.{Way}
 use Rattle.irs_adjust.specs.declared.ways.Way.TheVariants.{Ahead, Back}
-use Rattle.irs_adjust.specs.Conventions.{ModFollows, ModPrecedes, GoesNearest}
-use Rattle.irs_adjust.specs.Codes.{Adjusts}
-use Rattle.irs_adjust.specs.Ways.{away, good_days, MovesOn}
-use Rattle.irs_adjust.specs.Offsets.{MovesBusiness, MovesDays, Moves}
+use Rattle.irs_adjust.specs.MovedDays.{ModFollows, ModPrecedes, GoesNearest, Adjusts, away, good_days, MovesOn}
+use Rattle.irs_adjust.specs.MovedDays.{MovesBusiness, MovesDays, Moves}
 use Rattle.irs_adjust.proofs.WayLemmas.{between}
 
 -- alike sets have the same cover

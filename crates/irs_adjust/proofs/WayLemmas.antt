@@ -8,8 +8,8 @@ use borrow.Author.Differences.{up, down}
 use Rattle.irs_calendar.specs.GoodDays.{DaySet, InCover, IsGood}
 use Rattle.irs_adjust.specs.declared.ways.Way.{Way}
 use Rattle.irs_adjust.specs.declared.ways.Way.TheVariants.{Ahead, Back}
-use Rattle.irs_adjust.specs.Ways.{away, good_days, MovesOn}
-use Rattle.irs_adjust.specs.Private.Ways.{IsNextOn}
+use Rattle.irs_adjust.specs.MovedDays.{away, good_days, MovesOn}
+use Rattle.irs_adjust.specs.Private.MovedDays.{IsNextOn}
 
 -- the facts on which the sides differ
 

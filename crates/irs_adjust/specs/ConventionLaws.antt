@@ -4,7 +4,7 @@ use Rattle.jiff_core.proofs.SignedLemmas.{signed_arith}
 use Rattle.irs_base.specs.Days.{IsDay}
 use Rattle.irs_base.proofs.MonthLemmas.{has_month}
 use Rattle.irs_calendar.specs.GoodDays.{DaySet, IsGood, Next, Prev}
-use Rattle.irs_adjust.specs.Conventions.{SameMonth, ModFollows, ModPrecedes, GoesNearest}
+use Rattle.irs_adjust.specs.MovedDays.{SameMonth, ModFollows, ModPrecedes, GoesNearest}
 
 -- of two days one is earlier, or they are the same
 cases_order : (a b : ℤ) → (a <ℤ b) ⊎ ((b <ℤ a) ⊎ (a ≡ b))

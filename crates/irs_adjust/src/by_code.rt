@@ -1,6 +1,6 @@
 //! The convention that a code names.
 ghost use Rattle.std.specs.Prelude.{◌≡◌, ℤ, IfSome, IfNone};
-ghost use Rattle.irs_adjust.specs.Codes.{Adjusts};
+ghost use Rattle.irs_adjust.specs.MovedDays.{Adjusts};
 
 use crate::{Convention, Following, ModFollowing, ModPreceding, Nearest, Preceding, Unadjusted};
 use irs_base::Day;

@@ -5,7 +5,7 @@
 //! NEAREST depends on the day of the week, and NONE leaves the day as it is.
 ghost use Rattle.std.specs.Prelude.{◌≡◌, refl};
 ghost use Rattle.irs_calendar.specs.GoodDays.{Next, Prev};
-ghost use Rattle.irs_adjust.specs.Conventions.{ModFollows, ModPrecedes, GoesNearest};
+ghost use Rattle.irs_adjust.specs.MovedDays.{ModFollows, ModPrecedes, GoesNearest};
 ghost use Rattle.irs_adjust.specs.ConventionLaws.{one_next, next_stays, one_prev, prev_stays, one_modfollows};
 ghost use Rattle.irs_adjust.specs.ConventionLaws.{modfollows_stays, one_modprecedes, modprecedes_stays, one_nearest};
 ghost use Rattle.irs_adjust.specs.ConventionLaws.{nearest_stays, one_same};

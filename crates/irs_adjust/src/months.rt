@@ -1,6 +1,6 @@
 //! Whether two days lie in one calendar month.
 ghost use Rattle.std.specs.Prelude.{◌↔◌, ◌≤ℤ◌, pos, IsTrue};
-ghost use Rattle.irs_adjust.specs.Conventions.{SameMonth};
+ghost use Rattle.irs_adjust.specs.MovedDays.{SameMonth};
 
 use irs_base::{Day, civil_of};
 use jiff_core::civil::days_in_month;

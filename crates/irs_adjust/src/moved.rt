@@ -4,7 +4,7 @@
 ghost use Rattle.std.specs.Prelude.{◌≡◌, ◌⊎◌, ℤ, IfOk, IsErrOf};
 ghost use Rattle.irs_adjust.specs.MovedDays.{MovesAndAdjusts, LacksResult, LeavesRange};
 ghost use Rattle.irs_adjust.specs.Private.MovedDays.{no_move_of};
-ghost use Rattle.irs_terms.specs.DayTypes.{IsSaid};
+ghost use Rattle.irs_terms.specs.Centers.{IsSaid};
 
 use crate::by_code::adjust_by;
 use crate::offsets::move_by;

@@ -1,7 +1,7 @@
 //! Offsets of days: a number of calendar days, or of business days.
 ghost use Rattle.std.specs.Prelude.{◌≡◌, ◌⊎◌, ℤ, pos, IfSome, IfNone};
 ghost use Rattle.irs_terms.specs.declared.codes.DayKind.TheVariants.{Unsaid};
-ghost use Rattle.irs_adjust.specs.Offsets.{Moves, MovesBusiness, MovesDays};
+ghost use Rattle.irs_adjust.specs.MovedDays.{Moves, MovesBusiness, MovesDays};
 
 use crate::ways::{Way, walk};
 use irs_base::{Day, plus};

@@ -5,8 +5,8 @@
 ghost use Rattle.std.specs.Prelude.{◌<◌, ℤ, IfSome, IfNone};
 ghost use Rattle.irs_base.specs.Days.{IsDay};
 ghost use Rattle.irs_calendar.specs.GoodDays.{InCover};
-ghost use Rattle.irs_adjust.specs.Ways.{MovesOn};
-ghost use Rattle.irs_adjust.specs.Private.Ways.{IsNextOn};
+ghost use Rattle.irs_adjust.specs.MovedDays.{MovesOn};
+ghost use Rattle.irs_adjust.specs.Private.MovedDays.{IsNextOn};
 
 use irs_base::{Day, plus};
 use irs_calendar::GoodDays;

@@ -4,21 +4,19 @@ use Rattle.std.proofs.Common.{◌∙◌, ap, subst, arith, append_assoc}
 use Rattle.std.specs.Prelude.{slice_get}
 use Rattle.std.proofs.lemmas.List.{length-take-le, append-nil}
 use Rattle.std.proofs.lemmas.Option.{same_Some, slice_get_within}
-use Rattle.irs_base.specs.Faults.{in_stream}
-use Rattle.irs_base.specs.Order.{Only}
-use Rattle.irs_base.specs.Outcomes.{Spec, each_in_turn, refused_as}
+use Rattle.irs_base.specs.Outcomes.{in_stream, Only, Spec, each_in_turn, refused_as}
 use Rattle.irs_base.proofs.Outcomes.{answer_there}
 use Rattle.irs_terms.specs.declared.stream.Stream.{Stream}
 use Rattle.irs_schedule.specs.DaySets.{applicable_days, stream_sets}
-use Rattle.irs_schedule.specs.Outcomes.{schedule_of, stream_of}
+use Rattle.irs_schedule.specs.Schedules.{schedule_of, stream_of}
 use Rattle.irs_schedule.specs.Parts.{Part}
 use Rattle.irs_schedule.proofs.OnePart.{schedule_determined}
-use Rattle.irs_accrue.specs.AccrualTexts.{accrual_text}
-use Rattle.irs_periods.specs.Outcomes.{HasSpan}
+use Rattle.irs_accrue.specs.Accruals.{accrual_text}
+use Rattle.irs_periods.specs.Boundaries.{HasSpan}
 use Rattle.irs_accrue.specs.DailyAccruals.{IsAccrualOf}
 use Rattle.irs_accrue.specs.declared.accruals.Accrual.{Accrual}
-use Rattle.irs_answers.specs.Accrued.{AccruesAt, Accruing, AreAccrued, TellsAccrued, accrued_page}
-use Rattle.irs_answers.specs.Private.Accrued.{IsAccruing}
+use Rattle.irs_answers.specs.Tasks.{AccruesAt, Accruing, AreAccrued, TellsAccrued, accrued_page}
+use Rattle.irs_answers.specs.Private.Outcomes.{IsAccruing}
 
 module _ (x : Accruing) (d : ℤ) where
   one_accrued : (k : ℕ) (ps : List Part) (a b : List ℕ) → AreAccrued x d k ps a → AreAccrued x d k ps b → b ≡ a

@@ -1,6 +1,6 @@
 -- What has accrued depends on a table of rates by its rates alone.
 use Rattle.std.proofs.Common.{◌≡◌, inl, inr, ℕ, ◌+◌, List, [], ◌∷◌, Option, Some, None, ℤ, sym, subst}
-use Rattle.irs_base.specs.Order.{Only}
+use Rattle.irs_base.specs.Outcomes.{Only}
 use Rattle.irs_base.specs.declared.line.Dec.{Dec}
 use Rattle.irs_terms.specs.declared.amounts.FloatTerms.{FloatTerms}
 use Rattle.irs_terms.specs.declared.amounts.Leg.{Leg}
@@ -15,8 +15,8 @@ use Rattle.irs_calendar.specs.GoodDays.{DaySet}
 use Rattle.irs_calendar.specs.declared.sections.Section.{Section}
 use Rattle.irs_resets.specs.Rates.{RateTable, SameRates}
 use Rattle.irs_resets.specs.declared.observed.PeriodKind.{PeriodKind}
-use Rattle.irs_observed.specs.DailyRates.{DailyRates, daily_rates, one_day}
-use Rattle.irs_observed.specs.RunningRates.{IsRateBefore}
+use Rattle.irs_observed.specs.ObservedRates.{DailyRates, daily_rates, one_day}
+use Rattle.irs_observed.specs.OvernightRates.{IsRateBefore}
 use Rattle.irs_schedule.specs.DaySets.{applicable_days}
 use Rattle.irs_schedule.specs.Parts.{Part}
 use Rattle.irs_schedule.specs.declared.views.CalculationPeriod.{CalculationPeriod}
@@ -25,7 +25,7 @@ use Rattle.irs_accrue.specs.DailyAccruals.{IsAccrualWith, IsDailyAccrual, before
 use Rattle.irs_accrue.specs.DailyAccruals.{on_first, unobserved, whole_period}
 use Rattle.irs_accrue.specs.declared.accruals.Accrual.{Accrual}
 use Rattle.irs_accrue.specs.declared.accruals.Accrual.TheVariants.{Outside, Inside}
-use Rattle.irs_answers.specs.Accrued.{AccruesAt, AreAccrued, TellsAccrued, accruing}
+use Rattle.irs_answers.specs.Tasks.{AccruesAt, AreAccrued, TellsAccrued, accruing}
 
 module _ (t u : RateTable) (e : SameRates t u) (leg : Leg) (code : DayCountCode) (float : FloatTerms)
     (parameters : CalculationParameters) (set : DaySet) where

@@ -11,24 +11,20 @@ use Rattle.serde_json.specs.Data.{Data, depth}
 use Rattle.serde_json.specs.Read.{max_depth, read}
 use Rattle.serde_json.specs.Written.{compact_text, has_float}
 use Rattle.irs_emit.proofs.ReadBack.{Built, built_depth, built_floatless, line_feed}
-use Rattle.irs_json.specs.Places.{PlaceIn as PlaceInJson, ReadsNone as JsonReadsNone}
-use Rattle.irs_json.specs.Reading.{Reads}
+use Rattle.irs_json.specs.Reading.{PlaceIn as PlaceInJson, ReadsNone as JsonReadsNone, Reads}
 use Rattle.irs_json.specs.declared.reading.JsonErr.{JsonErr}
 use Rattle.irs_json.specs.declared.reading.JsonErr.TheVariants as json
 use Rattle.irs_xml.proofs.TextLaws.{reads_one}
-use Rattle.irs_xml.specs.Document.{XmlReads}
-use Rattle.irs_xml.specs.Places.{PlaceIn, ReadsNone}
+use Rattle.irs_xml.specs.Document.{XmlReads, PlaceIn, ReadsNone}
 use Rattle.irs_xml.specs.declared.reading.XmlErr.{XmlErr}
 use Rattle.irs_xml.specs.declared.reading.XmlErr.TheVariants as xml
-use Rattle.irs_answers.specs.Carried.{DueCarrier, ReadsBack, carrier_text}
-use Rattle.irs_answers.specs.Private.Carried.{MeansXml}
+use Rattle.irs_answers.specs.Tasks.{DueCarrier, ReadsBack, carrier_text}
+use Rattle.irs_answers.specs.Private.Outcomes.{MeansXml}
 use Rattle.irs_answers.specs.Forms.{json_text, xml_text}
-use Rattle.irs_answers.specs.Messages.{refused, unreadable}
-use Rattle.irs_answers.specs.Outcomes.{Ends, IfRefused, ReadFails, answer_of, of_json, of_read, of_xml}
-use Rattle.irs_answers.specs.Steps.{Is}
+use Rattle.irs_answers.specs.Messages.{refused, unreadable, Is, reply_status, reply_text}
+use Rattle.irs_answers.specs.Due.{Ends, IfRefused, ReadFails, answer_of, of_json, of_read, of_xml}
 use Rattle.irs_answers.specs.declared.forms.ReadErr.{ReadErr}
 use Rattle.irs_answers.specs.declared.forms.ReadErr.TheVariants as reading
-use Rattle.irs_answers.specs.Replying.{reply_status, reply_text}
 use Rattle.irs_answers.specs.declared.refusals.Refusal.{Refusal}
 use Rattle.irs_answers.specs.declared.replies.Reply.{Reply}
 use Rattle.irs_answers.proofs.DueLemmas.{ends_by}

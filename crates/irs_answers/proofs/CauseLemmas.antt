@@ -4,10 +4,9 @@ use Rattle.std.specs.Prelude.{IfOk, if◌then◌else◌}
 use Rattle.std.proofs.lemmas.Bool.Decides.{Decides-eqb}
 use Rattle.irs_audit.specs.declared.departures.Verdict.{Verdict as Judgement}
 use Rattle.irs_audit.specs.declared.departures.Verdict.TheVariants.{Yes, No}
-use Rattle.irs_answers.specs.Causes.{IsCause, IsCauseOf, IsCompared, IsJudged, cause_of, cause_status, verdict_cause}
-use Rattle.irs_answers.specs.Private.Causes.{JudgedIf}
-use Rattle.irs_answers.specs.FlowMessages.{verdict_status, verdict_text}
-use Rattle.irs_answers.specs.Replying.{reply_status, reply_text}
+use Rattle.irs_answers.specs.Messages.{IsCause, IsCauseOf, IsCompared, IsJudged, cause_of, cause_status, verdict_cause}
+use Rattle.irs_answers.specs.Messages.{verdict_status, verdict_text, reply_status, reply_text}
+use Rattle.irs_answers.specs.Private.Outcomes.{JudgedIf}
 use Rattle.irs_answers.specs.declared.causes.Cause.TheVariants.{Done, Uncompared}
 use Rattle.irs_answers.specs.declared.refusals.Refusal.{Refusal}
 use Rattle.irs_answers.specs.declared.replies.Reply.{Reply}

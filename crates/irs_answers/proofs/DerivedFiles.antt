@@ -11,14 +11,13 @@ use Rattle.irs_terms.specs.declared.results.Reset.{Reset}
 use Rattle.irs_resets.specs.FixingFiles.{IsFixingFile}
 use Rattle.irs_resets.specs.Rates.{RateTable, rate_at}
 use Rattle.irs_resets.specs.declared.store.Slot.{Slot}
-use Rattle.irs_overnight.specs.DailySources.{fixing_at}
-use Rattle.irs_overnight.specs.DerivedRules.{FixingNotAfter}
-use Rattle.irs_overnight.specs.FileLaw.{AreFixings, HasRate, file_text}
+use Rattle.irs_overnight.specs.Overnight.{fixing_at, FixingNotAfter}
+use Rattle.irs_overnight.specs.Texts.{AreFixings, HasRate, file_text}
 use Rattle.irs_overnight.specs.declared.derived.DerivedRow.{DerivedRow}
 use Rattle.irs_overnight.specs.declared.derived.Found.{Found}
 use Rattle.irs_overnight.specs.declared.derived.Found.TheVariants.{Rate, Missing}
 use Rattle.irs_overnight.proofs.KeptRows.{IsDated}
-use Rattle.irs_answers.specs.DerivedSchedules.{found_rate}
+use Rattle.irs_answers.specs.Derived.{found_rate}
 
 -- ---- one row for each fixing date
 

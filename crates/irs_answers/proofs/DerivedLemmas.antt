@@ -3,7 +3,7 @@ use Rattle.std.proofs.Common.{◌≡◌, ℕ, ◌≤◌, List, [], ◌∷◌, le
 use Rattle.std.proofs.Common.{arith}
 use Rattle.std.specs.Prelude.{IfSome}
 use Rattle.std.proofs.lemmas.Option.{same_Some}
-use Rattle.irs_base.specs.Faults.{IfStopped}
+use Rattle.irs_base.specs.Outcomes.{IfStopped}
 use Rattle.irs_base.specs.Limits.{most_index}
 use Rattle.irs_base.specs.declared.places.Broken.{Broken}
 use Rattle.irs_base.specs.declared.stopped.Stopped.{Stopped}
@@ -20,28 +20,27 @@ use Rattle.irs_calendar.specs.GoodDays.{DaySet, SameDays}
 use Rattle.irs_calendar.specs.declared.sections.Section.{Section}
 use Rattle.irs_resets.specs.Rates.{RateTable}
 use Rattle.irs_rules.proofs.Kept.{lawful_stream, terms_kept}
-use Rattle.irs_rules.specs.TermsKept.{TermsKept}
+use Rattle.irs_rules.specs.TermsRules.{TermsKept}
 use Rattle.irs_schedule.specs.DaySets.{reset_days}
 use Rattle.irs_schedule.specs.Parts.{Part}
-use Rattle.irs_overnight.specs.DerivedRules.{no_floating_stream}
-use Rattle.irs_overnight.specs.FileLaw.{file_text}
-use Rattle.irs_overnight.specs.Overnight.{OvernightAsked, IsAsked, IsFirstDerived, IsOvernight, OvernightKept, asked}
-use Rattle.irs_overnight.specs.Sources.{Floats}
+use Rattle.irs_overnight.specs.Overnight.{no_floating_stream, OvernightAsked, IsAsked, IsFirstDerived, IsOvernight}
+use Rattle.irs_overnight.specs.Overnight.{OvernightKept, asked}
+use Rattle.irs_overnight.specs.Texts.{file_text}
+use Rattle.irs_overnight.specs.Observations.{Floats}
 use Rattle.irs_overnight.specs.declared.derived.DerivedRow.{DerivedRow}
 use Rattle.irs_average.specs.Averages.{AverageAsked, AverageKept, IsAverage, IsFirstOfAverage}
-use Rattle.irs_average.specs.Interpolations.{IsInterpolated, IsStubBroken, StubKept}
-use Rattle.irs_average.specs.Stubs.{GivesIndex, GivesOn, IsStubAsked, StubAsked, stub_asked}
+use Rattle.irs_average.specs.Interpolations.{IsInterpolated, IsStubBroken, StubKept, GivesIndex, GivesOn, IsStubAsked}
+use Rattle.irs_average.specs.Interpolations.{StubAsked, stub_asked}
 use Rattle.irs_average.specs.declared.stubs.Side.{Side}
 use Rattle.irs_average.specs.declared.stubs.Side.TheVariants.{Initial, Last}
 use Rattle.irs_terms.specs.declared.amounts.StubRate.{StubRate}
 use Rattle.irs_terms.specs.declared.amounts.StubRate.TheVariants.{Index}
 use Rattle.irs_terms.specs.declared.amounts.StubTerms.{StubTerms}
-use Rattle.irs_answers.specs.Derived.{DueAveraged, DueCompounded, DueStub, FloatingStream, IsFloatingAt}
-use Rattle.irs_answers.specs.Private.Derived.{IsUnfixedSchedule}
-use Rattle.irs_answers.specs.Derived.{NotFloating, PrintsOne, PrintsStub}
-use Rattle.irs_answers.specs.Messages.{refused}
-use Rattle.irs_answers.specs.Outcomes.{Ends, IfRefused, of_stopped}
-use Rattle.irs_answers.specs.Steps.{Refuses, Rules, ReadStep}
+use Rattle.irs_answers.specs.Derived.{DueAveraged, DueCompounded, DueStub, FloatingStream, IsFloatingAt, NotFloating}
+use Rattle.irs_answers.specs.Derived.{PrintsOne, PrintsStub}
+use Rattle.irs_answers.specs.Private.Outcomes.{IsUnfixedSchedule}
+use Rattle.irs_answers.specs.Messages.{refused, Refuses, Rules, ReadStep}
+use Rattle.irs_answers.specs.Due.{Ends, IfRefused, of_stopped}
 use Rattle.irs_answers.specs.declared.refusals.Refusal.TheVariants.{Rule}
 use Rattle.irs_answers.proofs.StepLemmas.{broken, kept, read, unread}
 

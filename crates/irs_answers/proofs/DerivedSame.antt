@@ -12,13 +12,12 @@ use Rattle.irs_schedule.specs.Parts.{Part}
 use Rattle.irs_overnight.specs.Overnight.{IsFirstDerived, IsOvernight, OvernightKept, asked}
 use Rattle.irs_overnight.specs.declared.derived.DerivedRow.{DerivedRow}
 use Rattle.irs_average.specs.Averages.{AverageKept, IsAverage, IsFirstOfAverage, averaged}
-use Rattle.irs_average.specs.Interpolations.{IsInterpolated, IsStubBroken, StubKept}
-use Rattle.irs_average.specs.Stubs.{stub_asked}
+use Rattle.irs_average.specs.Interpolations.{IsInterpolated, IsStubBroken, StubKept, stub_asked}
 use Rattle.irs_average.specs.declared.means.Mean.{Mean}
 use Rattle.irs_average.specs.declared.stubs.Side.{Side}
 use Rattle.irs_answers.specs.Derived.{DueAverage, DueAveraged, DueCompounded, DueInterpolate, DueOvernight, DueStub}
 use Rattle.irs_answers.specs.Derived.{IsFloatingAt, NotFloating, PrintsOne, PrintsStub}
-use Rattle.irs_answers.specs.Steps.{Refuses, Rules}
+use Rattle.irs_answers.specs.Messages.{Refuses, Rules}
 use Rattle.irs_overnight.proofs.RatesAlone.{overnight_first, overnight_kept, overnight_same}
 use Rattle.irs_answers.proofs.SameDerived.{average_first, average_kept, average_same, stub_first, stub_kept, stub_same}
 use Rattle.irs_answers.proofs.SameRates.{SameRates, same_back}

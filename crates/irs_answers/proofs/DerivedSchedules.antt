@@ -13,36 +13,30 @@ use Rattle.irs_terms.specs.declared.stream_list.Swap.{Swap}
 use Rattle.irs_calendar.specs.declared.sections.Section.{Section}
 use Rattle.irs_periods.specs.Spans.{Regular}
 use Rattle.irs_resets.specs.FixingFiles.{IsFixingFile}
-use Rattle.irs_resets.specs.ObservedRates.{GivesStub, IsInitialStub, IsPeriodKind, own_index}
-use Rattle.irs_resets.specs.Rates.{RateTable, rate_at}
-use Rattle.irs_resets.specs.ResetDates.{IsPeriod}
+use Rattle.irs_resets.specs.Rates.{GivesStub, IsInitialStub, IsPeriodKind, own_index, RateTable, rate_at}
+use Rattle.irs_resets.specs.Resets.{IsPeriod}
 use Rattle.irs_resets.specs.declared.observed.PeriodKind.{PeriodKind}
 use Rattle.irs_resets.specs.declared.observed.PeriodKind.TheVariants.{InitialStub, FinalStub}
 use Rattle.irs_schedule.specs.DaySets.{reset_days, stream_sets}
 use Rattle.irs_schedule.specs.Parts.{Part}
 use Rattle.irs_schedule.specs.Schedules.{IsPart}
-use Rattle.irs_overnight.specs.DailySources.{DerivedSource, derived_source, fixing_at}
-use Rattle.irs_overnight.specs.DerivedRows.{AreDerived, IsDerivedRow}
-use Rattle.irs_overnight.specs.DerivedRules.{FixingNotAfter, fixing_not_after_at}
-use Rattle.irs_overnight.specs.FileLaw.{AreFixings, file_text}
-use Rattle.irs_overnight.specs.Overnight.{OvernightAsked, HasSource, asked}
+use Rattle.irs_overnight.specs.Overnight.{DerivedSource, derived_source, fixing_at, AreDerived, IsDerivedRow}
+use Rattle.irs_overnight.specs.Overnight.{FixingNotAfter, fixing_not_after_at, OvernightAsked, HasSource, asked}
+use Rattle.irs_overnight.specs.Texts.{AreFixings, file_text}
 use Rattle.irs_overnight.specs.declared.derived.DerivedRow.{DerivedRow}
 use Rattle.irs_overnight.proofs.KeptRows.{IsDated}
 use Rattle.irs_overnight.proofs.SourceLemmas.{partner}
-use Rattle.irs_average.specs.Averages.{AverageAsked, HasMeanSource, averaged}
-use Rattle.irs_average.specs.MeanRows.{AreMeans, IsMeanRow}
-use Rattle.irs_average.specs.MeanSources.{MeanSource, averaging_by, mean_source, own_lines}
-use Rattle.irs_average.specs.StubRates.{IsStubRow, StubSource}
-use Rattle.irs_average.specs.Stubs.{GivesOn, IsStubOn, Stub, StubAsked, stub_asked}
+use Rattle.irs_average.specs.Averages.{AverageAsked, HasMeanSource, averaged, AreMeans, IsMeanRow, MeanSource}
+use Rattle.irs_average.specs.Averages.{averaging_by, mean_source, own_lines}
+use Rattle.irs_average.specs.Interpolations.{IsStubRow, StubSource, GivesOn, IsStubOn, Stub, StubAsked, stub_asked}
 use Rattle.irs_average.specs.declared.means.Mean.{Mean}
 use Rattle.irs_average.specs.declared.stubs.Side.{Side}
 use Rattle.irs_average.specs.declared.stubs.Side.TheVariants.{Initial, Last}
 use Rattle.irs_average.proofs.StubLemmas.{one_stub}
 use Rattle.irs_base.proofs.MemberLemmas.{numbered_get}
-use Rattle.irs_answers.specs.Derived.{FloatingStream, IsFloatingAt}
-use Rattle.irs_answers.specs.DerivedSchedules.{AverageIsUsed, ComesFromLine, HasRateOf, HasRowRates, HoldsWith}
-use Rattle.irs_answers.specs.DerivedSchedules.{OvernightIsUsed, StubIsUsed}
-use Rattle.irs_answers.specs.KeptSchedules.{IsKeptSchedule}
+use Rattle.irs_answers.specs.Derived.{FloatingStream, IsFloatingAt, AverageIsUsed, ComesFromLine, HasRateOf}
+use Rattle.irs_answers.specs.Derived.{HasRowRates, HoldsWith, OvernightIsUsed, StubIsUsed}
+use Rattle.irs_answers.specs.PrintedRates.{IsKeptSchedule}
 use Rattle.irs_answers.proofs.DerivedFiles.{EachDateOnce, each_date_once, one_date, rate_of_row}
 use Rattle.irs_answers.proofs.KeptParts.{member_at, staged_at}
 use Rattle.irs_answers.proofs.UnfixedParts.{HasResetDays, Refixed, refixed, reset_days_of, same_boundaries}

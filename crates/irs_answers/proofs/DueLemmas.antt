@@ -4,27 +4,22 @@ use Rattle.std.proofs.Common.{◌∙◌, ap, subst, arith}
 use Rattle.std.specs.Prelude.{IfSome, if◌then◌else◌, slice_get}
 use Rattle.std.proofs.lemmas.Option.{same_Some}
 use Rattle.serde_json.specs.Data.{Data}
-use Rattle.irs_base.specs.Faults.{IfStopped}
-use Rattle.irs_base.specs.Order.{First, Only, is_before}
+use Rattle.irs_base.specs.Outcomes.{IfStopped, First, Only, is_before}
 use Rattle.irs_base.specs.declared.places.Broken.{Broken}
 use Rattle.irs_base.specs.declared.stopped.Stopped.{Stopped}
 use Rattle.irs_base.specs.declared.stopped.Stopped.TheVariants as stopped
 use Rattle.irs_xml.proofs.TextLaws.{reads_one}
-use Rattle.irs_answers.specs.Forms.{IsReadable, ReadsAs, TextReads, SourceText}
+use Rattle.irs_answers.specs.Forms.{IsReadable, ReadsAs, TextReads, SourceText, Given}
 use Rattle.irs_answers.specs.declared.forms.Form.{Form}
 use Rattle.irs_answers.specs.declared.forms.Form.TheVariants.{Json, Xml}
 use Rattle.irs_answers.specs.declared.forms.ReadErr.{ReadErr}
 use Rattle.irs_answers.specs.declared.forms.ReadErr.TheVariants as reading
-use Rattle.irs_read.specs.Documents.{DocumentFault}
+use Rattle.irs_read.specs.Documents.{DocumentFault, Means}
 use Rattle.irs_read.proofs.Outcomes.{one_meaning as meant_once}
-use Rattle.irs_read.specs.References.{streams_in}
-use Rattle.irs_read.specs.Reading.{Means}
+use Rattle.irs_read.specs.Readings.{streams_in}
 use Rattle.irs_terms.specs.Lawful.{IsLawfulSwap}
 use Rattle.irs_terms.specs.declared.stream_list.Swap.{Swap}
-use Rattle.irs_calendar.specs.FirstFaults.{Spot}
-use Rattle.irs_calendar.specs.Calendars.{spot_of}
-use Rattle.irs_calendar.specs.FirstFaults.{IsFirstCalendarFault}
-use Rattle.irs_calendar.specs.Grammar.{CalFiles}
+use Rattle.irs_calendar.specs.Grammar.{Spot, spot_of, IsFirstCalendarFault, CalFiles}
 use Rattle.irs_calendar.specs.declared.calendars.CalErr.{CalErr}
 use Rattle.irs_calendar.specs.declared.calendars.CalErr.TheVariants as calendar
 use Rattle.irs_calendar.specs.declared.sections.Section.{Section}
@@ -35,9 +30,8 @@ use Rattle.irs_resets.specs.declared.fixings.FixErr.{FixErr}
 use Rattle.irs_resets.specs.declared.fixings.FixErr.TheVariants as fixing
 use Rattle.irs_rules.specs.TermsRules.{IsFirstBrokenRule as IsFirstOfTerms}
 use Rattle.irs_schedule.proofs.OnePart.{one_broken}
-use Rattle.irs_schedule.specs.DatedRules.{DatedKept, DatedBroken}
+use Rattle.irs_schedule.specs.Schedules.{DatedKept, DatedBroken, IsSchedule}
 use Rattle.irs_schedule.specs.Parts.{Part}
-use Rattle.irs_schedule.specs.Schedules.{IsSchedule}
 use Rattle.irs_net.specs.Parties.{BreaksK8Of, IsBackward, IsForward, IsSide, SidesOf}
 use Rattle.irs_net.specs.declared.sides.Sides.{Sides}
 use Rattle.irs_net.proofs.SideLemmas.{one_sides_of}
@@ -48,17 +42,14 @@ use Rattle.irs_answers.specs.declared.refusals.Refusal.{Refusal}
 use Rattle.irs_answers.specs.declared.refusals.Refusal.TheVariants.{Rule, Calendars, Fixings}
 use Rattle.irs_answers.specs.declared.replies.Reply.{Reply}
 use Rattle.irs_answers.specs.Tasks.{nets, uses_rates}
-use Rattle.irs_answers.specs.Given.{Given}
-use Rattle.irs_answers.specs.Replying.{reply_status, reply_text}
-use Rattle.irs_answers.specs.Messages.{refused, unreadable, bad_calendar, bad_fixings}
-use Rattle.irs_answers.specs.Steps.{Is, Refuses}
+use Rattle.irs_answers.specs.Messages.{reply_status, reply_text, refused, unreadable, bad_calendar, bad_fixings, Is}
+use Rattle.irs_answers.specs.Messages.{Refuses}
 use Rattle.irs_answers.specs.Due.{SpellsTask, AreGivenFixings, BadCalendars, BadFixings, BreaksSides, BreaksSidesIf}
 use Rattle.irs_answers.specs.Due.{HasSides, IsFixingsFault, KeepsTerms, SidesIf, Facts, facts, Answered, rates_for}
 use Rattle.irs_answers.specs.Due.{DueKept, DueDated, DueTerms, DueFixings, DueCalendars, DueSides, DueDocument, DueFor}
-use Rattle.irs_answers.specs.Due.{PassesEachStep}
-use Rattle.irs_answers.specs.Outcomes.{Answer, answer_of, of_read, of_stopped, Ends, FixingsFail, IfRefused}
+use Rattle.irs_answers.specs.Due.{PassesEachStep, Answer, answer_of, of_read, of_stopped, Ends, FixingsFail, IfRefused}
+use Rattle.irs_answers.specs.Due.{IsRuleFirst, IsUnscheduled, IsScheduled, ReadFails}
 use Rattle.irs_answers.specs.Private.Outcomes.{IfAnswered}
-use Rattle.irs_answers.specs.Outcomes.{IsRuleFirst, IsUnscheduled, IsScheduled, ReadFails}
 use Rattle.irs_answers.proofs.AccrueSame.{accrued_same}
 use Rattle.irs_answers.proofs.FirstLemmas.{one_first, one_fixings_fault, no_fixings}
 use Rattle.irs_answers.proofs.SameRates.{SameRates, same_back, same_file, schedule_same, kept_same, first_same_table}

@@ -12,7 +12,7 @@ use Rattle.irs_emit.proofs.CleanParts.{states}
 use Rattle.irs_emit_xml.specs.Flows.{flows_text}
 use Rattle.irs_emit_xml.proofs.Document.{text_reads as xml_reads}
 use Rattle.irs_emit_xml.proofs.Stated.{states as states_in_xml}
-use Rattle.irs_answers.specs.CashFlows.{IsAuditedYes}
+use Rattle.irs_answers.specs.Tasks.{IsAuditedYes}
 use Rattle.irs_answers.specs.Forms.{SourceText, json_text, xml_text}
 use Rattle.irs_answers.specs.Private.Outcomes.{SpellsFlows}
 use Rattle.irs_answers.proofs.FlowLemmas.{due_verdict}

@@ -4,7 +4,7 @@ use Rattle.std.specs.declared.alloc.Global.{Global}
 use Rattle.std.specs.Prelude.{All}
 use Rattle.std.proofs.lemmas.List.{length-map, get_or-map}
 use Rattle.irs_base.specs.Limits.{most_bytes}
-use Rattle.irs_answers.specs.Given.{too_many}
+use Rattle.irs_answers.specs.Forms.{too_many}
 
 -- the calendar files as the code keeps them have fewer bytes than the limit
 pub all_small : (vs : List (Vec ℕ Global)) → All (λ bytes. length bytes < too_many) (map (λ v. v.items) vs)

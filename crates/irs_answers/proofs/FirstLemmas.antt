@@ -2,15 +2,14 @@
 use Rattle.std.proofs.Common.{◌≡◌, ℕ, List, Option, Some, None, Result, Ok, Err}
 use Rattle.irs_base.proofs.FaultOrder.{broken_ties}
 use Rattle.irs_base.proofs.Firsts.{one_first as one_of_order}
-use Rattle.irs_base.specs.Order.{First, is_before}
+use Rattle.irs_base.specs.Outcomes.{First, is_before}
 use Rattle.irs_base.specs.declared.places.Broken.{Broken}
-use Rattle.irs_resets.specs.Outcomes.{MeetsFile, fixings_of}
+use Rattle.irs_resets.specs.Resets.{MeetsFile, fixings_of}
 use Rattle.irs_resets.specs.Rates.{RateTable}
 use Rattle.irs_resets.specs.declared.fixings.FixErr.{FixErr}
 use Rattle.irs_resets.specs.declared.fixings.FixErr.TheVariants.{Syntax, Repeat, Memory}
 use Rattle.irs_resets.proofs.FileOutcomes.{no_rates, one_fault}
-use Rattle.irs_answers.specs.Due.{IsFixingsFault, AreGivenFixings}
-use Rattle.irs_answers.specs.Common.{FixingsRead}
+use Rattle.irs_answers.specs.Due.{IsFixingsFault, AreGivenFixings, FixingsRead}
 
 -- ---- broken rules
 

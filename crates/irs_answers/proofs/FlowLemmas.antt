@@ -5,12 +5,10 @@ use Rattle.std.specs.Prelude.{IsTrue}
 use Rattle.serde_json.specs.Data.{Data}
 use Rattle.irs_base.specs.declared.places.Broken.{Broken}
 use Rattle.irs_base.specs.declared.places.Place.{Place}
-use Rattle.irs_answers.specs.Forms.{IsReadable, TextReads, SourceText}
+use Rattle.irs_answers.specs.Forms.{IsReadable, TextReads, SourceText, IsPlacedRefusal}
 use Rattle.irs_schedule.specs.Parts.{Part}
 use Rattle.irs_flows.specs.FlowFaults.{FlowFault}
-use Rattle.irs_flows.specs.FlowMeaning.{flow_parts_in}
-use Rattle.irs_flows.specs.FlowParts.{FlowPart}
-use Rattle.irs_flows.specs.FlowReading.{FlowsOf, IsFirstShape, shape_kind_of}
+use Rattle.irs_flows.specs.FlowReading.{flow_parts_in, FlowPart, FlowsOf, IsFirstShape, shape_kind_of}
 use Rattle.irs_audit.specs.Verdicts.{IsVerdict}
 use Rattle.irs_audit.specs.declared.departures.Verdict.{Verdict}
 use Rattle.irs_audit.specs.declared.departures.Verdict.TheVariants.{Yes, No}
@@ -23,16 +21,14 @@ use Rattle.irs_answers.specs.declared.refusals.Refusal.TheVariants.{UnreadableFl
 use Rattle.irs_breaks.specs.BreakLists.{IsBreakList}
 use Rattle.irs_breaks.specs.BreakTexts.{breaks_text}
 use Rattle.irs_breaks.specs.Findings.{Findings}
-use Rattle.irs_answers.specs.CashFlows.{BadFlows, DueBreaks, DueFlows, DueStated, DueVerdict, IsStatusOf, OfFlows}
-use Rattle.irs_answers.specs.Steps.{Is}
-use Rattle.irs_answers.specs.FlowMessages.{bad_flows, whole_document, verdict_status, verdict_text}
-use Rattle.irs_answers.specs.Outcomes.{Ends, IfRefused}
+use Rattle.irs_answers.specs.Tasks.{BadFlows, DueBreaks, DueFlows, DueStated, DueVerdict, IsStatusOf, OfFlows}
+use Rattle.irs_answers.specs.Messages.{Is, bad_flows, whole_document, verdict_status, verdict_text}
+use Rattle.irs_answers.specs.Due.{Ends, IfRefused}
 use Rattle.irs_answers.specs.Private.Outcomes.{FlowsRefused, SpellsFlows}
-use Rattle.irs_answers.specs.Unread.{IsPlacedRefusal}
 use Rattle.irs_answers.proofs.DueLemmas.{one_reading}
 use Rattle.irs_answers.proofs.FirstLemmas.{one_first}
 use Rattle.irs_answers.proofs.StepLemmas.{read, unread}
-use Rattle.irs_base.specs.Order.{First, Only, is_before}
+use Rattle.irs_base.specs.Outcomes.{First, Only, is_before}
 
 module _ (Due : OfFlows) (file : SourceText) where
   at_text : (IsReadable file → ⊥) → DueFlows Due file 3 (bad_flows NotJson whole_document)

@@ -8,22 +8,21 @@ use Rattle.std.proofs.lemmas.Option.{same_Some, slice_get-get_or, slice_get_with
 use Rattle.jiff_core.proofs.SignedLemmas.{signed_arith}
 use Rattle.irs_base.specs.Days.{IsDay}
 use Rattle.irs_base.specs.Limits.{most_rate}
-use Rattle.irs_base.specs.Members.{Every}
+use Rattle.irs_base.specs.Lists.{Every}
 use Rattle.irs_base.specs.declared.places.Fault.{Fault}
 use Rattle.irs_base.proofs.EveryLemmas.{all_numbered}
 use Rattle.irs_base.proofs.MemberLemmas.{every_get, numbered_get}
 use Rattle.irs_terms.specs.Lawful.{IsRate}
 use Rattle.irs_terms.specs.declared.results.Reset.{Reset}
 use Rattle.irs_resets.specs.Rates.{AreSmall}
-use Rattle.irs_resets.specs.ResetDates.{IsPeriod}
+use Rattle.irs_resets.specs.Resets.{IsPeriod}
 use Rattle.irs_schedule.specs.Parts.{IsDatedReset, Rises}
 use Rattle.irs_schedule.specs.RowsOf.{no_reset}
-use Rattle.irs_overnight.specs.DailySources.{DerivedSource, fixing_at}
-use Rattle.irs_overnight.specs.DerivedRows.{AreDerived, IsDerivedRow}
-use Rattle.irs_overnight.specs.DerivedRules.{BreaksDerived, FixingNotAfter, fixing_not_after_at}
-use Rattle.irs_overnight.specs.FileLaw.{AreKept, IsSmallFound}
-use Rattle.irs_overnight.specs.Private.FileLaw.{IsInRange}
-use Rattle.irs_overnight.specs.Sources.{rate_by}
+use Rattle.irs_overnight.specs.Overnight.{DerivedSource, fixing_at, AreDerived, IsDerivedRow, BreaksDerived}
+use Rattle.irs_overnight.specs.Overnight.{FixingNotAfter, fixing_not_after_at}
+use Rattle.irs_overnight.specs.Texts.{AreKept, IsSmallFound}
+use Rattle.irs_overnight.specs.Private.Bounds.{IsInRange}
+use Rattle.irs_overnight.specs.Observations.{rate_by}
 use Rattle.irs_overnight.specs.declared.derived.DerivedRow.{DerivedRow}
 use Rattle.irs_overnight.specs.declared.derived.Found.{Found}
 use Rattle.irs_overnight.specs.declared.derived.Found.TheVariants.{Rate, Missing}
@@ -31,13 +30,9 @@ use Rattle.irs_overnight.specs.declared.observations.Observation.{Observation}
 use Rattle.irs_overnight.proofs.SmallRates.{row_small}
 use Rattle.irs_overnight.proofs.KeptRows.{IsDated, kept_rows}
 use Rattle.irs_overnight.proofs.RowLemmas.{in_order}
-use Rattle.irs_average.specs.MeanPeriods.{FindsMean, MeanPeriod}
-use Rattle.irs_average.specs.MeanRows.{AreMeans, IsMeanRow}
-use Rattle.irs_average.specs.MeanRules.{BreaksMeans}
-use Rattle.irs_average.specs.MeanSources.{MeanSource, mean_period_at}
-use Rattle.irs_average.specs.Means.{RateLiesBetween}
-use Rattle.irs_average.specs.Samples.{IsSample}
-use Rattle.irs_average.specs.StubRates.{IsOnLine, IsStubFound, IsStubRow, StubSource, tenor_rate}
+use Rattle.irs_average.specs.Averages.{FindsMean, MeanPeriod, AreMeans, IsMeanRow, BreaksMeans, MeanSource}
+use Rattle.irs_average.specs.Averages.{mean_period_at, RateLiesBetween, IsSample}
+use Rattle.irs_average.specs.Interpolations.{IsOnLine, IsStubFound, IsStubRow, StubSource, tenor_rate}
 use Rattle.irs_average.proofs.BetweenLemmas.{small_within, within_small}
 use Rattle.irs_average.proofs.LineLemmas.{row_within}
 use Rattle.irs_average.proofs.MeanLemmas.{mean_within}

@@ -2,8 +2,7 @@
 use Rattle.std.proofs.Common.{◌≡◌, ℕ, zero, suc, ◌+◌, ◌<◌, List, [], ◌∷◌, length, Some, refl, subst, arith}
 use Rattle.std.specs.Prelude.{slice_get}
 use Rattle.std.proofs.lemmas.Option.{same_Some, slice_get_within}
-use Rattle.irs_base.specs.Faults.{in_stream}
-use Rattle.irs_base.specs.Outcomes.{Spec, each_in_turn, refused_as}
+use Rattle.irs_base.specs.Outcomes.{in_stream, Spec, each_in_turn, refused_as}
 use Rattle.irs_base.proofs.Outcomes.{answer_there}
 use Rattle.irs_terms.specs.Lawful.{IsLawfulStream}
 use Rattle.irs_terms.specs.declared.stream.Stream.{Stream}
@@ -11,12 +10,12 @@ use Rattle.irs_terms.specs.declared.stream_list.Swap.{Swap}
 use Rattle.irs_calendar.specs.declared.sections.Section.{Section}
 use Rattle.irs_resets.specs.Rates.{RateTable}
 use Rattle.irs_rules.proofs.Kept.{lawful_stream, terms_kept}
-use Rattle.irs_rules.specs.TermsKept.{TermsKept}
+use Rattle.irs_rules.specs.TermsRules.{TermsKept}
 use Rattle.irs_schedule.specs.DaySets.{stream_sets}
-use Rattle.irs_schedule.specs.Outcomes.{schedule_of, stream_of}
+use Rattle.irs_schedule.specs.Schedules.{schedule_of, stream_of}
 use Rattle.irs_schedule.specs.Parts.{Part}
 use Rattle.irs_schedule.proofs.OnePart.{one_schedule, schedule_determined, schedule_is}
-use Rattle.irs_answers.specs.KeptSchedules.{IsKeptSchedule}
+use Rattle.irs_answers.specs.PrintedRates.{IsKeptSchedule}
 
 -- ---- lists
 

@@ -2,11 +2,11 @@
 use Rattle.std.proofs.Common.{◌≡◌, List, [], ◌∷◌, length, Option, Some, None, true, Result, Ok, refl, sym, ◌∙◌, ap}
 use Rattle.std.proofs.Common.{subst, arith}
 use Rattle.std.proofs.lemmas.List.{length-map}
-use Rattle.irs_base.specs.Members.{Pairs}
+use Rattle.irs_base.specs.Lists.{Pairs}
 use Rattle.irs_read.proofs.LawfulSwaps.{means_read}
-use Rattle.irs_read.specs.References.{streams_in}
+use Rattle.irs_read.specs.Readings.{streams_in}
 use Rattle.irs_read.specs.Private.Meaning.{swap_in}
-use Rattle.irs_read.specs.Reading.{Means}
+use Rattle.irs_read.specs.Documents.{Means}
 use Rattle.irs_resets.specs.Rates.{RateTable}
 use Rattle.irs_calendar.specs.declared.sections.Section.{Section}
 use Rattle.irs_schedule.specs.Parts.{Part}
@@ -17,8 +17,8 @@ use Rattle.serde_json.specs.Data.{Data}
 use Rattle.irs_net.specs.Parties.{SidesOf}
 use Rattle.irs_net.specs.declared.sides.Sides.{Sides}
 use Rattle.irs_answers.specs.Due.{Facts, PassesEachStep, SidesIf}
-use Rattle.irs_answers.specs.Given.{Given}
-use Rattle.irs_answers.specs.Private.Netted.{IsSided}
+use Rattle.irs_answers.specs.Forms.{Given}
+use Rattle.irs_answers.specs.Private.Outcomes.{IsSided}
 use Rattle.irs_answers.specs.declared.tasks.Task.TheVariants.{Net}
 
 same_ok : {A E : Type 0} (x y : A) → (let r : Result A E = Ok x in r ≡ Ok y) → x ≡ y

@@ -7,22 +7,17 @@ use Rattle.irs_audit.specs.declared.departures.Verdict.TheVariants.{Yes, No}
 use Rattle.irs_resets.specs.Rates.{RateTable}
 use Rattle.irs_schedule.specs.Parts.{Part}
 use Rattle.irs_terms.specs.Lawful.{IsLawfulSwap}
-use Rattle.irs_unfixed.specs.Counts.{payment_count}
-use Rattle.irs_unfixed.specs.Fixings.{Fixing}
-use Rattle.irs_unfixed.specs.Missing.{IsFirstLacking, IsFirstMissing, IsMadeFrom, MadeFrom, made_from}
-use Rattle.irs_unfixed.specs.Missing.{missing_fixing, missing_place}
+use Rattle.irs_unfixed.specs.Unfixed.{payment_count, Fixing, IsFirstLacking, IsFirstMissing, IsMadeFrom, MadeFrom}
+use Rattle.irs_unfixed.specs.Unfixed.{made_from, missing_fixing, missing_place}
 use Rattle.irs_unfixed.specs.declared.missing.Missing.{Missing}
 use Rattle.irs_unfixed.specs.declared.places.PaymentPlace.{PaymentPlace}
-use Rattle.irs_answers.specs.Causes.{IsCause, IsCauseOf, IsJudged, cause_of, verdict_cause}
+use Rattle.irs_answers.specs.Messages.{IsCause, IsCauseOf, IsJudged, cause_of, verdict_cause, reply_status, reply_text}
 use Rattle.irs_answers.specs.Due.{Facts, PassesEachStep, rates_for}
-use Rattle.irs_answers.specs.Forms.{SourceText}
-use Rattle.irs_answers.specs.Given.{Given}
+use Rattle.irs_answers.specs.Forms.{SourceText, Given, IsPlacedRefusal, IsPlacedReply}
 use Rattle.irs_answers.specs.Notes.{IsAmountsNote, IsAmountsNoteIf, IsFixedNote, IsNoteOf, IsPassedNote, IsRefusalNote}
 use Rattle.irs_answers.specs.Notes.{IsUnfixed, unfixed_fixing, made_by, unfixed_place}
-use Rattle.irs_answers.specs.Replying.{reply_status, reply_text}
-use Rattle.irs_answers.specs.Private.Replying.{IsCarriedOut}
+use Rattle.irs_answers.specs.Private.Outcomes.{IsCarriedOut}
 use Rattle.irs_answers.specs.Tasks.{states_amounts}
-use Rattle.irs_answers.specs.Unread.{IsPlacedRefusal, IsPlacedReply}
 use Rattle.irs_answers.specs.declared.causes.Cause.TheVariants.{Done, Uncompared}
 use Rattle.irs_answers.specs.declared.notes.Note.{Note}
 use Rattle.irs_answers.specs.declared.notes.Note.TheVariants.{Nothing}

@@ -3,10 +3,8 @@ use Rattle.std.proofs.Common.{◌≡◌, inr, ℕ, zero, suc, ◌+◌, ◌^◌, 
 use Rattle.std.proofs.Common.{refl, sym, ◌∙◌, ap, subst, arith}
 use Rattle.std.specs.Prelude.{slice_get}
 use Rattle.std.proofs.lemmas.Option.{same_Some, slice_get_within}
-use Rattle.irs_base.specs.Faults.{in_stream}
-use Rattle.irs_base.specs.Listed.{IsRising}
-use Rattle.irs_base.specs.Order.{Only}
-use Rattle.irs_base.specs.Outcomes.{Spec, each_in_turn, refused_as}
+use Rattle.irs_base.specs.Outcomes.{in_stream, Only, Spec, each_in_turn, refused_as}
+use Rattle.irs_base.specs.Lists.{IsRising}
 use Rattle.irs_base.specs.declared.places.Broken.{Broken}
 use Rattle.irs_base.proofs.EveryLemmas.{pairs_length}
 use Rattle.irs_base.proofs.MemberLemmas.{numbered_map}
@@ -24,34 +22,27 @@ use Rattle.irs_periods.specs.Spans.{Regular}
 use Rattle.irs_periods.proofs.OneSpan.{one_span}
 use Rattle.irs_resets.specs.Rates.{RateTable, SameRates}
 use Rattle.irs_rules.proofs.Kept.{lawful_stream, terms_kept}
-use Rattle.irs_rules.specs.TermsKept.{TermsKept}
-use Rattle.irs_observed.specs.DailyRates.{DailyRates, daily_rates, one_day}
-use Rattle.irs_observed.specs.OvernightRates.{OvernightSource, overnight_source}
-use Rattle.irs_observed.specs.OvernightResets.{rates_source}
+use Rattle.irs_rules.specs.TermsRules.{TermsKept}
+use Rattle.irs_observed.specs.ObservedRates.{DailyRates, daily_rates, one_day}
+use Rattle.irs_observed.specs.OvernightRates.{OvernightSource, overnight_source, rates_source}
 use Rattle.irs_observed.specs.declared.overnight_rate.OvernightRate.{OvernightRate}
 use Rattle.irs_daily.specs.Laws.{NoneOutOfRange}
-use Rattle.irs_daily.specs.ObservedRows.{AreObservedRows, AreRowsOf, AreRowsOfKind}
-use Rattle.irs_daily.specs.Outcomes.{HasNoRows}
-use Rattle.irs_daily.specs.RowTexts.{observations_text}
+use Rattle.irs_daily.specs.ObservedRows.{AreObservedRows, AreRowsOf, AreRowsOfKind, HasNoRows, observations_text}
 use Rattle.irs_daily.specs.declared.rows.NoRowsWhy.{NoRowsWhy}
 use Rattle.irs_daily.specs.declared.rows.ObservedRow.{ObservedRow}
 use Rattle.irs_daily.proofs.OneList.{one_list}
 use Rattle.irs_daily.proofs.RowLaws.{rates_have_rows}
-use Rattle.irs_periods.specs.Outcomes.{HasSpan}
+use Rattle.irs_periods.specs.Boundaries.{HasSpan}
 use Rattle.irs_schedule.specs.DaySets.{stream_sets}
-use Rattle.irs_schedule.specs.Outcomes.{resets_over, schedule_of, stream_of}
-use Rattle.irs_schedule.specs.Parts.{Part}
-use Rattle.irs_schedule.specs.Schedules.{IsPart}
-use Rattle.irs_schedule.specs.StreamResets.{FactorPassesAt, resets_by, resets_in}
+use Rattle.irs_schedule.specs.Schedules.{resets_over, schedule_of, stream_of, IsPart}
+use Rattle.irs_schedule.specs.Parts.{Part, FactorPassesAt, resets_by, resets_in}
 use Rattle.irs_schedule.proofs.LayoutRules.{layout_kept}
 use Rattle.irs_schedule.proofs.OnePart.{one_schedule, schedule_determined, schedule_is}
-use Rattle.irs_answers.specs.Accrued.{Accruing, accruing}
-use Rattle.irs_answers.specs.Private.Accrued.{IsAccruing}
+use Rattle.irs_answers.specs.Tasks.{Accruing, accruing, AreRowsIn, DailyStream, DueObservations, IsDailyAt, NotDaily}
+use Rattle.irs_answers.specs.Tasks.{ShowsRows, no_daily_stream, source_in}
+use Rattle.irs_answers.specs.Private.Outcomes.{IsAccruing, daily_stream}
 use Rattle.irs_answers.specs.Messages.{refused}
-use Rattle.irs_answers.specs.Observed.{AreRowsIn, DailyStream, DueObservations, IsDailyAt, NotDaily, ShowsRows}
-use Rattle.irs_answers.specs.Private.Observed.{daily_stream}
-use Rattle.irs_answers.specs.Observed.{no_daily_stream, source_in}
-use Rattle.irs_answers.specs.Outcomes.{Ends, IfRefused}
+use Rattle.irs_answers.specs.Due.{Ends, IfRefused}
 use Rattle.irs_answers.specs.declared.refusals.Refusal.TheVariants.{Rule}
 use Rattle.irs_answers.proofs.StepLemmas.{only_more, read, step_next, unread}
 

@@ -2,40 +2,36 @@
 use Rattle.std.proofs.Common.{◌≡◌, inl, inr, ℕ, ℤ, List, [], ◌∷◌, Option, sym, ◌∙◌, ap, subst}
 use Rattle.std.proofs.lemmas.Option.{same_Some}
 use Rattle.serde_json.specs.Data.{Data}
-use Rattle.irs_base.specs.Order.{First, Only, is_before}
+use Rattle.irs_base.specs.Outcomes.{First, Only, is_before}
 use Rattle.irs_base.specs.declared.places.Broken.{Broken}
-use Rattle.irs_answers.specs.Forms.{TextReads, SourceText}
+use Rattle.irs_answers.specs.Forms.{TextReads, SourceText, Given}
 use Rattle.irs_xml.specs.Document.{XmlReads}
 use Rattle.irs_flows.specs.FlowFaults.{FlowFault}
-use Rattle.irs_flows.specs.FlowParts.{FlowPart}
-use Rattle.irs_flows.specs.FlowReading.{FlowsOf, shape_kind_of}
+use Rattle.irs_flows.specs.FlowReading.{FlowPart, FlowsOf, shape_kind_of}
 use Rattle.irs_audit.specs.Verdicts.{IsVerdict}
 use Rattle.irs_flows.specs.declared.error.ShapeKind.TheVariants.{NotJson}
 use Rattle.irs_calendar.specs.declared.sections.Section.{Section}
-use Rattle.irs_calendar.specs.FirstFaults.{IsFirstCalendarFault}
-use Rattle.irs_calendar.specs.Grammar.{CalFiles}
-use Rattle.irs_read.specs.Documents.{DocumentFault}
-use Rattle.irs_read.specs.Reading.{Means}
+use Rattle.irs_calendar.specs.Grammar.{IsFirstCalendarFault, CalFiles}
+use Rattle.irs_read.specs.Documents.{DocumentFault, Means}
 use Rattle.irs_resets.specs.Rates.{RateTable}
 use Rattle.irs_rules.specs.TermsRules.{IsFirstBrokenRule as IsFirstOfTerms}
-use Rattle.irs_schedule.specs.DatedRules.{DatedKept, DatedBroken}
+use Rattle.irs_schedule.specs.Schedules.{DatedKept, DatedBroken}
 use Rattle.irs_schedule.specs.Parts.{Part}
-use Rattle.irs_schedule.specs.RowTexts.{schedule_text}
+use Rattle.irs_schedule.specs.RowsOf.{schedule_text}
 use Rattle.irs_terms.specs.declared.stream_list.Swap.{Swap}
 use Rattle.irs_emit.specs.Emitted.{emit_text}
 use Rattle.irs_emit_xml.specs.Flows.{flows_text}
 use Rattle.irs_breaks.specs.BreakTexts.{breaks_text}
 use Rattle.irs_breaks.specs.Findings.{Findings}
-use Rattle.irs_answers.specs.FlowMessages.{bad_flows, verdict_status, verdict_text, whole_document}
+use Rattle.irs_answers.specs.Messages.{bad_flows, verdict_status, verdict_text, whole_document, all_kept, refused}
+use Rattle.irs_answers.specs.Messages.{unreadable, bad_calendar, bad_fixings, Is, Refuses, Rules}
 use Rattle.irs_net.specs.declared.sides.Sides.{Sides}
 use Rattle.irs_net.specs.declared.table.NetRow.{NetRow}
-use Rattle.irs_overnight.specs.DerivedRules.{no_floating_stream}
-use Rattle.irs_overnight.specs.FileLaw.{file_text}
-use Rattle.irs_overnight.specs.Overnight.{IsFirstDerived, IsOvernight, OvernightKept, asked}
+use Rattle.irs_overnight.specs.Overnight.{no_floating_stream, IsFirstDerived, IsOvernight, OvernightKept, asked}
+use Rattle.irs_overnight.specs.Texts.{file_text}
 use Rattle.irs_overnight.specs.declared.derived.DerivedRow.{DerivedRow}
 use Rattle.irs_average.specs.Averages.{AverageKept, IsAverage, IsFirstOfAverage, averaged}
-use Rattle.irs_average.specs.Interpolations.{IsStubBroken, StubKept}
-use Rattle.irs_average.specs.Stubs.{StubAsked, stub_asked}
+use Rattle.irs_average.specs.Interpolations.{IsStubBroken, StubKept, StubAsked, stub_asked}
 use Rattle.irs_average.specs.declared.means.Mean.{Mean}
 use Rattle.irs_average.specs.declared.stubs.Side.{Side}
 use Rattle.irs_schedule.specs.DaySets.{reset_days}
@@ -44,23 +40,17 @@ use Rattle.irs_terms.specs.declared.frequency.Frequency.{Frequency}
 use Rattle.irs_answers.specs.declared.tasks.Task.{Task}
 use Rattle.irs_answers.specs.declared.tasks.Task.TheVariants.{Check, Schedule, Audit, Emit, Accrue, Net as OfNet}
 use Rattle.irs_answers.specs.declared.tasks.Task.TheVariants.{Overnight, Average, Breaks, EmitXml, Interpolate, Observations}
-use Rattle.irs_answers.specs.Carried.{DueCarrier, carrier_text}
-use Rattle.irs_answers.specs.Given.{Given}
-use Rattle.irs_answers.specs.Messages.{all_kept, refused, unreadable, bad_calendar, bad_fixings}
-use Rattle.irs_answers.specs.Steps.{Is, Refuses, Rules}
+use Rattle.irs_answers.specs.Tasks.{DueCarrier, carrier_text, TellsNet, TellsNetOf, net_page, Accruing, accruing}
+use Rattle.irs_answers.specs.Tasks.{AreRowsIn, DueObservations, IsDailyAt, NotDaily, ShowsRows, no_daily_stream}
+use Rattle.irs_answers.specs.Tasks.{BadFlows, DueBreaks, DueFlows, DueStated, DueVerdict, IsStatusOf, OfFlows}
 use Rattle.irs_answers.specs.Derived.{DueAverage, DueAveraged, DueCompounded, DueInterpolate, DueOvernight, DueStub}
 use Rattle.irs_answers.specs.Derived.{IsFloatingAt, NotFloating, PrintsOne, PrintsStub}
-use Rattle.irs_answers.specs.Netted.{TellsNet, TellsNetOf, net_page}
 use Rattle.irs_answers.specs.Due.{DueFor, DueDocument, DueSides, DueCalendars, DueFixings, DueTerms, DueDated, DueKept}
-use Rattle.irs_daily.specs.RowTexts.{observations_text}
-use Rattle.irs_daily.specs.declared.rows.ObservedRow.{ObservedRow}
-use Rattle.irs_answers.specs.Accrued.{Accruing, accruing}
-use Rattle.irs_answers.specs.Observed.{AreRowsIn, DueObservations, IsDailyAt, NotDaily, ShowsRows, no_daily_stream}
-use Rattle.irs_answers.specs.CashFlows.{BadFlows, DueBreaks, DueFlows, DueStated, DueVerdict, IsStatusOf, OfFlows}
 use Rattle.irs_answers.specs.Due.{Answered, AreGivenFixings, BadCalendars, BadFixings, BreaksSides, Facts, facts}
-use Rattle.irs_answers.specs.Due.{HasSides}
-use Rattle.irs_answers.specs.Due.{IsFixingsFault, KeepsTerms, rates_for}
-use Rattle.irs_answers.specs.Private.Due.{IsOneDue}
+use Rattle.irs_answers.specs.Due.{HasSides, IsFixingsFault, KeepsTerms, rates_for}
+use Rattle.irs_daily.specs.ObservedRows.{observations_text}
+use Rattle.irs_daily.specs.declared.rows.ObservedRow.{ObservedRow}
+use Rattle.irs_answers.specs.Private.Outcomes.{IsOneDue}
 use Rattle.irs_answers.proofs.StubLemmas.{one_index}
 use Rattle.irs_answers.proofs.AccrueLemmas.{one_page}
 use Rattle.irs_answers.proofs.StepLemmas.{rules_both, step_both}

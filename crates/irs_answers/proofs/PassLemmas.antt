@@ -4,10 +4,9 @@ use Rattle.irs_calendar.specs.declared.sections.Section.{Section}
 use Rattle.irs_schedule.specs.Parts.{Part}
 use Rattle.irs_schedule.specs.Schedules.{IsSchedule}
 use Rattle.irs_terms.specs.declared.stream_list.Swap.{Swap}
-use Rattle.irs_read.specs.Reading.{Means}
+use Rattle.irs_read.specs.Documents.{Means}
 use Rattle.serde_json.specs.Data.{Data}
-use Rattle.irs_answers.specs.Forms.{SourceText}
-use Rattle.irs_answers.specs.Given.{Given}
+use Rattle.irs_answers.specs.Forms.{SourceText, Given}
 use Rattle.irs_answers.specs.Due.{Answered, DueFor, Facts, PassesEachStep, SpellsTask, facts, rates_for}
 use Rattle.irs_answers.specs.Tasks.{uses_rates}
 use Rattle.irs_answers.specs.declared.tasks.Task.{Task}

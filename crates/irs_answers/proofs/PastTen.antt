@@ -9,9 +9,8 @@ use Rattle.std.proofs.lemmas.Option.{get_or_from_slice_get, same_Some, slice_get
 use Rattle.irs_base.specs.Limits.{most_rate}
 use Rattle.irs_base.specs.declared.line.Dec.{Dec}
 use Rattle.irs_base.proofs.MemberLemmas.{numbered_get}
-use Rattle.irs_terms.specs.Currencies.{decimals_of}
-use Rattle.irs_terms.specs.Lawful.{IsLawfulStream, IsRate}
-use Rattle.irs_terms.specs.Private.StepDates.{AllStepsRise}
+use Rattle.irs_terms.specs.Lawful.{decimals_of, IsLawfulStream, IsRate}
+use Rattle.irs_terms.specs.Private.TermDates.{AllStepsRise}
 use Rattle.irs_terms.specs.declared.amounts.FloatTerms.{FloatTerms}
 use Rattle.irs_terms.specs.declared.amounts.Leg.{Leg}
 use Rattle.irs_terms.specs.declared.amounts.Leg.TheVariants.{Fixed, Floating}
@@ -23,21 +22,17 @@ use Rattle.irs_terms.specs.declared.stream_list.Swap.{Swap}
 use Rattle.irs_calendar.specs.GoodDays.{DaySet}
 use Rattle.irs_calendar.specs.declared.sections.Section.{Section}
 use Rattle.irs_resets.specs.Rates.{RateTable}
-use Rattle.irs_rules.specs.TermsKept.{TermsKept}
+use Rattle.irs_rules.specs.TermsRules.{TermsKept}
 use Rattle.irs_compound.specs.Amounts.{AllPriced, AmountOf, Follows, FollowsFrom, PeriodPasses, RatesWithin}
-use Rattle.irs_compound.specs.Amounts.{StandsAfter}
-use Rattle.irs_compound.specs.Amounts.{code_for}
+use Rattle.irs_compound.specs.Amounts.{StandsAfter, code_for}
 use Rattle.irs_compound.specs.declared.periods.Parts.{Parts}
 use Rattle.irs_compound.specs.declared.periods.PeriodTerm.{PeriodTerm}
 use Rattle.irs_compound.specs.declared.periods.Rates.{Rates}
 use Rattle.irs_schedule.specs.DaySets.{stream_sets}
-use Rattle.irs_schedule.specs.KeptTerms.{are_given, is_daily, kept_terms_of}
-use Rattle.irs_schedule.specs.Outcomes.{entry_of, resets_over, stream_of}
-use Rattle.irs_schedule.specs.Parts.{Part}
-use Rattle.irs_schedule.specs.PeriodViews.{dated_period}
-use Rattle.irs_schedule.specs.Periods.{periods_by}
-use Rattle.irs_schedule.specs.Schedules.{IsPeriodEntry, IsPeriodTerm, StreamDates, dec_of}
-use Rattle.irs_schedule.specs.StreamDates.{layout_dates}
+use Rattle.irs_schedule.specs.Parts.{are_given, is_daily, kept_terms_of, Part}
+use Rattle.irs_schedule.specs.Schedules.{entry_of, resets_over, stream_of, periods_by, IsPeriodEntry, IsPeriodTerm}
+use Rattle.irs_schedule.specs.Schedules.{StreamDates, dec_of, layout_dates}
+use Rattle.irs_schedule.specs.RowsOf.{dated_period}
 use Rattle.irs_schedule.specs.declared.entries.PaymentEntry.{PaymentEntry}
 use Rattle.irs_schedule.specs.declared.entries.PeriodEntry.{PeriodEntry}
 use Rattle.irs_schedule.proofs.Events.{events_are}
@@ -49,8 +44,7 @@ use Rattle.irs_schedule.proofs.Unique.{one_entry}
 use Rattle.irs_accrue.specs.Accruals.{AccruesIn, IsAccrual, IsPriced}
 use Rattle.irs_accrue.specs.DailyAccruals.{IsAccrualBy, IsAccrualWith}
 use Rattle.irs_accrue.specs.declared.accruals.Accrual.{Accrual}
-use Rattle.irs_answers.specs.KeptSchedules.{IsKeptSchedule}
-use Rattle.irs_answers.specs.PastTen.{PaidWithinTen, PastTenUnpaid, PaysPeriod, UnaccruedUnpaid}
+use Rattle.irs_answers.specs.PrintedRates.{IsKeptSchedule, PaidWithinTen, PastTenUnpaid, PaysPeriod, UnaccruedUnpaid}
 use Rattle.irs_answers.proofs.KeptParts.{item_of, member_at, staged_at}
 
 -- ---- the parts of a payment's periods

@@ -1,9 +1,9 @@
 -- Where no rule is broken, the text that is due for `schedule` is that of every list in the relations.
 use Rattle.std.proofs.Common.{◌≡◌, ℕ, List, sym, ◌∙◌, ap}
-use Rattle.irs_schedule.specs.RowTexts.{schedule_text}
+use Rattle.irs_schedule.specs.RowsOf.{schedule_text}
 use Rattle.irs_answers.specs.declared.tasks.Task.TheVariants.{Schedule}
 use Rattle.irs_answers.specs.Due.{DueFor, Facts, IsTextOfEach, PassesEachStep}
-use Rattle.irs_answers.specs.Given.{Given}
+use Rattle.irs_answers.specs.Forms.{Given}
 
 -- the files pass every step, so the status is 0, and the text is that of each list
 pub printed : (g : Given) (f : Facts) (status : ℕ) (text : List ℕ) → PassesEachStep Schedule g f

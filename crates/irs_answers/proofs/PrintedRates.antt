@@ -15,42 +15,34 @@ use Rattle.irs_terms.specs.declared.frequency.Frequency.{Frequency}
 use Rattle.irs_terms.specs.declared.stream.Stream.{Stream}
 use Rattle.irs_terms.specs.declared.stream_list.Swap.{Swap}
 use Rattle.irs_calendar.specs.declared.sections.Section.{Section}
-use Rattle.irs_read.specs.Reading.{Means}
+use Rattle.irs_read.specs.Documents.{Means}
 use Rattle.irs_read.proofs.LawfulSwaps.{document_lawful, means_read}
 use Rattle.irs_resets.specs.FixingFiles.{IsFixingFile}
 use Rattle.irs_resets.specs.Rates.{AreSmall, RateTable, rate_at}
-use Rattle.irs_resets.specs.ResetDates.{IsPeriod}
+use Rattle.irs_resets.specs.Resets.{IsPeriod}
 use Rattle.irs_rules.proofs.Kept.{lawful_stream}
 use Rattle.irs_schedule.specs.Parts.{Part}
 use Rattle.irs_schedule.specs.Schedules.{IsSchedule}
-use Rattle.irs_overnight.specs.DailySources.{DerivedSource, derived_source, fixing_at}
-use Rattle.irs_overnight.specs.DerivedRows.{AreDerived}
-use Rattle.irs_overnight.specs.DerivedRules.{BreaksDerived}
-use Rattle.irs_overnight.specs.FileLaw.{AreFixings, file_text}
+use Rattle.irs_overnight.specs.Overnight.{DerivedSource, derived_source, fixing_at, AreDerived, BreaksDerived}
 use Rattle.irs_overnight.specs.Overnight.{OvernightAsked, HasSource, IsFirstDerived, IsOvernight, OvernightKept}
-use Rattle.irs_overnight.specs.Reading.{IsLawfulLine}
+use Rattle.irs_overnight.specs.Texts.{AreFixings, file_text, IsLawfulLine}
 use Rattle.irs_overnight.specs.declared.derived.DerivedRow.{DerivedRow}
 use Rattle.irs_overnight.proofs.FileRead.{are_fixings}
 use Rattle.irs_average.specs.Averages.{AverageAsked, AverageKept, HasMeanSource, IsAverage, IsFirstOfAverage, averaged}
-use Rattle.irs_average.specs.Interpolations.{IsInterpolated, IsStubBroken, StubKept}
-use Rattle.irs_average.specs.MeanRows.{AreMeans}
-use Rattle.irs_average.specs.MeanRules.{BreaksMeans}
-use Rattle.irs_average.specs.MeanSources.{MeanSource, averaging_by, mean_source, own_lines}
-use Rattle.irs_average.specs.StubRates.{IsStubRow, StubSource}
-use Rattle.irs_average.specs.Stubs.{GivesOn, HasStub, IsStubOn, Stub, StubAsked, stub_asked}
+use Rattle.irs_average.specs.Averages.{AreMeans, BreaksMeans, MeanSource, averaging_by, mean_source, own_lines}
+use Rattle.irs_average.specs.Interpolations.{IsInterpolated, IsStubBroken, StubKept, IsStubRow, StubSource, GivesOn}
+use Rattle.irs_average.specs.Interpolations.{HasStub, IsStubOn, Stub, StubAsked, stub_asked}
 use Rattle.irs_average.specs.declared.means.Mean.{Mean}
 use Rattle.irs_average.specs.declared.stubs.Side.{Side}
 use Rattle.irs_average.specs.declared.stubs.Side.TheVariants.{Initial, Last}
-use Rattle.irs_answers.specs.Derived.{DueAveraged, DueCompounded, DueStub, FloatingStream, IsFloatingAt, NotFloating, PrintsOne}
-use Rattle.irs_answers.specs.Derived.{PrintsStub}
-use Rattle.irs_answers.specs.DerivedSchedules.{IsMadeWith}
+use Rattle.irs_answers.specs.Derived.{DueAveraged, DueCompounded, DueStub, FloatingStream, IsFloatingAt, NotFloating}
+use Rattle.irs_answers.specs.Derived.{PrintsOne, PrintsStub, IsMadeWith}
 use Rattle.irs_answers.specs.Due.{Answered, AreGivenFixings as FixingsGive, DueFor, Facts, PassesEachStep, SpellsTask}
 use Rattle.irs_answers.specs.Due.{facts}
-use Rattle.irs_answers.specs.Given.{Given}
-use Rattle.irs_answers.specs.KeptSchedules.{IsKeptSchedule}
-use Rattle.irs_answers.specs.PrintedRates.{AveragePrints, InterpolatePrints, OvernightPrints, asked_of}
+use Rattle.irs_answers.specs.Forms.{Given}
+use Rattle.irs_answers.specs.PrintedRates.{IsKeptSchedule, AveragePrints, InterpolatePrints, OvernightPrints, asked_of}
 use Rattle.irs_answers.specs.PrintedRates.{with_fixings}
-use Rattle.irs_answers.specs.Steps.{Refuses, Rules, ReadStep}
+use Rattle.irs_answers.specs.Messages.{Refuses, Rules, ReadStep}
 use Rattle.irs_answers.specs.declared.tasks.Task.{Task}
 use Rattle.irs_answers.specs.declared.tasks.Task.TheVariants.{Schedule, Overnight, Average, Interpolate}
 use Rattle.irs_answers.proofs.DerivedSchedules.{average_used, overnight_used, own_part, stub_period, stub_used}

@@ -1,6 +1,6 @@
 -- Averages and rates of stubs, and their rules, depend on a table of rates by its rates alone.
 use Rattle.std.proofs.Common.{◌≡◌, inl, inr, ℕ, ◌-◌, List, length, Option, Some, ℤ, refl, ◌∙◌, subst}
-use Rattle.irs_base.specs.Members.{day_at}
+use Rattle.irs_base.specs.Lists.{day_at}
 use Rattle.irs_base.specs.declared.places.Broken.{Broken}
 use Rattle.irs_base.specs.declared.places.Fault.{Fault}
 use Rattle.irs_base.proofs.MemberLemmas.{numbered_map}
@@ -11,17 +11,15 @@ use Rattle.irs_calendar.specs.GoodDays.{DaySet}
 use Rattle.irs_resets.specs.Rates.{RateTable}
 use Rattle.irs_schedule.specs.Parts.{Part}
 use Rattle.irs_overnight.specs.Overnight.{asked}
-use Rattle.irs_overnight.specs.Sources.{RateLines}
+use Rattle.irs_overnight.specs.Observations.{RateLines}
 use Rattle.irs_overnight.specs.declared.derived.DerivedRow.{DerivedRow}
 use Rattle.irs_overnight.specs.declared.observations.Observation.{Observation}
-use Rattle.irs_average.specs.Averages.{AverageKept, BreaksAverage, IsAverage, IsFirstOfAverage, averaged}
-use Rattle.irs_average.specs.Interpolations.{BreaksStub, IsInterpolated, IsStubBroken, StubKept}
-use Rattle.irs_average.specs.MeanRows.{AreMeans, IsMeanRow}
-use Rattle.irs_average.specs.MeanRules.{BreaksMeans}
-use Rattle.irs_average.specs.MeanSources.{MeanSource, averaging_by, mean_source, own_lines}
-use Rattle.irs_average.specs.Samples.{AreSamples, IsSample}
-use Rattle.irs_average.specs.StubRates.{IsFoundBetween, IsStubRow, LiesOutside, StubSource, tenor_rate}
-use Rattle.irs_average.specs.Stubs.{HasStub, Stub, stub_asked, stub_source}
+use Rattle.irs_average.specs.Averages.{AverageKept, BreaksAverage, IsAverage, IsFirstOfAverage, averaged, AreMeans}
+use Rattle.irs_average.specs.Averages.{IsMeanRow, BreaksMeans, MeanSource, averaging_by, mean_source, own_lines}
+use Rattle.irs_average.specs.Averages.{AreSamples, IsSample}
+use Rattle.irs_average.specs.Interpolations.{BreaksStub, IsInterpolated, IsStubBroken, StubKept, IsFoundBetween}
+use Rattle.irs_average.specs.Interpolations.{IsStubRow, LiesOutside, StubSource, tenor_rate, HasStub, Stub, stub_asked}
+use Rattle.irs_average.specs.Interpolations.{stub_source}
 use Rattle.irs_average.specs.declared.means.Mean.{Mean}
 use Rattle.irs_average.specs.declared.stubs.Side.{Side}
 use Rattle.irs_overnight.proofs.RatesAlone.{SameLines}

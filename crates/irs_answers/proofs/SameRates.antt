@@ -1,8 +1,7 @@
 -- A schedule and the rules of dates and amounts depend on a table of rates by its rates alone.
 use Rattle.std.proofs.Common.{◌≡◌, inl, inr, List, [], ◌∷◌, Option, Some, None, sym, subst}
-use Rattle.irs_base.specs.Faults.{in_stream}
-use Rattle.irs_base.specs.Members.{Pairs}
-use Rattle.irs_base.specs.Outcomes.{refused_as}
+use Rattle.irs_base.specs.Outcomes.{in_stream, refused_as}
+use Rattle.irs_base.specs.Lists.{Pairs}
 use Rattle.irs_base.specs.declared.places.Broken.{Broken}
 use Rattle.irs_base.specs.declared.places.Fault.{Fault}
 use Rattle.irs_base.proofs.MemberLemmas.{numbered_map}
@@ -20,16 +19,13 @@ pub use Rattle.irs_resets.specs.Rates.{SameRates}
 pub use Rattle.irs_resets.proofs.FileOutcomes.{same_file}
 use Rattle.irs_resets.specs.Resets.{ResetSource, source_of}
 use Rattle.irs_resets.proofs.RowLemmas.{resets_same}
-use Rattle.irs_observed.specs.DailyRates.{DailyRates, daily_rates, one_day}
-use Rattle.irs_observed.specs.OvernightRates.{IsOvernightRate, IsRateOf}
-use Rattle.irs_observed.specs.OvernightResets.{AreOvernightResets, DailySource, daily_source}
+use Rattle.irs_observed.specs.ObservedRates.{DailyRates, daily_rates, one_day}
+use Rattle.irs_observed.specs.OvernightRates.{IsOvernightRate, IsRateOf, AreOvernightResets, DailySource, daily_source}
 use Rattle.irs_observed.specs.declared.daily_resets.OvernightResets.{OvernightResets}
-use Rattle.irs_schedule.specs.DatedRules.{DatedBroken, DatedKept}
+use Rattle.irs_schedule.specs.Schedules.{DatedBroken, DatedKept, resets_over, schedule_of, stream_of, IsPart}
+use Rattle.irs_schedule.specs.Schedules.{IsSchedule, AreResetsBy, AreResetsIn}
 use Rattle.irs_schedule.specs.DaySets.{StreamSets, stream_sets}
-use Rattle.irs_schedule.specs.Outcomes.{resets_over, schedule_of, stream_of}
-use Rattle.irs_schedule.specs.Parts.{Part}
-use Rattle.irs_schedule.specs.Schedules.{IsPart, IsSchedule, AreResetsBy, AreResetsIn}
-use Rattle.irs_schedule.specs.StreamResets.{resets_by, resets_in}
+use Rattle.irs_schedule.specs.Parts.{Part, resets_by, resets_in}
 use Rattle.irs_schedule.proofs.RateLemmas.{with_rates}
 
 -- where one table has the rates of another, the other has its rates

@@ -4,10 +4,9 @@ use Rattle.std.specs.Prelude.{IfSome, IfErr, IsErr}
 use Rattle.std.specs.Result.{IsErrAnd}
 use Rattle.irs_answers.specs.declared.refusals.Refusal.{Refusal}
 use Rattle.irs_answers.specs.declared.replies.Reply.{Reply}
-use Rattle.irs_answers.specs.Steps.{ReadStep, Rules}
-use Rattle.irs_base.specs.Order.{Only}
-use Rattle.irs_answers.specs.Replying.{reply_status, reply_text}
-use Rattle.irs_answers.specs.Outcomes.{Answer, answer_of, IfRefused, Ends}
+use Rattle.irs_answers.specs.Messages.{ReadStep, Rules, reply_status, reply_text}
+use Rattle.irs_base.specs.Outcomes.{Only}
+use Rattle.irs_answers.specs.Due.{Answer, answer_of, IfRefused, Ends}
 use Rattle.irs_answers.specs.Private.Outcomes.{IfAnswered}
 
 -- a property of an answer gives another that follows from it

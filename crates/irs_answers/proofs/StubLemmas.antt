@@ -7,7 +7,7 @@ use Rattle.irs_terms.specs.declared.amounts.StubTerms.{StubTerms}
 use Rattle.irs_terms.specs.declared.frequency.Frequency.{Frequency}
 use Rattle.irs_terms.specs.declared.stream.Stream.{Stream}
 use Rattle.irs_terms.specs.declared.stream_list.Swap.{Swap}
-use Rattle.irs_average.specs.Stubs.{GivesIndex, GivesOn}
+use Rattle.irs_average.specs.Interpolations.{GivesIndex, GivesOn}
 use Rattle.irs_average.specs.declared.stubs.Side.{Side}
 
 same_given : (i j : List ℕ) (f g : Option Frequency) → (let s : StubRate = Index i f in s ≡ Index j g)

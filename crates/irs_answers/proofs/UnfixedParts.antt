@@ -5,11 +5,10 @@ use Rattle.std.specs.Prelude.{slice_get}
 use Rattle.std.proofs.lemmas.Option.{get_or_from_slice_get, same_Some}
 use Rattle.std.proofs.lemmas.Bool.{cases_lt}
 use Rattle.jiff_core.proofs.SignedLemmas.{signed_arith}
-use Rattle.irs_base.specs.Members.{Every, day_at}
+use Rattle.irs_base.specs.Lists.{Every, day_at}
 use Rattle.irs_base.proofs.MemberLemmas.{numbered_get}
-use Rattle.irs_terms.specs.FirstDay.{first_day_of}
+use Rattle.irs_terms.specs.TermDates.{first_day_of, DatesInOrder}
 use Rattle.irs_terms.specs.Lawful.{IsLawfulStream}
-use Rattle.irs_terms.specs.TermDates.{DatesInOrder}
 use Rattle.irs_terms.specs.declared.amounts.FloatTerms.{FloatTerms}
 use Rattle.irs_terms.specs.declared.amounts.Leg.{Leg}
 use Rattle.irs_terms.specs.declared.amounts.Leg.TheVariants.{Fixed, Floating}
@@ -26,25 +25,20 @@ use Rattle.irs_periods.proofs.RegularEnds.{regular_end}
 use Rattle.irs_periods.proofs.RegularStarts.{regular_start}
 use Rattle.irs_periods.proofs.SpanThere.{lies_in_term}
 use Rattle.irs_periods.specs.Boundaries.{Boundaries}
-use Rattle.irs_periods.specs.SpanRules.{SpanKept}
-use Rattle.irs_periods.specs.Spans.{Regular}
-use Rattle.irs_resets.specs.ObservedRates.{ComesFrom, IsPeriodKind, IsObserved, Line}
-use Rattle.irs_resets.specs.Rates.{RateTable, rate_at}
-use Rattle.irs_resets.specs.ResetDates.{IsPeriod}
-use Rattle.irs_resets.specs.Resets.{HasResets, IsReset, IsResets, IsResetsOf, ResetSource, source_of}
+use Rattle.irs_periods.specs.Spans.{SpanKept, Regular}
+use Rattle.irs_resets.specs.Rates.{ComesFrom, IsPeriodKind, IsObserved, Line, RateTable, rate_at}
+use Rattle.irs_resets.specs.Resets.{IsPeriod, HasResets, IsReset, IsResets, IsResetsOf, ResetSource, source_of}
 use Rattle.irs_resets.specs.declared.observed.PeriodKind.{PeriodKind}
 use Rattle.irs_resets.proofs.DateLemmas.{one_dates}
 use Rattle.irs_resets.proofs.KindLaws.{one_kind}
 use Rattle.irs_resets.proofs.ObservedLaws.{one_observed}
 use Rattle.irs_observed.specs.declared.daily_resets.OvernightResets.{OvernightResets}
-use Rattle.irs_rules.specs.TermsKept.{TermsKept}
+use Rattle.irs_rules.specs.TermsRules.{TermsKept}
 use Rattle.irs_schedule.specs.DaySets.{StreamSets, stream_sets}
-use Rattle.irs_schedule.specs.KeptTerms.{is_floating}
-use Rattle.irs_schedule.specs.Outcomes.{part_over, resets_over, stream_of}
-use Rattle.irs_schedule.specs.Parts.{IsDatedReset, Part, Rises}
+use Rattle.irs_schedule.specs.Parts.{is_floating, IsDatedReset, Part, Rises}
+use Rattle.irs_schedule.specs.Schedules.{part_over, resets_over, stream_of, AreResetsBy, AreResetsIn, IsPart}
+use Rattle.irs_schedule.specs.Schedules.{layout_dates}
 use Rattle.irs_schedule.specs.RowsOf.{no_reset}
-use Rattle.irs_schedule.specs.Schedules.{AreResetsBy, AreResetsIn, IsPart}
-use Rattle.irs_schedule.specs.StreamDates.{layout_dates}
 use Rattle.irs_schedule.proofs.Events.{events_are}
 use Rattle.irs_schedule.proofs.LayoutLemmas.{layout_adjusted_days, layout_some, sets_in_range}
 use Rattle.irs_schedule.proofs.LayoutRules.{layout_kept, one_layout}
@@ -52,9 +46,8 @@ use Rattle.irs_schedule.proofs.PaidEntries.{entries_are}
 use Rattle.irs_schedule.proofs.PartMade.{part_is}
 use Rattle.irs_schedule.proofs.PeriodLemmas.{next_day, rises_of}
 use Rattle.irs_schedule.proofs.RateLemmas.{resets_in_dated, resets_many, with_rates}
-use Rattle.irs_overnight.specs.DailySources.{fixing_at}
-use Rattle.irs_answers.specs.Derived.{FloatingStream}
-use Rattle.irs_answers.specs.DerivedSchedules.{ComesFromLine}
+use Rattle.irs_overnight.specs.Overnight.{fixing_at}
+use Rattle.irs_answers.specs.Derived.{FloatingStream, ComesFromLine}
 use Rattle.irs_answers.proofs.KeptParts.{member_at}
 
 -- ---- a part that breaks no rule

@@ -5,10 +5,9 @@ use Rattle.std.specs.Result.{IsErrAnd}
 use Rattle.irs_base.specs.declared.places.Broken.{Broken}
 use Rattle.irs_base.specs.declared.stopped.Stopped.{Stopped}
 use Rattle.irs_base.specs.declared.stopped.Stopped.TheVariants as stopped
-use Rattle.irs_answers.specs.Forms.{SourceText}
-use Rattle.irs_answers.specs.Outcomes.{ReadFails, of_read, of_stopped}
-use Rattle.irs_answers.specs.Unread.{IsPlacedRefusal, IsPlacedReply}
-use Rattle.irs_answers.specs.Private.Unread.{AllPlaced}
+use Rattle.irs_answers.specs.Forms.{SourceText, IsPlacedRefusal, IsPlacedReply}
+use Rattle.irs_answers.specs.Due.{ReadFails, of_read, of_stopped}
+use Rattle.irs_answers.specs.Private.Outcomes.{AllPlaced}
 use Rattle.irs_answers.specs.declared.forms.ReadErr.{ReadErr}
 use Rattle.irs_answers.specs.declared.forms.ReadErr.TheVariants as reading
 use Rattle.irs_answers.specs.declared.refusals.Refusal.{Refusal}

@@ -12,12 +12,11 @@ use Rattle.serde_json.specs.Find.{get_member}
 use Rattle.irs_emit.proofs.ReadBack.{Built, ItemsBuilt, MembersBuilt}
 use Rattle.irs_xml.specs.Characters.{is_white}
 use Rattle.irs_xml.specs.Content.{Element, empty, full, Content, nothing, character, reference, cdata, comment}
-use Rattle.irs_xml.specs.Content.{instruction, child, IsElement, IsContent, most_levels}
+use Rattle.irs_xml.specs.Content.{instruction, child, IsElement, IsContent, most_levels, Child, both, children_in}
+use Rattle.irs_xml.specs.Content.{element_child, element_data, is_counted, item_last, joined_values, leaf_value}
+use Rattle.irs_xml.specs.Content.{named_child, value_from, with_child, with_children, with_settings, without}
 use Rattle.irs_xml.specs.Document.{XmlReads, rooted, root_key, root_value}
-use Rattle.irs_xml.specs.Namespaces.{Setting, Scope, first_scope}
-use Rattle.irs_xml.specs.Values.{Child, both, children_in, element_child, element_data, is_counted, item_last}
-use Rattle.irs_xml.specs.Values.{joined_values}
-use Rattle.irs_xml.specs.Values.{leaf_value, named_child, value_from, with_child, with_children, with_settings, without}
+use Rattle.irs_xml.specs.Tags.{Setting, Scope, first_scope}
 
 -- ---- what nests to a lesser depth
 

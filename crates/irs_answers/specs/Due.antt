@@ -1,40 +1,54 @@
--- What is due for a task and its files: status and text, by the first step that applies.
-use Rattle.std.specs.Prelude.{◌≡◌, ℕ, List, [], Option, Some, None, Bool, true, false, if◌then◌else◌}
+-- What is due for a task and its files, and what the calls answer.
+use Rattle.std.specs.Prelude.{◌≡◌, ℕ, List, [], Option, Some, None, Bool, true, false, if◌then◌else◌, ◌⊎◌, ◌<◌, IfSome}
+use Rattle.std.specs.Prelude.{option_map, Result, Ok, Err}
 use Rattle.serde_json.specs.Data.{Data}
 use Rattle.irs_base.specs.declared.places.Broken.{Broken}
-use Rattle.irs_read.specs.Documents.{DocumentFault}
-use Rattle.irs_read.specs.Reading.{Means}
+use Rattle.irs_base.specs.Outcomes.{First, Only, is_before}
+use Rattle.irs_base.specs.declared.stopped.Stopped.{Stopped}
+use Rattle.irs_base.specs.declared.stopped.Stopped.TheVariants as stopped
 use Rattle.irs_terms.specs.declared.stream_list.Swap.{Swap}
-use Rattle.irs_calendar.specs.FirstFaults.{Spot}
-use Rattle.irs_calendar.specs.FirstFaults.{IsFirstCalendarFault}
-use Rattle.irs_calendar.specs.Grammar.{CalFiles}
+use Rattle.irs_json.specs.declared.JsonErr.{JsonErr}
+use Rattle.irs_json.specs.declared.JsonErr.TheVariants as json
+use Rattle.irs_xml.specs.declared.XmlErr.{XmlErr}
+use Rattle.irs_xml.specs.declared.XmlErr.TheVariants as xml
+use Rattle.irs_read.specs.Documents.{DocumentFault, Means}
+use Rattle.irs_flows.specs.declared.error.FlowErr.{FlowErr}
+use Rattle.irs_flows.specs.declared.error.ShapeKind.TheVariants.{NotJson}
+use Rattle.irs_flows.specs.declared.error.FlowErr.TheVariants as flowing
+use Rattle.irs_calendar.specs.Grammar.{Spot, IsFirstCalendarFault, CalFiles, spot_of}
 use Rattle.irs_calendar.specs.declared.sections.Section.{Section}
+use Rattle.irs_calendar.specs.declared.calendars.CalErr.{CalErr}
 use Rattle.irs_resets.specs.FixingFiles.{IsFixingFault, IsFixingFile}
 use Rattle.irs_resets.specs.Rates.{RateTable}
 use Rattle.irs_resets.specs.declared.fixings.FixErr.{FixErr}
+use Rattle.irs_resets.specs.declared.fixings.FixErr.TheVariants as fixing
 use Rattle.irs_rules.specs.TermsRules.{BreaksTerms, IsFirstBrokenRule as IsFirstOfTerms}
-use Rattle.irs_schedule.specs.DatedRules.{DatedKept, DatedBroken}
+use Rattle.irs_schedule.specs.Schedules.{DatedKept, DatedBroken, IsSchedule}
 use Rattle.irs_schedule.specs.Parts.{Part}
-use Rattle.irs_schedule.specs.RowTexts.{schedule_text}
-use Rattle.irs_schedule.specs.Schedules.{IsSchedule}
+use Rattle.irs_schedule.specs.RowsOf.{schedule_text}
+use Rattle.irs_net.specs.Parties.{BreaksK8Of, SidesOf}
+use Rattle.irs_net.specs.declared.sides.Sides.{Sides}
 use Rattle.irs_emit.specs.Emitted.{emit_text}
 use Rattle.irs_emit_xml.specs.Flows.{flows_text}
-use Rattle.irs_answers.specs.Accrued.{TellsAccrued, accruing}
-use Rattle.irs_answers.specs.CashFlows.{DueBreaks, DueFlows, DueVerdict}
-use Rattle.irs_base.specs.Order.{First, Only, is_before}
+use Rattle.irs_answers.specs.Tasks.{TellsAccrued, accruing, DueBreaks, DueFlows, DueVerdict, nets, uses_rates, TellsNet}
+use Rattle.irs_answers.specs.Tasks.{DueObservations}
 use Rattle.irs_answers.specs.declared.tasks.Task.{Task}
 use Rattle.irs_answers.specs.declared.tasks.Task.TheVariants.{Check, Schedule, Audit, Emit, Accrue, Net, Overnight}
 use Rattle.irs_answers.specs.declared.tasks.Task.TheVariants.{Average, Breaks, EmitXml, Interpolate, Observations}
-use Rattle.irs_answers.specs.Tasks.{nets, uses_rates}
-use Rattle.irs_answers.specs.Forms.{TextReads, SourceText}
-use Rattle.irs_answers.specs.Given.{Given}
-use Rattle.irs_answers.specs.Messages.{refused, unreadable, bad_calendar, bad_fixings, all_kept}
-use Rattle.irs_answers.specs.Steps.{Is, Refuses, Rules, ReadStep}
+use Rattle.irs_answers.specs.Forms.{TextReads, SourceText, Given, IsUnread, files_given_by}
+use Rattle.irs_answers.specs.Messages.{refused, unreadable, bad_calendar, bad_fixings, all_kept, Is, Refuses, Rules}
+use Rattle.irs_answers.specs.Messages.{ReadStep, bad_flows, whole_document}
 use Rattle.irs_answers.specs.Derived.{DueAverage, DueInterpolate, DueOvernight}
-use Rattle.irs_answers.specs.Netted.{TellsNet}
-use Rattle.irs_answers.specs.Observed.{DueObservations}
-use Rattle.irs_net.specs.Parties.{BreaksK8Of, SidesOf}
-use Rattle.irs_net.specs.declared.sides.Sides.{Sides}
+use Rattle.irs_answers.specs.declared.due.Found.{Found}
+use Rattle.irs_answers.specs.declared.forms.ReadErr.{ReadErr}
+use Rattle.irs_answers.specs.declared.refusals.Refusal.{Refusal}
+use Rattle.irs_answers.specs.declared.refusals.Refusal.TheVariants.{Rule, Calendars, Fixings, Flows, Memory, Unreadable}
+use Rattle.irs_answers.specs.declared.refusals.Refusal.TheVariants.{UnreadableFlows}
+use Rattle.irs_answers.specs.declared.common.Common.{Common}
+use Rattle.irs_answers.specs.declared.forms.ReadErr.TheVariants as reading
+use Rattle.irs_answers.specs.declared.forms.Unread.TheVariants as unread
+
+-- ---- what is due for a task and its files: status and text, by the first step that applies
 
 -- the rates of a file of fixings, none without one
 abbrev pub AreGivenFixings : Option (List ℕ) → RateTable → Type 0
@@ -178,3 +192,115 @@ pub record PassesEachStep (t : Task) (g : Given) (f : Facts) : Type 0 where
 -- every list in the relations of dates, fractions and amounts has this text
 abbrev pub IsTextOfEach : Facts → List ℕ → Type 0
 IsTextOfEach f text = (s : List Part) → IsSchedule f.swap f.cal f.table s → text ≡ schedule_text s
+
+-- ---- what the code keeps of what the files of a task say
+
+-- the facts that the code keeps
+abbrev pub facts_by : Found → Facts
+facts_by f = facts f.swap f.sides f.calendars.now f.fixings.now f.schedule
+
+-- ---- what a task comes to: a reply, or a refusal
+
+-- the error of the JSON reader as an error of reading a document, with its line and column
+abbrev pub of_json : JsonErr → ReadErr
+of_json (json.NotJson line column) = reading.Unreadable (unread.Json line column)
+of_json json.Memory = reading.Memory
+
+-- the error of the XML reader, with its line and column
+abbrev pub of_xml : XmlErr → ReadErr
+of_xml (xml.NotXml line column) = reading.Unreadable (unread.Xml line column)
+of_xml xml.Memory = reading.Memory
+
+-- the refusal where a document has no reading, or memory ran out
+abbrev pub of_read : ReadErr → Refusal
+of_read (reading.Unreadable u) = Unreadable u
+of_read reading.Memory = Memory
+
+-- the refusal where a document or a swap breaks a rule, or memory ran out
+abbrev pub of_stopped : Stopped Broken → Refusal
+of_stopped (stopped.Broken b) = Rule b
+of_stopped stopped.Memory = Memory
+
+-- a status and a text
+abbrev pub Answer : Type 0
+Answer = ℕ × List ℕ
+
+-- the answer of a faulty calendar file; none where memory ran out
+abbrev pub calendars_answer : CalErr → Option Answer
+calendars_answer e = option_map (λ s. (3, bad_calendar s)) (spot_of e)
+
+-- the answer of a faulty file of fixings; none where memory ran out
+abbrev pub fixings_answer : FixErr → Option Answer
+fixings_answer (fixing.Syntax line) = Some (3, bad_fixings (fixing.Syntax line))
+fixings_answer (fixing.Repeat line) = Some (3, bad_fixings (fixing.Repeat line))
+fixings_answer fixing.Memory = None
+
+-- the answer of faulty cash flows; none where memory ran out
+abbrev pub flows_answer : FlowErr → Option Answer
+flows_answer (flowing.Shape kind place) = Some (3, bad_flows kind place)
+flows_answer flowing.Memory = None
+
+-- the answer of a refusal; none where memory ran out
+abbrev pub answer_of : Refusal → Option Answer
+answer_of (Unreadable u) = Some (2, refused unreadable)
+answer_of (Rule b) = Some (2, refused b)
+answer_of (Calendars e) = calendars_answer e
+answer_of (Fixings e) = fixings_answer e
+answer_of (UnreadableFlows u) = Some (3, bad_flows NotJson whole_document)
+answer_of (Flows e) = flows_answer e
+answer_of Memory = None
+
+-- P holds of the refusal's answer, if it has one
+abbrev pub IfRefused : Refusal → (ℕ → List ℕ → Type 0) → Type 0
+IfRefused r P = IfSome (answer_of r) (λ a. P a.0 a.1)
+
+-- P holds of the status and the text, and the status is none of those of bad words, a fetch or a write
+pub record Ends (P : ℕ → List ℕ → Type 0) (status : ℕ) (text : List ℕ) : Type 0 where
+  pub due : P status text
+  pub verdict : status < 4
+
+-- an error of a file of fixings reports its first line at fault, or that memory ran out
+abbrev pub FixingsFail : Option (List ℕ) → FixErr → Type 0
+FixingsFail bytes (fixing.Syntax line) = IsFixingsFault bytes (fixing.Syntax line)
+FixingsFail bytes (fixing.Repeat line) = IsFixingsFault bytes (fixing.Repeat line)
+FixingsFail bytes fixing.Memory = Unit {0}
+
+-- an error of reading a text reports how it has no reading, or that memory ran out
+abbrev pub ReadFails : SourceText → ReadErr → Type 0
+ReadFails w (reading.Unreadable u) = IsUnread w u
+ReadFails w reading.Memory = Unit {0}
+
+-- no rule of the swap is broken, and the schedule is the only one
+pub record IsScheduled (swap : Swap) (cal : List Section) (table : RateTable) (s : List Part) : Type 0 where
+  pub terms : KeepsTerms swap cal
+  pub dated : DatedKept swap cal table
+  pub schedule : Only (IsSchedule swap cal table) s
+
+-- b is the first broken rule of the terms
+abbrev pub IsTermsFirst : Swap → List Section → Broken → Type 0
+IsTermsFirst swap cal b = Only (IsFirstOfTerms swap cal) b
+
+-- b is the first broken rule of the swap
+abbrev pub IsRuleFirst : Swap → List Section → RateTable → Broken → Type 0
+IsRuleFirst swap cal table b = IsTermsFirst swap cal b ⊎ (KeepsTerms swap cal × Only (DatedBroken swap cal table) b)
+
+-- the answer is the line of the first broken rule of the swap
+abbrev pub IsUnscheduled : Swap → List Section → RateTable → ℕ → List ℕ → Type 0
+IsUnscheduled swap cal table status text = (b : Broken) × IsRuleFirst swap cal table b × Is 2 (refused b) status text
+
+-- ---- what was read of the calendar files and of the file of fixings that tasks have in common
+
+-- calendar files spell the sections, or have the first fault; out of memory says nothing
+abbrev pub CalendarsRead : List (List ℕ) → Result (List Section) CalErr → Type 0
+CalendarsRead files (Ok cal) = CalFiles files cal
+CalendarsRead files (Err e) = IfSome (spot_of e) (IsFirstCalendarFault files)
+
+-- a file of fixings gives the rates, or has the first fault; out of memory says nothing
+abbrev pub FixingsRead : Option (List ℕ) → Result RateTable FixErr → Type 0
+FixingsRead bytes (Ok table) = AreGivenFixings bytes table
+FixingsRead bytes (Err e) = FixingsFail bytes e
+
+-- what is kept of the files is what they say, or their first fault
+pub record AreRead (c : Common) : Type 0 where
+  pub calendars : CalendarsRead (files_given_by c.files).calendars c.calendars
+  pub fixings : FixingsRead (files_given_by c.files).fixings c.fixings

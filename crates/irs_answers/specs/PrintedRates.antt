@@ -1,22 +1,76 @@
--- What `schedule` makes of the fixing file that `overnight`, `average` or `interpolate` printed.
-use Rattle.std.specs.Prelude.{◌≡◌, ℕ, List, [], ◌∷◌, Some}
-use Rattle.irs_base.specs.Members.{HoldsOf}
-use Rattle.irs_base.specs.Order.{Only}
+-- What `schedule` makes of derived rates, and what the schedules of a task keep.
+use Rattle.std.specs.Prelude.{List, ◌≡◌, ℕ, ◌-◌, ◌<◌, ◌≤◌, Some, None, IsSome, IsSomeAnd, ℤ, unsigned_abs, slice_get}
+use Rattle.std.specs.Prelude.{[], ◌∷◌}
+use Rattle.irs_base.specs.Limits.{most_rate}
+use Rattle.irs_base.specs.Lists.{HoldsOf}
+use Rattle.irs_base.specs.Outcomes.{Only}
+use Rattle.irs_terms.specs.Lawful.{IsLawfulSwap, IsRate}
+use Rattle.irs_terms.specs.declared.stream_list.Swap.{Swap}
+use Rattle.irs_terms.specs.declared.results.Frac.{Frac}
+use Rattle.irs_terms.specs.declared.stream.Stream.{Stream}
 use Rattle.irs_terms.specs.declared.frequency.Frequency.{Frequency}
+use Rattle.irs_calendar.specs.declared.sections.Section.{Section}
+use Rattle.irs_calendar.specs.GoodDays.{DaySet}
+use Rattle.irs_resets.specs.Rates.{RateTable}
+use Rattle.irs_rules.specs.TermsRules.{BreaksNone}
+use Rattle.irs_schedule.specs.Schedules.{DatedKept, IsSchedule}
+use Rattle.irs_schedule.specs.Parts.{Part}
+use Rattle.irs_schedule.specs.declared.entries.PaymentEntry.{PaymentEntry}
+use Rattle.irs_schedule.specs.declared.entries.PeriodEntry.{PeriodEntry}
 use Rattle.irs_schedule.specs.DaySets.{reset_days}
-use Rattle.irs_overnight.specs.FileLaw.{AreFixings, file_text}
+use Rattle.irs_overnight.specs.Texts.{AreFixings, file_text}
 use Rattle.irs_overnight.specs.Overnight.{OvernightAsked, IsOvernight, asked}
 use Rattle.irs_overnight.specs.declared.derived.DerivedRow.{DerivedRow}
 use Rattle.irs_average.specs.Averages.{IsAverage, averaged}
-use Rattle.irs_average.specs.Interpolations.{IsInterpolated}
-use Rattle.irs_average.specs.Stubs.{HasStub, Stub, StubAsked, stub_asked}
+use Rattle.irs_average.specs.Interpolations.{IsInterpolated, HasStub, Stub, StubAsked, stub_asked}
 use Rattle.irs_average.specs.declared.means.Mean.{Mean}
 use Rattle.irs_average.specs.declared.stubs.Side.{Side}
-use Rattle.irs_answers.specs.Derived.{FloatingStream, IsFloatingAt}
-use Rattle.irs_answers.specs.DerivedSchedules.{HasRateOf, HasRowRates}
+use Rattle.irs_accrue.specs.DailyAccruals.{IsAccrualOf}
+use Rattle.irs_accrue.specs.declared.accruals.Accrual.TheVariants.{Inside}
+use Rattle.irs_answers.specs.Derived.{FloatingStream, IsFloatingAt, HasRateOf, HasRowRates}
 use Rattle.irs_answers.specs.Due.{DueFor, Facts, PassesEachStep}
-use Rattle.irs_answers.specs.Given.{Given}
+use Rattle.irs_answers.specs.Forms.{Given}
 use Rattle.irs_answers.specs.declared.tasks.Task.TheVariants.{Schedule, Overnight, Average, Interpolate}
+
+-- ---- the schedule of a swap that breaks no rule
+
+-- a lawful swap breaks no rule by these calendars and fixings, and the parts are its schedule
+pub record IsKeptSchedule (swap : Swap) (cal : List Section) (fix : RateTable) (parts : List Part) : Type 0 where
+  pub lawful : IsLawfulSwap swap
+  pub terms : BreaksNone swap cal
+  pub dated : DatedKept swap cal fix
+  pub schedule : IsSchedule swap cal fix parts
+
+-- ---- rates past 10 in size, which is above 1,000 per cent
+-- They are in payments without an amount alone.
+
+-- y is a payment of the part, and it pays calculation period i, counted from 1
+pub record PaysPeriod (p : Part) (y : PaymentEntry) (i : ℕ) (e : PeriodEntry) : Type 0 where
+  pub place : ℕ
+  pub payment : slice_get p.payments place ≡ Some y
+  pub from_one : 1 ≤ i
+  pub from : y.first_period ≤ i
+  pub to : i ≤ y.last_period
+  pub period : slice_get p.periods (i - 1) ≡ Some e
+
+-- in a payment with an amount the rate of each period is known, and at most 10 in size
+abbrev pub PaidWithinTen : Part → Type 0
+PaidWithinTen p =
+    (y : PaymentEntry) (i : ℕ) (e : PeriodEntry) → PaysPeriod p y i e → IsSome y.amount → IsSomeAnd e.rate IsRate
+
+-- a payment of a period whose rate is past 10 in size has no amount
+abbrev pub PastTenUnpaid : Part → Type 0
+PastTenUnpaid p =
+    (y : PaymentEntry) (i : ℕ) (e : PeriodEntry) (rate : ℤ) → PaysPeriod p y i e → e.rate ≡ Some rate
+    → most_rate < unsigned_abs rate → y.amount ≡ None
+
+-- where what has accrued of a period has no amount, its payment has none
+abbrev pub UnaccruedUnpaid : Stream → Part → Type 0
+UnaccruedUnpaid s p =
+    (applicable : DaySet) (fix : RateTable) (d : ℤ) (i : ℕ) (days : ℤ) (frac : Frac) (y : PaymentEntry) (e : PeriodEntry)
+    → IsAccrualOf s applicable fix p d (Inside i days frac None) → PaysPeriod p y i e → y.amount ≡ None
+
+-- ---- what `schedule` makes of the fixing file that `overnight`, `average` or `interpolate` printed
 
 -- the files of a task, with this text as the file of fixings
 abbrev pub with_fixings : Given → List ℕ → Given

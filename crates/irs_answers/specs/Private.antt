@@ -1,10 +1,1 @@
-pub mod Carried
-pub mod Accrued
-pub mod Observed
-pub mod Netted
-pub mod Derived
-pub mod Due
-pub mod Replying
-pub mod Causes
 pub mod Outcomes
-pub mod Unread

@@ -1,11 +1,11 @@
 //! The text of `accrue`: what has accrued on a day, a line a stream. No standard has such a text, so its
 //! format is our rule.
 ghost use Rattle.std.specs.Prelude.{◌≡◌, ◌+◌, ◌<◌, Some, length, slice_get, IfOk};
-ghost use Rattle.irs_base.specs.Order.{Only};
+ghost use Rattle.irs_base.specs.Outcomes.{Only};
 ghost use Rattle.irs_schedule.specs.Parts.{Part};
 ghost use Rattle.irs_accrue.specs.Accruals.{AccrualHasPlaces};
-ghost use Rattle.irs_answers.specs.Accrued.{AccruesAt, TellsAccrued, accrued_header, accruing};
-ghost use Rattle.irs_answers.specs.Private.Accrued.{IsAccruing};
+ghost use Rattle.irs_answers.specs.Tasks.{AccruesAt, TellsAccrued, accrued_header, accruing};
+ghost use Rattle.irs_answers.specs.Private.Outcomes.{IsAccruing};
 
 use crate::due::Found;
 use irs_accrue::{Accrual, accrued_of, accrued_text};

@@ -2,22 +2,12 @@
 ghost use Rattle.std.specs.Prelude.{◌≡◌, IfOk};
 ghost use Rattle.irs_emit.specs.Emitted.{emit_text};
 ghost use Rattle.irs_emit_xml.specs.Flows.{flows_text};
-ghost use Rattle.irs_answers.specs.Accrued.{TellsAccrued, accruing};
-ghost use Rattle.irs_answers.specs.Private.Accrued.{IsAccruing};
-ghost use Rattle.irs_answers.specs.CashFlows.{DueFlows, DueVerdict};
-ghost use Rattle.irs_answers.specs.Causes.{IsJudged};
-ghost use Rattle.irs_answers.specs.Private.Causes.{JudgedIf};
-ghost use Rattle.irs_answers.specs.Due.{Answered, PassesEachStep};
-ghost use Rattle.irs_answers.specs.Forms.{source_by};
-ghost use Rattle.irs_answers.specs.Found.{facts_by};
-ghost use Rattle.irs_answers.specs.Given.{given_with};
-ghost use Rattle.irs_answers.specs.Messages.{all_kept};
-ghost use Rattle.irs_answers.specs.Outcomes.{Ends};
-ghost use Rattle.irs_answers.specs.Private.Outcomes.{IfAnswered};
-ghost use Rattle.irs_answers.specs.Private.Replying.{IsCarriedOut};
-ghost use Rattle.irs_answers.specs.Steps.{Is};
-ghost use Rattle.irs_answers.specs.Tasks.{IsLawfulTask};
-ghost use Rattle.irs_answers.specs.Private.Unread.{AllPlaced, FlowsAlone, NoneUnread};
+ghost use Rattle.irs_answers.specs.Tasks.{TellsAccrued, accruing, DueFlows, DueVerdict, IsLawfulTask};
+ghost use Rattle.irs_answers.specs.Private.Outcomes.{IsAccruing, JudgedIf, IfAnswered, IsCarriedOut, AllPlaced};
+ghost use Rattle.irs_answers.specs.Private.Outcomes.{FlowsAlone, NoneUnread};
+ghost use Rattle.irs_answers.specs.Messages.{IsJudged, all_kept, Is};
+ghost use Rattle.irs_answers.specs.Due.{Answered, PassesEachStep, facts_by, Ends};
+ghost use Rattle.irs_answers.specs.Forms.{source_by, given_with};
 ghost use Rattle.irs_terms.specs.Lawful.{IsLawfulSwap};
 
 use crate::accruing::accrued_page;

@@ -1,12 +1,10 @@
 //! The text of `breaks`: each break between cash flows and a schedule. Its format is our rule.
 ghost use Rattle.std.specs.Prelude.{◌≡◌, IfOk};
-ghost use Rattle.irs_answers.specs.CashFlows.{DueBreaks, DueFlows, IsStatusOf};
+ghost use Rattle.irs_answers.specs.Tasks.{DueBreaks, DueFlows, IsStatusOf};
 ghost use Rattle.irs_answers.specs.Forms.{source_by};
-ghost use Rattle.irs_answers.specs.Outcomes.{Ends};
-ghost use Rattle.irs_answers.specs.Private.Outcomes.{IfAnswered};
-ghost use Rattle.irs_answers.specs.Replying.{reply_status, reply_text};
-ghost use Rattle.irs_answers.specs.Private.Replying.{IsCarriedOut};
-ghost use Rattle.irs_answers.specs.Private.Unread.{FlowsAlone, IsOfReadText};
+ghost use Rattle.irs_answers.specs.Due.{Ends};
+ghost use Rattle.irs_answers.specs.Private.Outcomes.{IfAnswered, IsCarriedOut, FlowsAlone, IsOfReadText};
+ghost use Rattle.irs_answers.specs.Messages.{reply_status, reply_text};
 
 use crate::flows::stated_flows;
 use crate::forms::Source;

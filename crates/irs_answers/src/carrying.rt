@@ -1,12 +1,9 @@
 //! The text of `carrier`: the value that FpML XML means, as the JSON that carries it.
-ghost use Rattle.irs_answers.specs.Carried.{DueCarrier, ReadsBack, carrier_text};
-ghost use Rattle.irs_answers.specs.Private.Carried.{MeansXml};
-ghost use Rattle.irs_answers.specs.Forms.{no_source_text, xml_text};
-ghost use Rattle.irs_answers.specs.Outcomes.{Ends};
-ghost use Rattle.irs_answers.specs.Private.Outcomes.{IfAnswered};
-ghost use Rattle.irs_answers.specs.Replying.{reply_status, reply_text};
-ghost use Rattle.irs_answers.specs.Unread.{IsPlacedReply};
-ghost use Rattle.irs_answers.specs.Private.Unread.{AllPlaced};
+ghost use Rattle.irs_answers.specs.Tasks.{DueCarrier, ReadsBack, carrier_text};
+ghost use Rattle.irs_answers.specs.Private.Outcomes.{MeansXml, IfAnswered, AllPlaced};
+ghost use Rattle.irs_answers.specs.Forms.{no_source_text, xml_text, IsPlacedReply};
+ghost use Rattle.irs_answers.specs.Due.{Ends};
+ghost use Rattle.irs_answers.specs.Messages.{reply_status, reply_text};
 ghost use Rattle.irs_json.specs.Reading.{Reads};
 ghost use Rattle.serde_json.specs.View.{view};
 ghost use Rattle.std.specs.Prelude.{◌≡◌, IfOk};

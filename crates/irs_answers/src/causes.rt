@@ -1,8 +1,6 @@
 //! What a reply says, for the sentence about it.
 ghost use Rattle.std.specs.Prelude.{◌≡◌};
-ghost use Rattle.irs_answers.specs.Causes.{cause_of, cause_status};
-ghost use Rattle.irs_answers.specs.Causes.{verdict_cause as verdict_cause_of};
-ghost use Rattle.irs_answers.specs.Replying.{refusal_status};
+ghost use Rattle.irs_answers.specs.Messages.{cause_of, cause_status, verdict_cause as verdict_cause_of, refusal_status};
 
 use crate::refusals::Refusal;
 use crate::replies::Reply;

@@ -1,8 +1,8 @@
 //! The name of the centre at a place of K12.
 ghost use Rattle.std.specs.Prelude.{◌≡◌, ◌-◌, IfSome, Some, option_copied};
-ghost use Rattle.irs_answers.specs.Centers.{IsCenterAt, IsCenterIn, names_at as names_at_place};
+ghost use Rattle.irs_answers.specs.Notes.{IsCenterAt, IsCenterIn, names_at as names_at_place};
 ghost use Rattle.irs_answers.specs.Forms.{source_by};
-ghost use Rattle.irs_rules.specs.Centers.{start_names as start_names_of};
+ghost use Rattle.irs_rules.specs.Parameters.{start_names as start_names_of};
 
 use crate::forms::{Source, read_document};
 use crate::spots::kept;
@@ -43,7 +43,7 @@ fn center_of(swap: &Swap, place: Place) -> Option<&Text>
 }
 
 // The centres that an element of a stream needs: one of those of which K12 speaks.
-#[tactic(auto, unfolding(crate::specs::Centers::names_at))]
+#[tactic(auto, unfolding(crate::specs::Notes::names_at))]
 fn names_at(s: &Stream, elem: Elem) -> Option<&Names>
     ensures { option_copied result ≡ names_at_place s.now elem }
 {

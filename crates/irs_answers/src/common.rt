@@ -1,13 +1,9 @@
 //! The calendars and the fixings that tasks have in common, read once.
 ghost use Rattle.std.specs.Prelude.{◌≡◌, ◌≤◌, length, map, option_map, IfSome, IfOk, IfErr, All};
 ghost use Rattle.irs_base.specs.Limits.{most_bytes, most_files};
-ghost use Rattle.irs_calendar.specs.Calendars.{spot_of};
-ghost use Rattle.irs_calendar.specs.FirstFaults.{IsFirstCalendarFault};
-ghost use Rattle.irs_calendar.specs.Grammar.{CalFiles};
-ghost use Rattle.irs_answers.specs.Common.{AreRead, CalendarsRead, FixingsRead};
-ghost use Rattle.irs_answers.specs.Due.{AreGivenFixings};
-ghost use Rattle.irs_answers.specs.Given.{IsWithinLimits, files_given_by};
-ghost use Rattle.irs_answers.specs.Outcomes.{FixingsFail};
+ghost use Rattle.irs_calendar.specs.Grammar.{spot_of, IsFirstCalendarFault, CalFiles};
+ghost use Rattle.irs_answers.specs.Due.{AreRead, CalendarsRead, FixingsRead, AreGivenFixings, FixingsFail};
+ghost use Rattle.irs_answers.specs.Forms.{IsWithinLimits, files_given_by};
 
 use crate::files::TaskFiles;
 use irs_calendar::{CalErr, Calendars};

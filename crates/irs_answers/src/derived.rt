@@ -4,14 +4,11 @@ ghost use Rattle.std.specs.Prelude.{◌≡◌, ◌≤◌, None, length, IfOk, If
 ghost use Rattle.irs_base.specs.Limits.{most_index};
 ghost use Rattle.irs_terms.specs.Lawful.{IsLawfulTenor};
 ghost use Rattle.irs_average.specs.Averages.{most_step};
-ghost use Rattle.irs_overnight.specs.DerivedRules.{no_floating_stream};
-ghost use Rattle.irs_overnight.specs.FileLaw.{file_text};
+ghost use Rattle.irs_overnight.specs.Overnight.{no_floating_stream};
+ghost use Rattle.irs_overnight.specs.Texts.{file_text};
 ghost use Rattle.irs_answers.specs.Derived.{DueAverage, DueInterpolate, DueOvernight, FloatingStream, IsFloatingAt};
-ghost use Rattle.irs_answers.specs.Private.Derived.{IsUnfixedSchedule};
-ghost use Rattle.irs_answers.specs.Outcomes.{Ends};
-ghost use Rattle.irs_answers.specs.Private.Outcomes.{IfAnswered};
-ghost use Rattle.irs_answers.specs.Private.Replying.{IsCarriedOut};
-ghost use Rattle.irs_answers.specs.Private.Unread.{NoneUnread};
+ghost use Rattle.irs_answers.specs.Private.Outcomes.{IsUnfixedSchedule, IfAnswered, IsCarriedOut, NoneUnread};
+ghost use Rattle.irs_answers.specs.Due.{Ends};
 
 use crate::due::Found;
 use crate::refusals::Refusal;

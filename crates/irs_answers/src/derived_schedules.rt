@@ -7,9 +7,8 @@ ghost use Rattle.irs_resets.specs.Rates.{RateTable};
 ghost use Rattle.irs_schedule.specs.Parts.{Part};
 ghost use Rattle.irs_average.specs.declared.means.Mean.{Mean};
 ghost use Rattle.irs_average.specs.declared.stubs.Side.{Side};
-ghost use Rattle.irs_answers.specs.Derived.{FloatingStream, IsFloatingAt};
-ghost use Rattle.irs_answers.specs.DerivedSchedules.{AverageIsUsed, OvernightIsUsed, StubIsUsed};
-ghost use Rattle.irs_answers.specs.KeptSchedules.{IsKeptSchedule};
+ghost use Rattle.irs_answers.specs.Derived.{FloatingStream, IsFloatingAt, AverageIsUsed, OvernightIsUsed, StubIsUsed};
+ghost use Rattle.irs_answers.specs.PrintedRates.{IsKeptSchedule};
 
 /// Over the schedule of a swap without fixings, `overnight` and `average` derive a rate for each period of a
 /// stream, and `interpolate` one for a stub. The calls have a clause `fixings`: the rows print a fixing file that

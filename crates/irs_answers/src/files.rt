@@ -1,6 +1,6 @@
 //! The files of a task, by what they are to it.
 ghost use Rattle.std.specs.Prelude.{◌≡◌};
-ghost use Rattle.irs_answers.specs.Given.{IsWithinLimits, files_given_by, given_with, no_files};
+ghost use Rattle.irs_answers.specs.Forms.{IsWithinLimits, files_given_by, given_with, no_files};
 
 use crate::forms::Source;
 use std::alloc::Global;

@@ -1,7 +1,7 @@
 //! The lines of an audit: the verdict, and the first fault of the flows. Names of fields are FpML's. They take
 //! no memory.
 ghost use Rattle.std.specs.Prelude.{◌≡◌, ◌≤◌, ◌++◌, ◌∷◌, codes, decimal, length};
-ghost use Rattle.irs_answers.specs.FlowMessages.{bad_flows, departure_text, shape_name, whole_document};
+ghost use Rattle.irs_answers.specs.Messages.{bad_flows, departure_text, shape_name, whole_document};
 ghost use Rattle.irs_flows.specs.declared.error.ShapeKind.TheVariants.{NotJson};
 
 use irs_audit::Departure;

@@ -1,11 +1,10 @@
 //! The cash flows of a task, and the verdict on them.
 ghost use Rattle.std.specs.Prelude.{IfOk, IfErr};
-ghost use Rattle.irs_answers.specs.CashFlows.{DueFlows, DueVerdict};
+ghost use Rattle.irs_answers.specs.Tasks.{DueFlows, DueVerdict};
 ghost use Rattle.irs_answers.specs.Forms.{source_by};
-ghost use Rattle.irs_answers.specs.FlowMessages.{verdict_status, verdict_text};
-ghost use Rattle.irs_answers.specs.Outcomes.{Ends, IfRefused};
-ghost use Rattle.irs_answers.specs.Private.Outcomes.{FlowsRefused, SpellsFlows};
-ghost use Rattle.irs_answers.specs.Private.Unread.{IsOfFlows};
+ghost use Rattle.irs_answers.specs.Messages.{verdict_status, verdict_text};
+ghost use Rattle.irs_answers.specs.Due.{Ends, IfRefused};
+ghost use Rattle.irs_answers.specs.Private.Outcomes.{FlowsRefused, SpellsFlows, IsOfFlows};
 
 use crate::forms::{ReadErr, Source, read_document};
 use crate::refusals::Refusal;

@@ -1,6 +1,6 @@
 //! The two forms of a document's text, and the value that it means.
 ghost use Rattle.irs_answers.specs.Forms.{TextReads, json_text, no_source_text, source_by, xml_text};
-ghost use Rattle.irs_answers.specs.Outcomes.{ReadFails, of_json, of_xml};
+ghost use Rattle.irs_answers.specs.Due.{ReadFails, of_json, of_xml};
 ghost use Rattle.irs_json.specs.Reading.{Reads};
 ghost use Rattle.irs_xml.specs.Document.{XmlReads};
 ghost use Rattle.serde_json.specs.View.{view};

@@ -1,8 +1,8 @@
 //! How the text of a document that isn't JSON begins, where that shows why it isn't. That it is said is our rule.
 ghost use Rattle.std.specs.List.{find};
 ghost use Rattle.std.specs.Prelude.{◌≡◌, option_copied};
-ghost use Rattle.irs_answers.specs.Fronts.{front_of as front_in, has_mark as has_mark_of, is_dark as is_dark_of};
-ghost use Rattle.irs_answers.specs.Fronts.{is_markup as is_markup_of};
+ghost use Rattle.irs_answers.specs.Forms.{front_of as front_in, has_mark as has_mark_of, is_dark as is_dark_of};
+ghost use Rattle.irs_answers.specs.Forms.{is_markup as is_markup_of};
 
 /// How the text of a document that isn't JSON begins.
 #[derive(Clone, Copy)]

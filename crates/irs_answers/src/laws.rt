@@ -4,10 +4,9 @@ ghost use Rattle.std.specs.Prelude.{◌≡◌, ℕ, List};
 ghost use Rattle.irs_schedule.specs.Parts.{IsWithin, Part};
 ghost use Rattle.irs_emit.specs.Emitted.{emit_text};
 ghost use Rattle.irs_emit_xml.specs.Flows.{flows_text};
-ghost use Rattle.irs_answers.specs.CashFlows.{IsAuditedYes};
+ghost use Rattle.irs_answers.specs.Tasks.{IsAuditedYes};
 ghost use Rattle.irs_answers.specs.Due.{DueFor, Facts, IsTextOfEach, PassesEachStep};
-ghost use Rattle.irs_answers.specs.Forms.{json_text, xml_text};
-ghost use Rattle.irs_answers.specs.Given.{Given};
+ghost use Rattle.irs_answers.specs.Forms.{json_text, xml_text, Given};
 ghost use Rattle.irs_answers.specs.declared.tasks.Task.TheVariants.{Schedule};
 
 /// The audit of emitted cash flows against their schedule is yes, with the number of its rows and that of its

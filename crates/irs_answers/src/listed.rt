@@ -1,9 +1,9 @@
 //! The centres that the calendar files have, as a sentence lists them. That they are listed is our rule.
 ghost use Rattle.std.specs.Prelude.{◌≡◌, IfOk, IfSome, take};
 ghost use Rattle.irs_calendar.specs.Sections.{center_names};
-ghost use Rattle.irs_answers.specs.Common.{AreRead};
-ghost use Rattle.irs_answers.specs.Given.{files_given_by};
-ghost use Rattle.irs_answers.specs.Listed.{IsMaybeListOf, listed_centers, most_listed};
+ghost use Rattle.irs_answers.specs.Due.{AreRead};
+ghost use Rattle.irs_answers.specs.Forms.{files_given_by};
+ghost use Rattle.irs_answers.specs.Notes.{IsMaybeListOf, listed_centers, most_listed};
 
 use crate::common::Common;
 use irs_base::{Memory, Names};

@@ -1,7 +1,7 @@
 //! The roll that K30 is about, and the day that it doesn't fit.
 ghost use Rattle.std.specs.Prelude.{◌≡◌, IfSome};
 ghost use Rattle.irs_answers.specs.Forms.{source_by};
-ghost use Rattle.irs_answers.specs.Misfits.{IsMisfitAt, IsMisfitIn};
+ghost use Rattle.irs_answers.specs.Notes.{IsMisfitAt, IsMisfitIn};
 ghost use Rattle.irs_periods.specs.Spans.{given_anchor_of, stub_anchor};
 
 use crate::forms::{Source, read_document};

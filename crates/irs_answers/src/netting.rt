@@ -1,14 +1,11 @@
 //! The text of `net`: what falls due between the two parties, a line for each date and currency. No
 //! standard has such a text, so its format is our rule.
 ghost use Rattle.std.specs.Prelude.{◌≡◌, Some, length, IfOk};
-ghost use Rattle.irs_base.specs.Members.{Every};
+ghost use Rattle.irs_base.specs.Lists.{Every};
 ghost use Rattle.irs_net.specs.Nets.{NetRowHasPlaces};
-ghost use Rattle.irs_answers.specs.Netted.{TellsNet, TellsNetOf, net_page};
-ghost use Rattle.irs_answers.specs.Private.Netted.{IsSided};
-ghost use Rattle.irs_answers.specs.Outcomes.{Ends};
-ghost use Rattle.irs_answers.specs.Private.Outcomes.{IfAnswered};
-ghost use Rattle.irs_answers.specs.Private.Replying.{IsCarriedOut};
-ghost use Rattle.irs_answers.specs.Private.Unread.{NoneUnread};
+ghost use Rattle.irs_answers.specs.Tasks.{TellsNet, TellsNetOf, net_page};
+ghost use Rattle.irs_answers.specs.Private.Outcomes.{IsSided, IfAnswered, IsCarriedOut, NoneUnread};
+ghost use Rattle.irs_answers.specs.Due.{Ends};
 
 use crate::due::Found;
 use crate::refusals::Refusal;

@@ -2,13 +2,9 @@
 //! breaks a rule, or how a text begins that isn't JSON. That it is said is our rule.
 ghost use Rattle.std.specs.Prelude.{◌≡◌, IfOk};
 ghost use Rattle.irs_audit.specs.Verdicts.{unfixed_count};
-ghost use Rattle.irs_unfixed.specs.Counts.{payment_count};
-ghost use Rattle.irs_unfixed.specs.Missing.{IsMadeFrom, made_from};
-ghost use Rattle.irs_unfixed.specs.Missing.{missing_fixing, missing_place};
-ghost use Rattle.irs_answers.specs.Common.{AreRead};
-ghost use Rattle.irs_answers.specs.Forms.{source_by};
-ghost use Rattle.irs_answers.specs.Found.{facts_by};
-ghost use Rattle.irs_answers.specs.Given.{files_given_by};
+ghost use Rattle.irs_unfixed.specs.Unfixed.{payment_count, IsMadeFrom, made_from, missing_fixing, missing_place};
+ghost use Rattle.irs_answers.specs.Due.{AreRead, facts_by};
+ghost use Rattle.irs_answers.specs.Forms.{source_by, files_given_by};
 ghost use Rattle.irs_answers.specs.Notes.{IsAmountsNote, IsFixedNote, IsRefusalNote, IsUnreadNote, unfixed_fixing};
 ghost use Rattle.irs_answers.specs.Notes.{front_note as front_note_of, made_by, unfixed_place};
 

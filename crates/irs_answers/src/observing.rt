@@ -1,20 +1,14 @@
 //! The text of `observations`: the days that each rate of a stream with `calculationParameters` is made of.
 //! No standard has such a text, so its format is our rule.
 ghost use Rattle.std.specs.Prelude.{◌≡◌, ◌-◌, ◌<◌, ◌≤◌, Some, None, length, slice_get, IfOk, IfErr, IfSome, IfNone};
-ghost use Rattle.irs_periods.specs.Outcomes.{HasSpan};
+ghost use Rattle.irs_periods.specs.Boundaries.{HasSpan};
 ghost use Rattle.irs_periods.specs.Spans.{Regular};
 ghost use Rattle.irs_terms.specs.Lawful.{IsLawfulStream};
-ghost use Rattle.irs_terms.specs.Suiting.{FrequencySuits};
-ghost use Rattle.irs_terms.specs.TermDates.{DatesInOrder};
-ghost use Rattle.irs_answers.specs.Accrued.{accruing};
-ghost use Rattle.irs_answers.specs.Private.Accrued.{IsAccruing};
-ghost use Rattle.irs_answers.specs.Observed.{AreRowsIn, DailyStream, DueObservations, IsDailyAt};
-ghost use Rattle.irs_answers.specs.Private.Observed.{daily_stream};
-ghost use Rattle.irs_answers.specs.Observed.{no_daily_stream as no_daily_stream_of};
-ghost use Rattle.irs_answers.specs.Outcomes.{Ends};
-ghost use Rattle.irs_answers.specs.Private.Outcomes.{IfAnswered};
-ghost use Rattle.irs_answers.specs.Private.Replying.{IsCarriedOut};
-ghost use Rattle.irs_answers.specs.Private.Unread.{NoneUnread};
+ghost use Rattle.irs_terms.specs.TermDates.{FrequencySuits, DatesInOrder};
+ghost use Rattle.irs_answers.specs.Tasks.{accruing, AreRowsIn, DailyStream, DueObservations, IsDailyAt};
+ghost use Rattle.irs_answers.specs.Tasks.{no_daily_stream as no_daily_stream_of};
+ghost use Rattle.irs_answers.specs.Private.Outcomes.{IsAccruing, daily_stream, IfAnswered, IsCarriedOut, NoneUnread};
+ghost use Rattle.irs_answers.specs.Due.{Ends};
 
 use crate::due::Found;
 use crate::refusals::Refusal;

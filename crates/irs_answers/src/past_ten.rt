@@ -4,10 +4,8 @@ ghost use Rattle.irs_terms.specs.declared.stream.Stream.{Stream};
 ghost use Rattle.irs_terms.specs.declared.stream_list.Swap.{Swap};
 ghost use Rattle.irs_calendar.specs.declared.sections.Section.{Section};
 ghost use Rattle.irs_resets.specs.Rates.{RateTable};
-ghost use Rattle.irs_schedule.specs.KeptTerms.{is_daily};
-ghost use Rattle.irs_schedule.specs.Parts.{Part};
-ghost use Rattle.irs_answers.specs.KeptSchedules.{IsKeptSchedule};
-ghost use Rattle.irs_answers.specs.PastTen.{PaidWithinTen, PastTenUnpaid, UnaccruedUnpaid};
+ghost use Rattle.irs_schedule.specs.Parts.{is_daily, Part};
+ghost use Rattle.irs_answers.specs.PrintedRates.{IsKeptSchedule, PaidWithinTen, PastTenUnpaid, UnaccruedUnpaid};
 
 /// In the schedule of a swap that breaks no rule, with any fixings, a payment with an amount has rates of at most
 /// 10 in size, and all of them are known. So a rate past 10 is in a payment without an amount alone. In a stream

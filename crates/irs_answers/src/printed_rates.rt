@@ -4,7 +4,7 @@ ghost use Rattle.irs_terms.specs.declared.frequency.Frequency.{Frequency as Teno
 ghost use Rattle.irs_average.specs.declared.means.Mean.{Mean};
 ghost use Rattle.irs_average.specs.declared.stubs.Side.{Side};
 ghost use Rattle.irs_answers.specs.Due.{Facts};
-ghost use Rattle.irs_answers.specs.Given.{Given};
+ghost use Rattle.irs_answers.specs.Forms.{Given};
 ghost use Rattle.irs_answers.specs.PrintedRates.{AveragePrints, InterpolatePrints, OvernightPrints};
 
 /// What `overnight`, `average` or `interpolate` prints with status 0 is a fixing file that has exactly the rates

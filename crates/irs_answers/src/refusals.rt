@@ -1,6 +1,6 @@
 //! Why a task isn't carried out.
 ghost use Rattle.std.specs.Prelude.{◌≡◌};
-ghost use Rattle.irs_answers.specs.Outcomes.{of_read, of_stopped};
+ghost use Rattle.irs_answers.specs.Due.{of_read, of_stopped};
 ghost use Rattle.irs_answers.specs.declared.refusals.Refusal.TheVariants.{Rule as OfRule, Calendars as OfCalendars};
 ghost use Rattle.irs_answers.specs.declared.refusals.Refusal.TheVariants.{Fixings as OfFixings, Flows as OfFlows};
 ghost use Rattle.irs_answers.specs.declared.refusals.Refusal.TheVariants.{Memory as OfMemory};

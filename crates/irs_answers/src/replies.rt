@@ -1,15 +1,12 @@
 //! What a task comes to: the text, the schedule, the verdict or the refusal that is to be written.
 ghost use Rattle.std.specs.Prelude.{◌≡◌, Some, IfOk};
-ghost use Rattle.irs_answers.specs.FlowMessages.{verdict_text};
-ghost use Rattle.irs_answers.specs.Causes.{IsJudged};
-ghost use Rattle.irs_answers.specs.Outcomes.{answer_of};
+ghost use Rattle.irs_answers.specs.Messages.{verdict_text, IsJudged, reply_status, reply_text, calendars_text};
+ghost use Rattle.irs_answers.specs.Messages.{fixings_text, flows_fault_text, refusal_text};
+ghost use Rattle.irs_answers.specs.Due.{answer_of};
 ghost use Rattle.irs_answers.specs.declared.refusals.Refusal.TheVariants.{Calendars as OfCalendars, Fixings as OfFixings};
 ghost use Rattle.irs_answers.specs.declared.refusals.Refusal.TheVariants.{Flows as OfFlows};
 ghost use Rattle.irs_answers.specs.declared.replies.Reply.TheVariants.{Refused};
-ghost use Rattle.irs_answers.specs.Private.Unread.{IsOfReadText};
-ghost use Rattle.irs_answers.specs.Replying.{reply_status, reply_text};
-ghost use Rattle.irs_answers.specs.Private.Replying.{IsCarriedOut};
-ghost use Rattle.irs_answers.specs.Replying.{calendars_text, fixings_text, flows_fault_text, refusal_text};
+ghost use Rattle.irs_answers.specs.Private.Outcomes.{IsOfReadText, IsCarriedOut};
 
 use crate::flow_messages::{bad_flows_line, departure_line, not_read_line, yes_line};
 use crate::messages::{bad_calendar_line, bad_fixings_line, refused_line, unreadable_line};

@@ -1,13 +1,11 @@
 //! Where in the text of a document a rule is broken, beyond its place: what the sentence on a refusal adds. That it
 //! is said is our rule.
 ghost use Rattle.std.specs.Prelude.{◌≡◌, IfSome};
-ghost use Rattle.irs_answers.specs.Common.{AreRead};
-ghost use Rattle.irs_answers.specs.Forms.{source_by};
-ghost use Rattle.irs_answers.specs.Given.{files_given_by};
-ghost use Rattle.irs_answers.specs.Spots.{IsCenterIf, IsKindAt, IsKindIf, IsLineIn, IsListIf, IsMemberIf, IsMemberIn};
-ghost use Rattle.irs_answers.specs.Spots.{IsMisfitIf};
-ghost use Rattle.irs_answers.specs.Spots.{IsShapeIf, IsShapeIn, IsSpot, IsTextIf, IsTextIn, is_of_center, is_of_member};
-ghost use Rattle.irs_answers.specs.Spots.{is_of_roll, is_of_shape, is_of_text};
+ghost use Rattle.irs_answers.specs.Due.{AreRead};
+ghost use Rattle.irs_answers.specs.Forms.{source_by, files_given_by};
+ghost use Rattle.irs_answers.specs.Notes.{IsCenterIf, IsKindAt, IsKindIf, IsLineIn, IsListIf, IsMemberIf, IsMemberIn};
+ghost use Rattle.irs_answers.specs.Notes.{IsMisfitIf, IsShapeIf, IsShapeIn, IsSpot, IsTextIf, IsTextIn, is_of_center};
+ghost use Rattle.irs_answers.specs.Notes.{is_of_member, is_of_roll, is_of_shape, is_of_text};
 
 use crate::centers::center_at;
 use crate::common::Common;

@@ -11,19 +11,18 @@ use Rattle.irs_terms.specs.declared.codes.DayCountCode.TheVariants.{ThirtyE360, 
 use Rattle.irs_terms.specs.declared.currency.Currency.{Currency}
 use Rattle.irs_terms.specs.declared.results.Exchange.{Exchange}
 use Rattle.irs_terms.specs.declared.results.Frac.{Frac}
-use Rattle.irs_daycount.specs.Fractions.{denominator_of}
+use Rattle.irs_daycount.specs.Fractions.{denominator_of, act_act_denominator}
 use Rattle.irs_schedule.specs.declared.entries.PaymentEntry.{PaymentEntry}
 use Rattle.irs_schedule.specs.declared.entries.PeriodEntry.{PeriodEntry}
 use Rattle.irs_schedule.specs.declared.views.CalculationPeriod.{CalculationPeriod}
 use Rattle.irs_schedule.specs.Parts.{Part, EntriesCover, KeepsBounds, IsAmount, HasAmount, IsEntry}
-use Rattle.irs_schedule.specs.PeriodViews.{period_at, dated_period}
+use Rattle.irs_schedule.specs.RowsOf.{period_at, dated_period}
 use Rattle.irs_schedule.proofs.PlaceLemmas.{decimals_few}
 use Rattle.irs_schedule.proofs.WalkLemmas.{covers_within}
-use Rattle.irs_audit.specs.Comparisons.{IsBoundedFraction}
+use Rattle.irs_audit.specs.StatedFlows.{IsBoundedFraction}
 use Rattle.irs_audit.specs.Private.Comparisons.{IsComparedPayment}
-use Rattle.irs_daycount.specs.Actual.{act_act_denominator}
 use Rattle.irs_base.proofs.MemberLemmas.{every_get}
-use Rattle.irs_base.specs.Members.{Every}
+use Rattle.irs_base.specs.Lists.{Every}
 
 few : (currency : Currency) (v : Dec) → IsAmount currency v → v.places ≤ 12
 few currency v h = let e = h.places in let l = decimals_few currency.letters in omega (arith, e, l)

@@ -21,11 +21,10 @@ use Rattle.irs_flows.specs.declared.flows.FlowExchange.{FlowExchange}
 use Rattle.irs_flows.specs.declared.flows.FlowPayment.{FlowPayment}
 use Rattle.irs_flows.specs.declared.flows.FlowPeriod.{FlowPeriod}
 use Rattle.irs_flows.specs.declared.flows.FlowReset.{FlowReset}
-use Rattle.irs_audit.specs.DepartureOrder.{field_before}
-use Rattle.irs_audit.specs.FieldDepartures.{ExchangeDeparts, PaymentDeparts, PeriodDeparts, ResetDeparts}
-use Rattle.irs_audit.specs.Private.FieldTables.{first_true}
+use Rattle.irs_audit.specs.Verdicts.{field_before, ExchangeDeparts, PaymentDeparts, PeriodDeparts, ResetDeparts}
+use Rattle.irs_audit.specs.Private.Comparisons.{first_true}
 use Rattle.irs_audit.proofs.TableLemmas.{Stands, table_first}
-use Rattle.irs_base.specs.Order.{IsFirst}
+use Rattle.irs_base.specs.Outcomes.{IsFirst}
 
 -- the fields of an exchange, and whether each departs
 abbrev exchange_table : Bool → Bool → Bool → List (Field × Bool)

@@ -19,8 +19,8 @@ use Rattle.irs_audit.specs.declared.departures.Field.TheVariants.{AdjustedStartD
 use Rattle.irs_audit.specs.declared.departures.Field.TheVariants.{CalculationPeriodNumberOfDays, NotionalAmount, Rate}
 use Rattle.irs_audit.specs.declared.departures.Field.TheVariants.{DayCountYearFraction}
 use Rattle.irs_audit.specs.declared.departures.Field.TheVariants.{ResetDate, AdjustedFixingDate, ObservedRate}
-use Rattle.irs_audit.specs.DepartureOrder.{kind_place, field_place, field_before, departs_before}
-use Rattle.irs_base.specs.Order.{IsFirst}
+use Rattle.irs_audit.specs.Verdicts.{kind_place, field_place, field_before, departs_before}
+use Rattle.irs_base.specs.Outcomes.{IsFirst}
 use Rattle.irs_base.proofs.Firsts.{AreTied, first_same, lt_false, tied, tied_last}
 
 -- the kind at a place

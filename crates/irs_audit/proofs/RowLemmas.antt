@@ -6,19 +6,18 @@ use Rattle.std.proofs.lemmas.Option.{slice_get_past, slice_get-get_or, slice_get
 use Rattle.std.specs.Option.{option_or}
 use Rattle.std.proofs.lemmas.Bool.{cases_lt, cases_order}
 use Rattle.irs_schedule.specs.Parts.{Part, KeepsBounds}
-use Rattle.irs_schedule.specs.PeriodViews.{period_at}
+use Rattle.irs_schedule.specs.RowsOf.{period_at}
 use Rattle.irs_audit.specs.declared.departures.Departure.{Departure}
 use Rattle.irs_audit.specs.declared.departures.Field.{Field}
 use Rattle.irs_audit.specs.declared.departures.Field.TheVariants.{Extra}
 use Rattle.irs_audit.specs.declared.departures.RowKind.{RowKind}
 use Rattle.irs_audit.specs.declared.departures.RowKind.TheVariants.{Stream, Exchange, Payment, Period, Reset}
-use Rattle.irs_audit.specs.Agreement.{RowDeparts, KindDeparts}
-use Rattle.irs_audit.specs.DepartureOrder.{kind_place, field_before, departs_before}
-use Rattle.irs_audit.specs.FieldDepartures.{ExchangeDeparts, PaymentDeparts, PeriodDeparts}
-use Rattle.irs_flows.specs.FlowParts.{FlowPart}
-use Rattle.irs_audit.specs.Private.RowSets.{AmongRows, AmongStream}
+use Rattle.irs_audit.specs.Verdicts.{RowDeparts, KindDeparts, kind_place, field_before, departs_before, ExchangeDeparts}
+use Rattle.irs_audit.specs.Verdicts.{PaymentDeparts, PeriodDeparts}
+use Rattle.irs_flows.specs.FlowReading.{FlowPart}
+use Rattle.irs_audit.specs.Private.Comparisons.{AmongRows, AmongStream}
 use Rattle.irs_audit.proofs.OrderLemmas.{first_of_both}
-use Rattle.irs_base.specs.Order.{First, IsFirst, level}
+use Rattle.irs_base.specs.Outcomes.{First, IsFirst, level}
 use Rattle.irs_base.proofs.Firsts.{first_same, level_same, level_later}
 
 module _ (kind : RowKind) (p : Part) (g : FlowPart) where

@@ -1,8 +1,8 @@
 -- Roundings that this project states, so that a wrong definition does not check.
 use Rattle.std.proofs.Common.{◌≡◌, pos, refl, rules, arith}
-use Rattle.irs_base.specs.Rounding.{Rounded, rounded}
+use Rattle.irs_base.specs.Limits.{Rounded, rounded}
 use Rattle.irs_base.specs.declared.rounding.Direction.TheVariants.{Nearest}
-use Rattle.irs_audit.specs.StatedValues.{StatesFraction}
+use Rattle.irs_audit.specs.Verdicts.{StatesFraction}
 
 -- 1/32 is 0.03125, and with four decimals 0.0313: a half goes up
 half_goes_up : rounded Nearest (pos 10_000) (pos 32) ≡ pos 313

@@ -14,9 +14,9 @@ use Rattle.irs_schedule.proofs.PlaceLemmas.{decimals_few}
 use Rattle.irs_schedule.specs.declared.entries.PaymentEntry.{PaymentEntry}
 use Rattle.irs_schedule.specs.declared.entries.PeriodEntry.{PeriodEntry}
 use Rattle.irs_schedule.specs.declared.views.CalculationPeriod.{CalculationPeriod}
-use Rattle.irs_schedule.specs.Parts.{Part, KeepsBounds, IsAmount, HasAmount, IsEntry, most_entry_rate}
-use Rattle.irs_schedule.specs.StreamResets.{HasObserved, most_observed_rate}
-use Rattle.irs_schedule.specs.PeriodViews.{period_at, dated_period}
+use Rattle.irs_schedule.specs.Parts.{Part, KeepsBounds, IsAmount, HasAmount, IsEntry, most_entry_rate, HasObserved}
+use Rattle.irs_schedule.specs.Parts.{most_observed_rate}
+use Rattle.irs_schedule.specs.RowsOf.{period_at, dated_period}
 use Rattle.irs_audit.specs.Private.Comparisons.{IsStatable, IsStatableDec, IsStatablePeriod, IsStatableRate}
 use Rattle.irs_base.proofs.MemberLemmas.{every_get}
 use Rattle.irs_audit.proofs.ValueLemmas.{both_powers}

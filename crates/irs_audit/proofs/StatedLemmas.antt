@@ -13,7 +13,7 @@ use Rattle.irs_terms.specs.declared.results.Exchange.{Exchange}
 use Rattle.irs_terms.specs.declared.results.Frac.{Frac}
 use Rattle.irs_terms.specs.declared.results.Reset.{Reset}
 use Rattle.irs_schedule.specs.Parts.{Part, KeepsBounds, IsWithin}
-use Rattle.irs_schedule.specs.PeriodViews.{period_at, dated_period}
+use Rattle.irs_schedule.specs.RowsOf.{period_at, dated_period}
 use Rattle.irs_schedule.specs.declared.entries.PaymentEntry.{PaymentEntry}
 use Rattle.irs_schedule.specs.declared.entries.PeriodEntry.{PeriodEntry}
 use Rattle.irs_schedule.specs.declared.views.CalculationPeriod.{CalculationPeriod}
@@ -36,14 +36,13 @@ use Rattle.irs_audit.specs.declared.departures.RowKind.TheVariants.{Reset as Res
 use Rattle.irs_flows.specs.declared.flows.FlowExchange.{FlowExchange}
 use Rattle.irs_flows.specs.declared.flows.FlowPayment.{FlowPayment}
 use Rattle.irs_flows.specs.declared.flows.FlowPeriod.{FlowPeriod}
-use Rattle.irs_audit.specs.Agreement.{RowDeparts, KindDeparts, StreamDeparts, Agrees}
-use Rattle.irs_audit.specs.FieldDepartures.{ExchangeDeparts, PaymentDeparts, PeriodDeparts, ResetDeparts}
-use Rattle.irs_flows.specs.FlowParts.{FlowPart}
+use Rattle.irs_audit.specs.Verdicts.{RowDeparts, KindDeparts, StreamDeparts, Agrees, ExchangeDeparts, PaymentDeparts}
+use Rattle.irs_audit.specs.Verdicts.{PeriodDeparts, ResetDeparts, StatesNumber, StatesAmount, StatesFraction}
+use Rattle.irs_audit.specs.Verdicts.{StatedWrongly, NotStatedRightly, WhereKnown}
+use Rattle.irs_flows.specs.FlowReading.{FlowPart}
 use Rattle.irs_audit.specs.StatedFlows.{stated_number, stated_amount, stated_fraction, stated_exchange, stated_payment}
 use Rattle.irs_audit.specs.StatedFlows.{stated_reset, period_with, stated_period, stated_periods_from, stated_part}
 use Rattle.irs_audit.specs.StatedFlows.{stated_flows}
-use Rattle.irs_audit.specs.StatedValues.{StatesNumber, StatesAmount, StatesFraction, StatedWrongly, NotStatedRightly}
-use Rattle.irs_audit.specs.StatedValues.{WhereKnown}
 use Rattle.irs_base.proofs.MemberLemmas.{every_get}
 use Rattle.irs_audit.proofs.BoundLemmas.{exchange_decimals, payment_kept, period_small}
 use Rattle.irs_audit.proofs.RowLemmas.{resets_few}

@@ -9,11 +9,10 @@ use Rattle.irs_audit.specs.declared.departures.Field.{Field}
 use Rattle.irs_audit.specs.declared.departures.Field.TheVariants.{Extra}
 use Rattle.irs_audit.specs.declared.departures.RowKind.{RowKind}
 use Rattle.irs_audit.specs.declared.departures.RowKind.TheVariants.{Stream}
-use Rattle.irs_audit.specs.Agreement.{StreamDeparts, Departs}
-use Rattle.irs_audit.specs.DepartureOrder.{departs_before}
-use Rattle.irs_flows.specs.FlowParts.{FlowPart}
-use Rattle.irs_audit.specs.Private.StreamSets.{OfStream}
-use Rattle.irs_base.specs.Order.{First, IsFirst}
+use Rattle.irs_audit.specs.Verdicts.{StreamDeparts, Departs, departs_before}
+use Rattle.irs_flows.specs.FlowReading.{FlowPart}
+use Rattle.irs_audit.specs.Private.Comparisons.{OfStream}
+use Rattle.irs_base.specs.Outcomes.{First, IsFirst}
 use Rattle.irs_base.proofs.Firsts.{level_later}
 
 module _ (f : List FlowPart) (s : List Part) where

@@ -2,10 +2,10 @@
 use Rattle.std.proofs.Common.{◌≡◌, ℕ, ◌≤◌, List, [], ◌∷◌, Bool, true, false, IsTrue, ◌↔◌, Option, ◌⊎◌, inl, inr}
 use Rattle.std.proofs.Common.{arith, subst, sym, refl, true≢false}
 use Rattle.irs_audit.specs.declared.departures.Field.{Field}
-use Rattle.irs_audit.specs.DepartureOrder.{field_place, field_before}
-use Rattle.irs_audit.specs.Private.FieldTables.{first_true}
+use Rattle.irs_audit.specs.Verdicts.{field_place, field_before}
+use Rattle.irs_audit.specs.Private.Comparisons.{first_true}
 use Rattle.irs_audit.proofs.OrderLemmas.{not_lower}
-use Rattle.irs_base.specs.Order.{IsFirst}
+use Rattle.irs_base.specs.Outcomes.{IsFirst}
 use Rattle.irs_base.proofs.Firsts.{first_same}
 
 -- the table says of each of its fields whether it departs

@@ -12,13 +12,12 @@ use Rattle.std.specs.Int.{Width, w128, int_div_euclid, int_rem_euclid}
 use Rattle.jiff_core.proofs.SignedLemmas.{signed_arith, fits_between}
 use Rattle.irs_base.proofs.RoundingLemmas.{quotient_and_rest}
 use borrow.Author.Differences.{up, down}
-use Rattle.irs_base.specs.Rounding.{Rounded}
+use Rattle.irs_base.specs.Limits.{Rounded, most_numerator}
 use Rattle.irs_base.specs.declared.rounding.Direction.TheVariants.{Nearest}
 use Rattle.irs_base.proofs.RoundingLaws.{nearest_once}
 use Rattle.irs_terms.specs.declared.results.Frac.{Frac}
 use Rattle.irs_flows.specs.declared.flows.StatedFraction.{StatedFraction}
-use Rattle.irs_audit.specs.StatedValues.{StatesNumber, StatesFraction}
-use Rattle.irs_base.specs.Limits.{most_numerator}
+use Rattle.irs_audit.specs.Verdicts.{StatesNumber, StatesFraction}
 use Rattle.irs_audit.specs.Private.Comparisons.{most_scaled}
 
 cancel : (a b p : ℕ) → 0 < p → a * p ≡ b * p → a ≡ b

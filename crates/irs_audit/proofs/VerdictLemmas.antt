@@ -8,16 +8,15 @@ use Rattle.irs_schedule.specs.declared.entries.PaymentEntry.{PaymentEntry}
 use Rattle.irs_audit.specs.declared.departures.Departure.{Departure}
 use Rattle.irs_audit.specs.declared.departures.Verdict.{Verdict}
 use Rattle.irs_audit.specs.declared.departures.Verdict.TheVariants.{Yes, No}
-use Rattle.irs_audit.specs.Agreement.{Departs}
-use Rattle.irs_flows.specs.FlowParts.{FlowPart}
-use Rattle.irs_audit.specs.Verdicts.{IsVerdict, IsNo, stream_row_count, stream_unfixed, row_count, unfixed_count}
+use Rattle.irs_audit.specs.Verdicts.{Departs, IsVerdict, IsNo, stream_row_count, stream_unfixed, row_count}
+use Rattle.irs_audit.specs.Verdicts.{unfixed_count, departs_before}
+use Rattle.irs_flows.specs.FlowReading.{FlowPart}
 use Rattle.irs_audit.proofs.BoundLemmas.{payments_few}
 use Rattle.irs_audit.proofs.OrderLemmas.{departure_ties}
-use Rattle.irs_audit.specs.DepartureOrder.{departs_before}
 use Rattle.irs_base.proofs.Firsts.{one_first}
 use Rattle.irs_base.specs.Limits.{most_periods}
 use Rattle.irs_schedule.specs.RowsOf.{most_stream_rows}
-use Rattle.irs_base.specs.Members.{Every}
+use Rattle.irs_base.specs.Lists.{Every}
 
 -- the same flows and schedule have at most one verdict
 pub one_verdict : (f : List FlowPart) (s : List Part) (v w : Verdict) → IsVerdict f s v → IsVerdict f s w → v ≡ w

@@ -1,10 +1,3 @@
 pub mod StatedFlows
-pub mod Sums
-pub mod StatedValues
-pub mod FieldDepartures
-pub mod Agreement
-pub mod DepartureOrder
 pub mod Verdicts
-pub mod Comparisons
-pub mod RowNames
 pub mod Private

@@ -1,5 +1,1 @@
 pub mod Comparisons
-pub mod FieldTables
-pub mod RowSets
-pub mod StreamSets
-pub mod StatedRows

@@ -1,14 +1,11 @@
 //! The audit: whether cash flows agree with a schedule, row by row and field by field.
 ghost use Rattle.std.specs.Prelude.{◌≡◌, ◌↔◌, ◌≤◌, length, option_copied, option_map};
-ghost use Rattle.irs_audit.specs.Agreement.{Departs};
-ghost use Rattle.irs_audit.specs.DepartureOrder.{departs_before};
-ghost use Rattle.irs_audit.specs.Private.StatedRows.{rows_in, flow_parts_of};
-ghost use Rattle.irs_audit.specs.Private.StreamSets.{OfStream};
+ghost use Rattle.irs_audit.specs.Verdicts.{Departs, departs_before, IsNo, IsVerdict};
+ghost use Rattle.irs_audit.specs.Private.Comparisons.{rows_in, flow_parts_of, OfStream};
 ghost use Rattle.irs_audit.specs.StatedFlows.{stated_flows};
-ghost use Rattle.irs_audit.specs.Verdicts.{IsNo, IsVerdict};
 ghost use Rattle.irs_audit.specs.declared.departures.Departure.{Departure};
 ghost use Rattle.irs_audit.specs.declared.departures.Verdict.{Verdict};
-ghost use Rattle.irs_base.specs.Order.{IsFirst};
+ghost use Rattle.irs_base.specs.Outcomes.{IsFirst};
 
 use crate::counts::{row_count, unfixed_count};
 use crate::rows::{first_of_rows, item};

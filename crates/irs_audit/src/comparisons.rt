@@ -3,9 +3,8 @@
 ghost use Rattle.std.specs.Prelude.{◌≡◌, ◌^◌, ◌≤◌, pos, ◌*ℤ◌, ◌<ℤ◌, ◌≤ℤ◌, IsTrue, ◌↔◌};
 ghost use Rattle.irs_base.specs.Limits.{most_numerator};
 ghost use Rattle.std.specs.Int.{int_div_euclid, int_rem_euclid};
-ghost use Rattle.irs_audit.specs.StatedValues.{StatesNumber, StatesAmount, StatesFraction, StatedWrongly};
-ghost use Rattle.irs_audit.specs.StatedValues.{NotStatedRightly};
-ghost use Rattle.irs_audit.specs.Comparisons.{IsBoundedFraction};
+ghost use Rattle.irs_audit.specs.Verdicts.{StatesNumber, StatesAmount, StatesFraction, StatedWrongly, NotStatedRightly};
+ghost use Rattle.irs_audit.specs.StatedFlows.{IsBoundedFraction};
 ghost use Rattle.irs_audit.specs.Private.Comparisons.{most_scaled};
 
 use irs_base::{Day, Dec, Direction, round};

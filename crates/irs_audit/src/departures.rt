@@ -1,7 +1,7 @@
 //! Departures: where cash flows don't agree with a schedule. They are reported by streams, kinds of
 //! rows, rows and fields, in an order that is our rule.
 ghost use Rattle.std.specs.Prelude.{◌≡◌, ◌≤◌, length};
-ghost use Rattle.irs_audit.specs.RowNames.{field_name, row_name};
+ghost use Rattle.irs_audit.specs.Verdicts.{field_name, row_name};
 
 /// A kind of rows, in the order in which they are compared.
 #[derive(Clone, Copy, PartialEq, Eq)]

@@ -1,13 +1,11 @@
 //! The first field of a row that departs: each kind of rows is a table of its fields in order, with
 //! whether each departs.
 ghost use Rattle.std.specs.Prelude.{◌≡◌, ◌+◌, ◌-◌, ◌≤◌, IfSome, IsTrue, ◌↔◌};
-ghost use Rattle.irs_audit.specs.Comparisons.{IsBoundedFraction};
-ghost use Rattle.irs_audit.specs.Private.Comparisons.{IsComparedPayment};
-ghost use Rattle.irs_audit.specs.DepartureOrder.{field_before};
-ghost use Rattle.irs_audit.specs.FieldDepartures.{ExchangeDeparts, PaymentDeparts, PeriodDeparts, ResetDeparts};
-ghost use Rattle.irs_audit.specs.Private.FieldTables.{first_true};
-ghost use Rattle.irs_audit.specs.StatedValues.{StatesNumber, StatesAmount, StatedWrongly, NotStatedRightly, WhereKnown};
-ghost use Rattle.irs_base.specs.Order.{IsFirst};
+ghost use Rattle.irs_audit.specs.StatedFlows.{IsBoundedFraction};
+ghost use Rattle.irs_audit.specs.Private.Comparisons.{IsComparedPayment, first_true};
+ghost use Rattle.irs_audit.specs.Verdicts.{field_before, ExchangeDeparts, PaymentDeparts, PeriodDeparts, ResetDeparts};
+ghost use Rattle.irs_audit.specs.Verdicts.{StatesNumber, StatesAmount, StatedWrongly, NotStatedRightly, WhereKnown};
+ghost use Rattle.irs_base.specs.Outcomes.{IsFirst};
 
 use crate::Field;
 use crate::comparisons::{

@@ -1,10 +1,8 @@
 //! The first row of a stream that departs, in a stream that both the schedule and the flows have.
 ghost use Rattle.std.specs.Prelude.{◌≡◌, option_copied, slice_get};
-ghost use Rattle.irs_audit.specs.Agreement.{KindDeparts};
-ghost use Rattle.irs_audit.specs.DepartureOrder.{departs_before, field_before};
-ghost use Rattle.irs_audit.specs.Private.RowSets.{AmongRows, AmongStream};
-ghost use Rattle.irs_audit.specs.Private.StatedRows.{rows_in};
-ghost use Rattle.irs_base.specs.Order.{IsFirst};
+ghost use Rattle.irs_audit.specs.Verdicts.{KindDeparts, departs_before, field_before};
+ghost use Rattle.irs_audit.specs.Private.Comparisons.{AmongRows, AmongStream, rows_in};
+ghost use Rattle.irs_base.specs.Outcomes.{IsFirst};
 
 use crate::row_fields::{exchange_field, payment_field, period_field, reset_field};
 use crate::stated_rows::StatedRows;

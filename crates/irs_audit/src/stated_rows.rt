@@ -1,8 +1,8 @@
 //! The rows that an audit compares with those of a schedule: of cash flows that were read, or of a schedule
 //! that they would state. A row of a schedule is stated when it is compared.
 ghost use Rattle.std.specs.Prelude.{◌≡◌, option_map, slice_get};
-ghost use Rattle.irs_audit.specs.Agreement.{stated_reset_at};
-ghost use Rattle.irs_audit.specs.Private.StatedRows.{rows_in, flow_parts_of};
+ghost use Rattle.irs_audit.specs.Verdicts.{stated_reset_at};
+ghost use Rattle.irs_audit.specs.Private.Comparisons.{rows_in, flow_parts_of};
 ghost use Rattle.irs_audit.specs.StatedFlows.{stated_part};
 
 use crate::rows::item;

@@ -2,13 +2,12 @@
 //! It is our rule that they state every field, and fractions with ten decimals.
 ghost use Rattle.std.specs.Prelude.{◌≡◌, ◌+◌, ◌-◌, ◌<◌, ◌*◌, ◌^◌, ◌*ℤ◌, unsigned_abs, map};
 ghost use Rattle.std.specs.Prelude.{option_map, slice_get, IfOk, IfSome};
-ghost use Rattle.irs_audit.specs.Agreement.{Agrees};
-ghost use Rattle.irs_audit.specs.Comparisons.{IsBoundedFraction};
+ghost use Rattle.irs_audit.specs.Verdicts.{Agrees};
+ghost use Rattle.irs_audit.specs.StatedFlows.{IsBoundedFraction, period_with, stated_amount, stated_exchange};
+ghost use Rattle.irs_audit.specs.StatedFlows.{stated_flows, stated_fraction, stated_number, stated_part};
+ghost use Rattle.irs_audit.specs.StatedFlows.{stated_payment, stated_periods_from, stated_reset};
 ghost use Rattle.irs_audit.specs.Private.Comparisons.{IsComparedPayment, IsStatable, IsStatableDec, IsStatablePeriod};
 ghost use Rattle.irs_audit.specs.Private.Comparisons.{IsStatableRate};
-ghost use Rattle.irs_audit.specs.StatedFlows.{period_with, stated_amount, stated_exchange, stated_flows};
-ghost use Rattle.irs_audit.specs.StatedFlows.{stated_fraction, stated_number, stated_part, stated_payment};
-ghost use Rattle.irs_audit.specs.StatedFlows.{stated_periods_from, stated_reset};
 
 use crate::comparisons::{power_of_ten, scaled};
 use crate::rows::item;

@@ -3,10 +3,8 @@ ghost use Rattle.std.specs.Prelude.{◌≡◌, ◌+◌, ◌*◌, ◌<◌, ◌≤
 ghost use Rattle.std.specs.Prelude.{IfSome};
 ghost use Rattle.irs_base.specs.Limits.{most_streams};
 ghost use Rattle.irs_audit.specs.Private.Comparisons.{IsStatableDec};
-ghost use Rattle.irs_audit.specs.Sums.{all_days_from, days_added_from, known_or_zero, most_stated_amount};
-ghost use Rattle.irs_audit.specs.Sums.{most_of_stream};
-ghost use Rattle.irs_audit.specs.Sums.{paid_from};
-ghost use Rattle.irs_audit.specs.Sums.{payment_row_count, sums_in, total_from};
+ghost use Rattle.irs_audit.specs.StatedFlows.{all_days_from, days_added_from, known_or_zero, most_stated_amount};
+ghost use Rattle.irs_audit.specs.StatedFlows.{most_of_stream, paid_from, payment_row_count, sums_in, total_from};
 
 use crate::stating::amount;
 use irs_base::Dec;

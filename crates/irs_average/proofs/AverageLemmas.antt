@@ -2,18 +2,17 @@
 use Rattle.std.proofs.Common.{◌≡◌, inl, ℕ, ◌+◌, ◌-◌, ◌^◌, ◌<◌, List, length, All, Some, ℤ, ◌<ℤ◌, ◌-ℤ◌, refl, sym, subst}
 use Rattle.std.proofs.Common.{◌∙◌, ap, arith}
 use Rattle.std.specs.Prelude.{slice_get}
-use Rattle.irs_base.specs.Faults.{in_stream}
-use Rattle.irs_base.specs.Members.{Every}
+use Rattle.irs_base.specs.Outcomes.{in_stream, First}
+use Rattle.irs_base.specs.Lists.{Every}
 use Rattle.irs_base.proofs.MemberLemmas.{numbered_get}
-use Rattle.irs_base.specs.Order.{First}
 use Rattle.irs_base.specs.declared.places.Broken.{Broken}
 use Rattle.irs_base.specs.declared.places.Fault.{Fault}
 use Rattle.irs_base.proofs.Firsts.{one_first}
 use Rattle.irs_terms.specs.declared.amounts.FloatTerms.{FloatTerms}
 use Rattle.irs_schedule.specs.Parts.{KeepsBounds, Part, Rises}
-use Rattle.irs_overnight.specs.DerivedRules.{FixingNotAfter, derived_before, fixing_not_after_at}
-use Rattle.irs_overnight.specs.Private.FileLaw.{IsInRange}
-use Rattle.irs_overnight.specs.Sources.{PaysFloating}
+use Rattle.irs_overnight.specs.Overnight.{FixingNotAfter, derived_before, fixing_not_after_at}
+use Rattle.irs_overnight.specs.Private.Bounds.{IsInRange}
+use Rattle.irs_overnight.specs.Observations.{PaysFloating}
 use Rattle.irs_overnight.specs.declared.derived.DerivedRow.{DerivedRow}
 use Rattle.irs_overnight.specs.declared.derived.Found.{Found}
 use Rattle.irs_overnight.specs.declared.derived.Found.TheVariants.{Rate}
@@ -24,13 +23,9 @@ use Rattle.irs_overnight.proofs.KeptRows.{IsDated, kept_rows, lawful_float}
 use Rattle.irs_overnight.proofs.RowLemmas.{in_order}
 use Rattle.irs_overnight.proofs.SourceLemmas.{asked_part, every_at, one_pays, part_floats, some_part}
 use Rattle.irs_average.specs.Averages.{AverageAsked, AverageKept, AverageReadsBack, BreaksAverage, HasMeanSource}
-use Rattle.irs_average.specs.Averages.{IsAverage, IsAverageAsked, IsFirstOfAverage, LieAmong}
-use Rattle.irs_average.specs.MeanPeriods.{FindsMean, IsMeanFound, MeanPeriod}
-use Rattle.irs_average.specs.MeanRows.{AreMeans, IsMeanRow}
-use Rattle.irs_average.specs.MeanRules.{BreaksMeans}
-use Rattle.irs_average.specs.MeanSources.{MeanSource, averaging_by, mean_period_at, mean_source, own_lines}
-use Rattle.irs_average.specs.Means.{LiesAmong}
-use Rattle.irs_average.specs.Samples.{AreSamples}
+use Rattle.irs_average.specs.Averages.{IsAverage, IsAverageAsked, IsFirstOfAverage, LieAmong, FindsMean, IsMeanFound}
+use Rattle.irs_average.specs.Averages.{MeanPeriod, AreMeans, IsMeanRow, BreaksMeans, MeanSource, averaging_by}
+use Rattle.irs_average.specs.Averages.{mean_period_at, mean_source, own_lines, LiesAmong, AreSamples}
 use Rattle.irs_average.proofs.MeanLemmas.{mean_within}
 use Rattle.irs_average.proofs.MeanRowLemmas.{longer, means_there, one_means}
 use Rattle.irs_average.proofs.SampleLemmas.{one_samples, shares_out}

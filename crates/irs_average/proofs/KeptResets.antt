@@ -2,8 +2,7 @@
 use Rattle.std.proofs.Common.{◌≡◌, ℕ, zero, suc, ◌+◌, List, [], ◌∷◌, Some, subst, arith}
 use Rattle.std.specs.Prelude.{slice_get}
 use Rattle.std.proofs.lemmas.Option.{same_Some, slice_get_within}
-use Rattle.irs_base.specs.Faults.{in_stream}
-use Rattle.irs_base.specs.Outcomes.{Spec, each_in_turn, refused_as}
+use Rattle.irs_base.specs.Outcomes.{in_stream, Spec, each_in_turn, refused_as}
 use Rattle.irs_base.specs.declared.places.Fault.{Fault}
 use Rattle.irs_base.proofs.Outcomes.{answer_there}
 use Rattle.irs_terms.specs.Lawful.{IsLawfulSwap}
@@ -11,13 +10,11 @@ use Rattle.irs_terms.specs.declared.stream.Stream.{Stream}
 use Rattle.irs_terms.specs.declared.stream_list.Swap.{Swap}
 use Rattle.irs_calendar.specs.declared.sections.Section.{Section}
 use Rattle.irs_resets.specs.Rates.{RateTable}
-use Rattle.irs_resets.specs.ResetRules.{BreaksResets}
+use Rattle.irs_resets.specs.Resets.{BreaksResets}
 use Rattle.irs_rules.specs.TermsRules.{BreaksNone}
-use Rattle.irs_schedule.specs.DatedRules.{DatedKept}
+use Rattle.irs_schedule.specs.Schedules.{DatedKept, resets_over, schedule_of, stream_of, IsPart}
 use Rattle.irs_schedule.specs.DaySets.{StreamSets, stream_sets}
-use Rattle.irs_schedule.specs.Outcomes.{resets_over, schedule_of, stream_of}
 use Rattle.irs_schedule.specs.Parts.{Part}
-use Rattle.irs_schedule.specs.Schedules.{IsPart}
 use Rattle.irs_schedule.proofs.LayoutRules.{layout_is, layout_kept, one_layout}
 use Rattle.irs_schedule.proofs.OnePart.{schedule_determined}
 use Rattle.irs_schedule.proofs.RateLemmas.{resets_free}

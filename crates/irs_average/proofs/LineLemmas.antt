@@ -2,8 +2,7 @@
 use Rattle.std.proofs.Common.{◌≡◌, ◌⊎◌, inl, inr, ℕ, Option, Some, None, ℤ, pos, neg_ℤ, ◌+ℤ◌, ◌-ℤ◌, ◌*ℤ◌, ◌≤ℤ◌, ◌<ℤ◌}
 use Rattle.std.proofs.Common.{sym, subst, ◌∙◌, ap, arith}
 use Rattle.jiff_core.proofs.SignedLemmas.{signed_arith}
-use Rattle.irs_base.specs.Limits.{most_rate}
-use Rattle.irs_base.specs.Rounding.{Rounded}
+use Rattle.irs_base.specs.Limits.{most_rate, Rounded}
 use Rattle.irs_base.specs.declared.rounding.Direction.TheVariants.{Nearest}
 use Rattle.irs_base.proofs.RoundingLaws.{nearest_once}
 use Rattle.irs_terms.specs.Lawful.{IsRate}
@@ -11,8 +10,8 @@ use Rattle.irs_overnight.specs.declared.derived.DerivedRow.{DerivedRow}
 use Rattle.irs_overnight.specs.declared.derived.Found.{Found}
 use Rattle.irs_overnight.specs.declared.derived.Found.TheVariants.{Rate, Missing}
 use Rattle.irs_overnight.proofs.RowLemmas.{same_row}
-use Rattle.irs_average.specs.Means.{RateLiesBetween}
-use Rattle.irs_average.specs.StubRates.{IsFoundBetween, IsOnLine, IsStubFound, IsStubRow, StubSource, tenor_rate}
+use Rattle.irs_average.specs.Averages.{RateLiesBetween}
+use Rattle.irs_average.specs.Interpolations.{IsFoundBetween, IsOnLine, IsStubFound, IsStubRow, StubSource, tenor_rate}
 use Rattle.irs_average.proofs.BetweenLemmas.{line_within, rounded_within, small_within, within_small}
 use Rattle.irs_average.proofs.TenorLemmas.{one_tenor}
 

@@ -12,9 +12,9 @@ use Rattle.irs_overnight.specs.declared.derived.Found.{Found}
 use Rattle.irs_overnight.specs.declared.derived.Found.TheVariants.{Rate, Missing}
 use Rattle.irs_overnight.specs.declared.observations.Observation.{Observation}
 use Rattle.irs_overnight.proofs.ObservationLemmas.{known_or}
-use Rattle.irs_average.specs.Means.{IsMean, RateLiesBetween, LiesAmong, counted_rate, divisor, rate_or_zero, sum_over}
+use Rattle.irs_average.specs.Averages.{IsMean, RateLiesBetween, LiesAmong, counted_rate, divisor, rate_or_zero}
+use Rattle.irs_average.specs.Averages.{sum_over, IsMeanFound}
 use Rattle.irs_average.specs.Private.Means.{ShareOut}
-use Rattle.irs_average.specs.MeanPeriods.{IsMeanFound}
 use Rattle.irs_average.specs.declared.means.Mean.{Mean}
 use Rattle.irs_average.specs.declared.means.Mean.TheVariants.{Plain, Weighted}
 use Rattle.irs_average.proofs.BetweenLemmas.{rounded_within, scaled, small_within, spread, within_small}

@@ -2,14 +2,14 @@
 use Rattle.std.proofs.Common.{◌≡◌, inl, inr, ℕ, ◌<◌, false, refl, sym, subst, ◌∙◌}
 use Rattle.std.specs.Prelude.{nat_lt}
 use Rattle.std.proofs.lemmas.Bool.{cases_order}
-use Rattle.irs_base.specs.Order.{First, level}
+use Rattle.irs_base.specs.Outcomes.{First, level}
 use Rattle.irs_base.specs.declared.places.Fault.{Fault}
 use Rattle.irs_base.proofs.Firsts.{level_later, level_same}
-use Rattle.irs_resets.specs.ResetDates.{IsPeriod}
-use Rattle.irs_overnight.specs.DerivedRules.{FixingNotAfter, derived_before, fixing_not_after_at}
+use Rattle.irs_resets.specs.Resets.{IsPeriod}
+use Rattle.irs_overnight.specs.Overnight.{FixingNotAfter, derived_before, fixing_not_after_at}
 use Rattle.irs_overnight.proofs.DerivedOrder.{level_none}
-use Rattle.irs_average.specs.MeanRules.{BreaksMeans, BreaksSamples, LacksSampleDay, lacking_at}
-use Rattle.irs_average.specs.MeanSources.{MeanSource, mean_period_at}
+use Rattle.irs_average.specs.Averages.{BreaksMeans, BreaksSamples, LacksSampleDay, lacking_at, MeanSource}
+use Rattle.irs_average.specs.Averages.{mean_period_at}
 
 -- in no period before this number an observation lacks a day
 abbrev pub KeptBelow : MeanSource → ℕ → Type 0

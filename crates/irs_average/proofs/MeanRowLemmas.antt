@@ -3,17 +3,15 @@ use Rattle.std.proofs.Common.{◌≡◌, inr, ℕ, ◌-◌, ◌≤◌, List, len
 use Rattle.jiff_core.proofs.SignedLemmas.{signed_arith}
 use Rattle.irs_base.specs.declared.places.Fault.{Fault}
 use Rattle.irs_base.proofs.MemberLemmas.{numbered_there, one_numbered}
-use Rattle.irs_resets.specs.ResetDates.{IsPeriod}
+use Rattle.irs_resets.specs.Resets.{IsPeriod}
 use Rattle.irs_schedule.specs.Parts.{Rises}
-use Rattle.irs_overnight.specs.DailySources.{fixing_at}
+use Rattle.irs_overnight.specs.Overnight.{fixing_at}
 use Rattle.irs_overnight.specs.declared.derived.DerivedRow.{DerivedRow}
 use Rattle.irs_overnight.specs.declared.derived.Found.{Found}
 use Rattle.irs_overnight.specs.declared.observations.Observation.{Observation}
 use Rattle.irs_overnight.proofs.RowLemmas.{in_order, same_row}
-use Rattle.irs_average.specs.MeanPeriods.{FindsMean, IsMeanFound, MeanPeriod}
-use Rattle.irs_average.specs.MeanRows.{AreMeans, IsMeanRow}
-use Rattle.irs_average.specs.MeanRules.{BreaksMeans, LacksSampleDay, lacking_at}
-use Rattle.irs_average.specs.MeanSources.{MeanSource, mean_period_at}
+use Rattle.irs_average.specs.Averages.{FindsMean, IsMeanFound, MeanPeriod, AreMeans, IsMeanRow, BreaksMeans}
+use Rattle.irs_average.specs.Averages.{LacksSampleDay, lacking_at, MeanSource, mean_period_at}
 use Rattle.irs_average.proofs.MeanLemmas.{mean_there, one_mean_found}
 use Rattle.irs_average.proofs.SampleLemmas.{one_samples, samples_there, shares_out}
 

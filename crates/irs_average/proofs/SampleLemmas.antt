@@ -7,17 +7,16 @@ use Rattle.std.proofs.lemmas.Bool.{cases_lt}
 use Rattle.std.proofs.lemmas.Bool.Decides.{nat_tests}
 use Rattle.std.proofs.lemmas.List.Elements.{All-push}
 use Rattle.jiff_core.proofs.SignedLemmas.{signed_arith}
-use Rattle.irs_base.specs.Members.{EachNumbered}
+use Rattle.irs_base.specs.Lists.{EachNumbered}
 use Rattle.irs_base.proofs.MemberLemmas.{numbered_push, numbered_there, one_numbered}
 use Rattle.irs_calendar.specs.GoodDays.{DaySet}
 use Rattle.irs_adjust.specs.ConventionLaws.{one_prev}
 use Rattle.irs_adjust.proofs.FoundDays.{decides_prev}
 use Rattle.irs_overnight.specs.Private.Bounds.{IsSmall}
-use Rattle.irs_overnight.specs.Sources.{RateLines, rate_by}
+use Rattle.irs_overnight.specs.Observations.{RateLines, rate_by}
 use Rattle.irs_overnight.specs.declared.observations.Observation.{Observation}
-use Rattle.irs_average.specs.Means.{sum_over}
+use Rattle.irs_average.specs.Averages.{sum_over, AreSamples, IsSample, LacksSample, step_day, step_end}
 use Rattle.irs_average.specs.Private.Means.{ShareOut}
-use Rattle.irs_average.specs.Samples.{AreSamples, IsSample, LacksSample, step_day, step_end}
 use Rattle.irs_average.proofs.StepCounts.{before_end, multiples_below, one_count}
 
 -- ---- what is at a place

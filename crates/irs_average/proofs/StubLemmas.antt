@@ -5,19 +5,18 @@ use Rattle.std.specs.Prelude.{slice_get}
 use Rattle.jiff_core.proofs.SignedLemmas.{signed_arith}
 use Rattle.irs_base.proofs.Decided.{order_of}
 use Rattle.irs_base.specs.Elements.{initial_stub, final_stub}
-use Rattle.irs_base.specs.Faults.{fault_at, in_stream}
+use Rattle.irs_base.specs.Outcomes.{fault_at, in_stream}
 use Rattle.irs_base.specs.declared.places.Broken.{Broken}
 use Rattle.irs_base.specs.declared.places.Fault.{Fault}
 use Rattle.irs_base.specs.declared.places.Rule.TheVariants.{K37}
-use Rattle.irs_terms.specs.FirstDay.{first_day_of}
+use Rattle.irs_terms.specs.TermDates.{first_day_of}
 use Rattle.irs_terms.specs.declared.amounts.StubRate.{StubRate}
 use Rattle.irs_terms.specs.declared.amounts.StubRate.TheVariants.{Index}
 use Rattle.irs_terms.specs.declared.amounts.StubTerms.{StubTerms}
 use Rattle.irs_terms.specs.declared.frequency.Frequency.{Frequency}
 use Rattle.irs_terms.specs.declared.results.Span.{Span}
 use Rattle.irs_terms.specs.declared.stream.Stream.{Stream}
-use Rattle.irs_resets.specs.ResetDates.{IsPeriod}
-use Rattle.irs_resets.specs.ResetRules.{FinalUnmet, GivesFinal, GivesInitial, InitialUnmet}
+use Rattle.irs_resets.specs.Resets.{IsPeriod, FinalUnmet, GivesFinal, GivesInitial, InitialUnmet}
 use Rattle.irs_average.proofs.KeptResets.{no_resets_broken}
 use Rattle.irs_schedule.specs.DaySets.{reset_days, stream_sets}
 use Rattle.irs_schedule.specs.Schedules.{IsLayout, IsPart}
@@ -26,11 +25,9 @@ use Rattle.irs_overnight.specs.Overnight.{OvernightAsked, IsAsked, asked}
 use Rattle.irs_overnight.specs.declared.derived.DerivedRow.{DerivedRow}
 use Rattle.irs_overnight.proofs.SourceLemmas.{partner, same_stream, some_part}
 use Rattle.irs_average.specs.Interpolations.{BreaksStub, BreaksTenors, IsInterpolated, IsStubBroken, LiesAmongTwo}
-use Rattle.irs_average.specs.Interpolations.{StubKept, outside_at}
-use Rattle.irs_average.specs.StubRates.{IsStubRow, StubSource, tenor_rate}
-use Rattle.irs_average.specs.Stubs.{GivesIndex, GivesOn, HasStub, IsStubAsked, IsStubOn, Stub, StubAsked}
-use Rattle.irs_average.specs.Private.Stubs.{number_on}
-use Rattle.irs_average.specs.Stubs.{stub_source}
+use Rattle.irs_average.specs.Interpolations.{StubKept, outside_at, IsStubRow, StubSource, tenor_rate, GivesIndex}
+use Rattle.irs_average.specs.Interpolations.{GivesOn, HasStub, IsStubAsked, IsStubOn, Stub, StubAsked, stub_source}
+use Rattle.irs_average.specs.Private.Means.{number_on}
 use Rattle.irs_average.specs.declared.stubs.Side.{Side}
 use Rattle.irs_average.specs.declared.stubs.Side.TheVariants.{Initial, Last}
 use Rattle.irs_average.proofs.LineLemmas.{one_stub_row, row_within}

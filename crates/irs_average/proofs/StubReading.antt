@@ -3,7 +3,7 @@ use Rattle.std.proofs.Common.{◌≡◌, ℕ, ◌-◌, ◌^◌, ◌<◌, ◌≤�
 use Rattle.std.proofs.Common.{Err, IfOk, sym, subst, ◌∙◌, ap, arith}
 use Rattle.std.specs.Prelude.{slice_get}
 use Rattle.std.proofs.lemmas.Option.{get_or_from_slice_get, slice_get_within}
-use Rattle.irs_base.specs.Members.{Every}
+use Rattle.irs_base.specs.Lists.{Every}
 use Rattle.irs_base.specs.declared.places.Broken.{Broken}
 use Rattle.irs_terms.specs.Lawful.{IsLawfulStream, IsLawfulStubRate, IsLawfulStubs}
 use Rattle.irs_terms.specs.declared.amounts.StubRate.{StubRate}
@@ -11,15 +11,14 @@ use Rattle.irs_terms.specs.declared.amounts.StubRate.TheVariants.{Index}
 use Rattle.irs_terms.specs.declared.amounts.StubTerms.{StubTerms}
 use Rattle.irs_terms.specs.declared.frequency.Frequency.{Frequency}
 use Rattle.irs_schedule.specs.Parts.{KeepsBounds}
-use Rattle.irs_overnight.specs.FileLaw.{AreKept}
-use Rattle.irs_overnight.specs.Private.FileLaw.{IsInRange}
-use Rattle.irs_overnight.specs.Reading.{IsLawfulLine}
+use Rattle.irs_overnight.specs.Texts.{AreKept, IsLawfulLine}
+use Rattle.irs_overnight.specs.Private.Bounds.{IsInRange}
 use Rattle.irs_overnight.specs.declared.derived.DerivedRow.{DerivedRow}
 use Rattle.irs_overnight.proofs.FileRead.{are_fixings}
 use Rattle.irs_overnight.proofs.SourceLemmas.{every_at}
-use Rattle.irs_average.specs.Interpolations.{IsInterpolated, StubReadsBack}
-use Rattle.irs_average.specs.Stubs.{GivesOn, HasStub, IsStubAsked, Stub, StubAsked}
-use Rattle.irs_average.specs.Private.Stubs.{number_on}
+use Rattle.irs_average.specs.Interpolations.{IsInterpolated, StubReadsBack, GivesOn, HasStub, IsStubAsked, Stub}
+use Rattle.irs_average.specs.Interpolations.{StubAsked}
+use Rattle.irs_average.specs.Private.Means.{number_on}
 use Rattle.irs_average.specs.declared.stubs.Side.{Side}
 use Rattle.irs_average.specs.declared.stubs.Side.TheVariants.{Initial, Last}
 use Rattle.irs_average.proofs.StubLemmas.{is_with}

@@ -2,16 +2,13 @@
 use Rattle.std.proofs.Common.{◌≡◌, ℕ, ◌*◌, Bool, false, IsTrue, Option, Some, None, IfSome, IfNone, SomeIff, ℤ, pos}
 use Rattle.std.proofs.Common.{◌+ℤ◌, ◌≤ℤ◌, ◌<ℤ◌, refl, sym, subst, ◌∙◌, arith}
 use Rattle.jiff_core.proofs.SignedLemmas.{signed_arith}
-use Rattle.irs_base.specs.Civils.{IsCivilOf}
-use Rattle.irs_base.specs.Days.{IsDay, month_index_of}
-use Rattle.irs_base.specs.Months.{InMonth, day_in_month, month_start}
+use Rattle.irs_base.specs.Days.{IsCivilOf, IsDay, month_index_of, InMonth, day_in_month, month_start}
 use Rattle.irs_base.specs.declared.day.Civil.{Civil}
 use Rattle.irs_base.proofs.MonthLemmas.{date_in_month, same_month}
 use Rattle.irs_terms.specs.declared.frequency.Frequency.{Frequency}
 use Rattle.irs_terms.specs.declared.frequency.Unit.{Unit as FrequencyUnit}
 use Rattle.irs_terms.specs.declared.frequency.Unit.TheVariants.{D, W, M, Y, T}
-use Rattle.irs_average.specs.StubRates.{LiesBetween}
-use Rattle.irs_average.specs.TenorEnds.{EndsMonths, EndsTenor, EndsUnits}
+use Rattle.irs_average.specs.Interpolations.{LiesBetween, EndsMonths, EndsTenor, EndsUnits}
 
 same_number : (d s : ℤ) (m n : ℕ) → d ≡ s +ℤ pos m → d ≡ s +ℤ pos n → m ≡ n
 same_number d s m n a b = omega (arith, signed_arith, a, b)

@@ -1,12 +1,3 @@
-pub mod Samples
-pub mod Means
-pub mod MeanPeriods
-pub mod MeanSources
-pub mod MeanRows
-pub mod MeanRules
 pub mod Averages
-pub mod TenorEnds
-pub mod StubRates
-pub mod Stubs
 pub mod Interpolations
 pub mod Private

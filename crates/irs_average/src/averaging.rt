@@ -2,9 +2,9 @@
 //! two or more reset dates in a calculation period). Two things are our rule: days of observation
 //! follow each other by a step from the start of the period, and averages are rounded.
 ghost use Rattle.std.specs.Prelude.{◌≡◌, All, List, IfOk};
-ghost use Rattle.irs_base.specs.Faults.{IfBroken};
+ghost use Rattle.irs_base.specs.Outcomes.{IfBroken};
 ghost use Rattle.irs_base.specs.declared.places.Broken.{Broken as BrokenRule};
-ghost use Rattle.irs_overnight.specs.Private.FileLaw.{IsInRange};
+ghost use Rattle.irs_overnight.specs.Private.Bounds.{IsInRange};
 ghost use Rattle.irs_overnight.specs.Overnight.{asked};
 ghost use Rattle.irs_overnight.specs.declared.derived.DerivedRow.{DerivedRow as Row};
 ghost use Rattle.irs_average.specs.Averages.{AverageKept, AverageReadsBack, IsAverage, IsAverageAsked};

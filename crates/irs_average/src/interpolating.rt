@@ -1,13 +1,12 @@
 //! The rate of a stub between those of two tenors of its index.
 ghost use Rattle.std.specs.Prelude.{◌≡◌, IfOk, IfErr, IfSome, IfNone, IsTrue};
 ghost use Rattle.irs_base.specs.declared.places.Broken.{Broken as BrokenRule};
-ghost use Rattle.irs_resets.specs.ResetDates.{IsPeriod};
-ghost use Rattle.irs_overnight.specs.Private.FileLaw.{IsInRange};
+ghost use Rattle.irs_resets.specs.Resets.{IsPeriod};
+ghost use Rattle.irs_overnight.specs.Private.Bounds.{IsInRange};
 ghost use Rattle.irs_overnight.specs.declared.derived.DerivedRow.{DerivedRow as Row};
 ghost use Rattle.irs_average.specs.Interpolations.{BreaksStub, IsInterpolated, IsStubBroken, LiesAmongTwo, StubKept};
-ghost use Rattle.irs_average.specs.Interpolations.{StubReadsBack, no_stub, outside_at};
-ghost use Rattle.irs_average.specs.StubRates.{IsStubRow, LiesOutside};
-ghost use Rattle.irs_average.specs.Stubs.{IsStubAsked, stub_asked, stub_source};
+ghost use Rattle.irs_average.specs.Interpolations.{StubReadsBack, no_stub, outside_at, IsStubRow, LiesOutside};
+ghost use Rattle.irs_average.specs.Interpolations.{IsStubAsked, stub_asked, stub_source};
 
 use crate::stub_rates::{ends_around, found_between};
 use crate::stubs::{Side, stub_index, stub_number};

@@ -1,16 +1,14 @@
 //! The averages of a stream, one for each calculation period.
 ghost use Rattle.std.specs.Prelude.{◌≡◌, ◌≤◌, All, IfOk, IfSome, IfNone, IsTrue, ◌<ℤ◌};
-ghost use Rattle.irs_base.specs.Faults.{IfBroken};
-ghost use Rattle.irs_base.specs.Order.{First};
+ghost use Rattle.irs_base.specs.Outcomes.{IfBroken, First};
 ghost use Rattle.irs_base.specs.declared.places.Fault.{Fault as BrokenRule};
-ghost use Rattle.irs_resets.specs.ResetDates.{IsPeriod};
-ghost use Rattle.irs_overnight.specs.DerivedRules.{derived_before};
-ghost use Rattle.irs_overnight.specs.FileLaw.{IsSmallFound};
-ghost use Rattle.irs_overnight.specs.Private.FileLaw.{IsInRange};
-ghost use Rattle.irs_average.specs.MeanPeriods.{FindsMean};
-ghost use Rattle.irs_average.specs.MeanRows.{AreMeans, IsMeanRow};
-ghost use Rattle.irs_average.specs.MeanRules.{BreaksMeans, BreaksSamples, LacksSampleDay, lacking_at};
-ghost use Rattle.irs_average.specs.MeanSources.{averaging_by, mean_period, mean_period_at, mean_source, own_lines};
+ghost use Rattle.irs_resets.specs.Resets.{IsPeriod};
+ghost use Rattle.irs_overnight.specs.Overnight.{derived_before};
+ghost use Rattle.irs_overnight.specs.Texts.{IsSmallFound};
+ghost use Rattle.irs_overnight.specs.Private.Bounds.{IsInRange};
+ghost use Rattle.irs_average.specs.Averages.{FindsMean, AreMeans, IsMeanRow, BreaksMeans, BreaksSamples};
+ghost use Rattle.irs_average.specs.Averages.{LacksSampleDay, lacking_at, averaging_by, mean_period, mean_period_at};
+ghost use Rattle.irs_average.specs.Averages.{mean_source, own_lines};
 
 use crate::means::{Mean, mean_found};
 use crate::samples::{Steps, samples};

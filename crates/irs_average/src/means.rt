@@ -5,12 +5,11 @@ ghost use Rattle.std.specs.Prelude.{◌+ℤ◌, unsigned_abs};
 ghost use Rattle.irs_base.specs.Days.{all_days};
 ghost use Rattle.irs_terms.specs.Lawful.{IsRate};
 ghost use Rattle.irs_overnight.specs.Private.Bounds.{IsSmall};
-ghost use Rattle.irs_overnight.specs.FileLaw.{IsSmallFound};
+ghost use Rattle.irs_overnight.specs.Texts.{IsSmallFound};
 ghost use Rattle.irs_overnight.specs.Observations.{first_absent};
-ghost use Rattle.irs_base.specs.Rounding.{Rounded};
+ghost use Rattle.irs_base.specs.Limits.{Rounded};
 ghost use Rattle.irs_base.specs.declared.rounding.Direction.TheVariants.{Nearest};
-ghost use Rattle.irs_average.specs.MeanPeriods.{IsMeanFound};
-ghost use Rattle.irs_average.specs.Means.{IsMean, counted_rate, divisor, sum_over};
+ghost use Rattle.irs_average.specs.Averages.{IsMeanFound, IsMean, counted_rate, divisor, sum_over};
 ghost use Rattle.irs_average.specs.Private.Means.{ShareOut};
 
 use crate::rates::{as_rate, over_days};

@@ -5,8 +5,7 @@ ghost use Rattle.irs_base.specs.Days.{IsDay};
 ghost use Rattle.irs_calendar.specs.GoodDays.{Prev};
 ghost use Rattle.irs_overnight.specs.Private.Bounds.{IsSmall};
 ghost use Rattle.irs_average.specs.Private.Means.{ShareOut};
-ghost use Rattle.irs_average.specs.MeanSources.{own_lines};
-ghost use Rattle.irs_average.specs.Samples.{AreSamples, IsSample, LacksSample, step_day, step_end};
+ghost use Rattle.irs_average.specs.Averages.{own_lines, AreSamples, IsSample, LacksSample, step_day, step_end};
 
 use irs_base::{Day, Memory, ahead};
 use irs_calendar::GoodDays;

@@ -3,11 +3,11 @@
 ghost use Rattle.std.specs.Prelude.{◌≡◌, ◌↔◌, IsTrue, ◌+◌, ◌*◌, ◌^◌, ◌<◌, ◌≤◌, ℤ, Some, IfSome, IfNone, pos, ◌<ℤ◌};
 ghost use Rattle.std.specs.Prelude.{◌≤ℤ◌, ◌+ℤ◌, ◌-ℤ◌, ◌*ℤ◌, unsigned_abs};
 ghost use Rattle.irs_base.specs.Days.{all_days};
-ghost use Rattle.irs_base.specs.Rounding.{Rounded};
+ghost use Rattle.irs_base.specs.Limits.{Rounded};
 ghost use Rattle.irs_base.specs.declared.rounding.Direction.TheVariants.{Nearest};
 ghost use Rattle.irs_terms.specs.Lawful.{IsRate};
-ghost use Rattle.irs_overnight.specs.FileLaw.{IsSmallFound};
-ghost use Rattle.irs_average.specs.StubRates.{IsFoundBetween, LiesBetween};
+ghost use Rattle.irs_overnight.specs.Texts.{IsSmallFound};
+ghost use Rattle.irs_average.specs.Interpolations.{IsFoundBetween, LiesBetween};
 
 use crate::rates::{as_rate, over_days};
 use crate::tenor_ends::tenor_end;

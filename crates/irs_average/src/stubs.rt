@@ -3,8 +3,8 @@ ghost use Rattle.std.specs.Prelude.{◌≡◌, ◌-◌, ℕ, List, Option, Some,
 ghost use Rattle.irs_terms.specs.declared.amounts.StubRate.TheVariants.{Index as OfIndex};
 ghost use Rattle.irs_terms.specs.declared.frequency.Frequency.{Frequency as Tenor};
 ghost use Rattle.irs_schedule.specs.Parts.{KeepsBounds};
-ghost use Rattle.irs_average.specs.Stubs.{GivesIndex, given_on};
-ghost use Rattle.irs_average.specs.Private.Stubs.{number_on};
+ghost use Rattle.irs_average.specs.Interpolations.{GivesIndex, given_on};
+ghost use Rattle.irs_average.specs.Private.Means.{number_on};
 
 use irs_base::Text;
 use irs_overnight::stream_at;

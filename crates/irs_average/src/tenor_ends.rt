@@ -2,7 +2,7 @@
 //! a tenor isn't adjusted for business days is our rule.
 ghost use Rattle.std.specs.Prelude.{◌*◌, ℤ, IfSome, IfNone};
 ghost use Rattle.irs_base.specs.Days.{IsDay};
-ghost use Rattle.irs_average.specs.TenorEnds.{EndsMonths, EndsTenor};
+ghost use Rattle.irs_average.specs.Interpolations.{EndsMonths, EndsTenor};
 
 use irs_base::{Day, civil_of, month_day, month_index, plus};
 use irs_terms::{Frequency, Unit};

@@ -1,7 +1,7 @@
 -- Members that cover numbers in order: where the numbers of each of them lie.
 use Rattle.std.proofs.Common.{◌≡◌, ℕ, zero, suc, ◌+◌, ◌<◌, ◌≤◌, List, [], ◌∷◌, map, Some, slice_get, ap, arith}
 use Rattle.std.proofs.lemmas.Option.{same_Some, slice_get_within}
-use Rattle.irs_base.specs.Members.{CoverNumbers, Every}
+use Rattle.irs_base.specs.Lists.{CoverNumbers, Every}
 use Rattle.irs_base.proofs.MemberLemmas.{every_get}
 
 -- the numbers from `first` to `end` lie in order among those from `low` to `high`

@@ -6,7 +6,7 @@ use Rattle.std.specs.Ordering.{int_cmp, is_le}
 use Rattle.jiff_core.specs.Calendar.{IsCivilDate, days_in_month, days_from_civil}
 use Rattle.jiff_core.proofs.SignedLemmas.{signed_arith}
 use Rattle.irs_base.specs.Days.{IsDay, HasDate, first_day, last_day}
-use Rattle.irs_base.specs.Dates.{is_civil, is_in_range, day_number}
+use Rattle.irs_base.specs.Texts.{is_civil, is_in_range, day_number}
 use Rattle.irs_base.proofs.Orders.{le_true, true_le, both_true}
 
 le_nat : (a b : ℕ) → a ≤ b → nat_le a b ≡ true

@@ -9,10 +9,9 @@ use Rattle.std.proofs.Math.Nat.{mul-le-mul, mul-le-mul_left, mul-le-mul_right, p
 use Rattle.std.proofs.Math.Nat.{le_of_mul-le-mul_right, pow-le-pow_right}
 use Rattle.std.proofs.lemmas.Bool.Decides.{nat_tests}
 use Rattle.std.proofs.Common.{ℤ, pos, neg_ℤ}
-use Rattle.irs_base.specs.Decimals.DecText.{bare, plus, minus}
-use Rattle.irs_base.specs.Dates.{is_digit}
-use Rattle.irs_base.specs.Decimals.{DecText, AreDigits, number_after, number_of, padded, is_zero}
-use Rattle.irs_base.specs.Decimals.{has_no_point, IsUnsigned, IsCutAtPoint, AreParts}
+use Rattle.irs_base.specs.Texts.DecText.{bare, plus, minus}
+use Rattle.irs_base.specs.Texts.{is_digit, DecText, AreDigits, number_after, number_of, padded, is_zero, has_no_point}
+use Rattle.irs_base.specs.Texts.{IsUnsigned, IsCutAtPoint, AreParts}
 
 -- one digit more leaves room for one digit less
 pub room_left : (n c count : ℕ) → 0 < count → c ≤ 9 → (10 * n + c + 1) * 10 ^ (count - 1) ≤ (n + 1) * 10 ^ count

@@ -5,7 +5,7 @@ use Rattle.std.specs.List.{range_with_len, flat_map, enumerate_from}
 use Rattle.std.proofs.lemmas.Bool.{cases_lt}
 use Rattle.std.proofs.lemmas.List.Elements.{All-cons, All-head, All-nil, All-tail}
 use Rattle.std.proofs.lemmas.Option.{same_Some}
-use Rattle.irs_base.specs.Members.{EachNumbered, Every, Pairs}
+use Rattle.irs_base.specs.Lists.{EachNumbered, Every, Pairs}
 
 -- ---- lists that are made of others
 

@@ -5,8 +5,7 @@ use Rattle.std.proofs.lemmas.Bool.Decides.{nat_tests}
 use Rattle.std.proofs.Math.Seq.{drop-cons}
 use Rattle.std.proofs.lemmas.Bool.{cases_Bool}
 use Rattle.std.proofs.lemmas.List.{take_all}
-use Rattle.irs_base.specs.Lines.{with_byte}
-use Rattle.irs_base.specs.Fields.{is_space_or_tab, begins_space, without_gap, fields}
+use Rattle.irs_base.specs.Texts.{with_byte, is_space_or_tab, begins_space, without_gap, fields}
 
 -- each byte before the place parts fields
 abbrev pub AllBefore : List ℕ → ℕ → Type 0

@@ -5,7 +5,7 @@ use Rattle.std.proofs.Common.{refl, sym, ◌∙◌, ap, arith}
 use Rattle.std.specs.Prelude.{if◌then◌else◌, nat_lt}
 use Rattle.std.proofs.lemmas.Bool.Decides.{nat_tests}
 use Rattle.std.proofs.lemmas.Bool.{cases_order}
-use Rattle.irs_base.specs.Order.{First, IsFirst, earlier, level}
+use Rattle.irs_base.specs.Outcomes.{First, IsFirst, earlier, level}
 
 -- ---- levels
 

@@ -2,7 +2,7 @@
 use Rattle.std.proofs.Common.{Result, Ok, Err, IfOk}
 use Rattle.irs_base.specs.declared.stopped.Stopped.{Stopped}
 use Rattle.irs_base.specs.declared.stopped.Stopped.TheVariants.{Broken as OfBroken, Memory as OfMemory}
-use Rattle.irs_base.specs.Faults.{IfBroken, IfStopped}
+use Rattle.irs_base.specs.Outcomes.{IfBroken, IfStopped}
 
 -- at the exit of a `?`
 pub handed_on : {F : Type 0} (e : Stopped F) (P Q : F → Type 0) → ((f : F) → P f → Q f) → IfStopped e P → IfStopped e Q

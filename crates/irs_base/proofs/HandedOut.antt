@@ -1,7 +1,7 @@
 -- Errors that a `?` hands out.
 use Rattle.std.proofs.Common.{◌≡◌, Result, Ok, Err, IsErrAnd, sym, subst}
 use Rattle.irs_base.specs.declared.stopped.Stopped.{Stopped}
-use Rattle.irs_base.specs.Faults.{IfBroken, IfStopped}
+use Rattle.irs_base.specs.Outcomes.{IfBroken, IfStopped}
 use Rattle.irs_base.proofs.HandedAnswers.{handed_on}
 
 -- what the callee says of its broken rule, as far as it follows

@@ -3,8 +3,8 @@ use Rattle.std.proofs.Common.{◌≡◌, ◌⊎◌, inl, inr, ℕ, zero, suc, �
 use Rattle.std.proofs.Common.{[], ◌∷◌, take, drop, length, get_or, arith, refl, ◌∙◌, ap}
 use Rattle.std.proofs.Common.{length-drop}
 use Rattle.std.proofs.lemmas.List.{take_all}
-use Rattle.irs_base.specs.Lines.{with_byte, lines_of}
-use Rattle.irs_base.specs.Private.Lines.{without_cr}
+use Rattle.irs_base.specs.Texts.{with_byte, lines_of}
+use Rattle.irs_base.specs.Private.Order.{without_cr}
 
 is_eq : (a b : ℕ) → a ≡ b → (a == b) ≡ true
 is_eq a b h = grind arith

@@ -6,7 +6,7 @@ use Rattle.std.specs.Prelude.{unwrap_or}
 use Rattle.std.proofs.lemmas.Bool.{cases_lt}
 use Rattle.std.proofs.lemmas.List.{take_more}
 use Rattle.std.proofs.lemmas.Option.{slice_get_within, get_or_from_slice_get}
-use Rattle.irs_base.specs.Members.{EachNumbered, Every, Pairs, HoldsOf}
+use Rattle.irs_base.specs.Lists.{EachNumbered, Every, Pairs, HoldsOf}
 
 -- what is there is the same where both are the same
 pub some_is : {X : Type 0} (a b : X) → Some a ≡ Some b → a ≡ b

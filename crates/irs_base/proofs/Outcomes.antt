@@ -4,11 +4,10 @@ use Rattle.std.proofs.Common.{◌<◌, refl, sym, subst, ap, ◌∙◌, arith, a
 use Rattle.std.specs.List.{slice_get}
 use Rattle.std.proofs.lemmas.List.{length-take-le, take-append-drop, take_more}
 use Rattle.std.proofs.lemmas.Option.{get_or_from_slice_get, slice_get_within}
-use Rattle.irs_base.specs.Faults.{IfStopped}
-use Rattle.irs_base.specs.Members.{Every}
-use Rattle.irs_base.specs.Order.{First, Only}
-use Rattle.irs_base.specs.Outcomes.{Determined, IfMemory, IfOutOfMemory, Meets, RefusesNothing, Spec, ◌>>=◌, answer, answered, each_in_turn, given_by}
-use Rattle.irs_base.specs.Outcomes.{refused, refused_as, unbroken, unless_broken}
+use Rattle.irs_base.specs.Outcomes.{IfStopped, First, Only, Determined, IfMemory, IfOutOfMemory, Meets, RefusesNothing}
+use Rattle.irs_base.specs.Outcomes.{Spec, ◌>>=◌, answer, answered, each_in_turn, given_by, refused, refused_as}
+use Rattle.irs_base.specs.Outcomes.{unbroken, unless_broken}
+use Rattle.irs_base.specs.Lists.{Every}
 use Rattle.irs_base.specs.declared.stopped.Stopped.{Stopped}
 use Rattle.irs_base.specs.declared.stopped.Stopped.TheVariants.{Broken as OfBroken, Memory as OfMemory}
 

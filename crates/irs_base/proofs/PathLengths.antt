@@ -5,8 +5,7 @@ use Rattle.std.specs.List.{list_all}
 use Rattle.std.proofs.lemmas.Bool.Decides.{nat_tests}
 use Rattle.std.proofs.lemmas.Option.{same_Some}
 use Rattle.irs_base.specs.Elements.{name_or_empty, named_elements}
-use Rattle.irs_base.specs.PathList.{paths, printed_paths}
-use Rattle.irs_base.specs.Paths.{are_whole, path_of, longest_path}
+use Rattle.irs_base.specs.Paths.{paths, printed_paths, are_whole, path_of, longest_path}
 use Rattle.irs_base.specs.declared.elements.TheConstants.{PATHS}
 use Rattle.irs_base.proofs.Orders.{both_true}
 

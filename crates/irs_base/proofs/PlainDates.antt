@@ -8,7 +8,7 @@ use Rattle.jiff_core.specs.Calendar.{days_from_civil}
 use Rattle.jiff_core.proofs.SignedLemmas.{signed_arith}
 use Rattle.jiff_core.proofs.CalendarLemmas.{days_in_month_bounds}
 use Rattle.irs_base.specs.Days.{IsDay, HasDate}
-use Rattle.irs_base.specs.Dates.{is_digit, digit_pair, is_civil, is_in_range, day_number, date_of_parts, date_at}
+use Rattle.irs_base.specs.Texts.{is_digit, digit_pair, is_civil, is_in_range, day_number, date_of_parts, date_at}
 use Rattle.irs_base.specs.Texts.{two_digits, date_text, IsPlainDate}
 use Rattle.irs_base.proofs.Orders.{both_true}
 use Rattle.irs_base.proofs.Dates.{year_range}

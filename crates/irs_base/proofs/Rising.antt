@@ -2,7 +2,7 @@
 use Rattle.std.proofs.Common.{◌≡◌, ◌⊎◌, inl, inr, ⊎_elim, ◌≤◌, List, [], ◌∷◌, ◌++◌, length, ℤ, ◌<ℤ◌, refl, sym, ap₂}
 use Rattle.std.proofs.Common.{subst, ◌∙◌, arith}
 use Rattle.jiff_core.proofs.SignedLemmas.{signed_arith}
-use Rattle.irs_base.specs.Listed.{Member, AllAfter, IsRising}
+use Rattle.irs_base.specs.Lists.{Member, AllAfter, IsRising}
 
 -- no number is less than itself
 pub not_itself : (x : ℤ) → ¬ (x <ℤ x)

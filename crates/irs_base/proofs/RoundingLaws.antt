@@ -6,7 +6,7 @@ use Rattle.std.proofs.Math.Nat.{mul-le-mul_left}
 use Rattle.std.proofs.lemmas.Int.{by_lt_z}
 use Rattle.std.specs.Int.{int_div_euclid, int_rem_euclid}
 use borrow.Author.Differences.{up, down}
-use Rattle.irs_base.specs.Rounding.{Rounded, rounded}
+use Rattle.irs_base.specs.Limits.{Rounded, rounded}
 use Rattle.irs_base.specs.declared.rounding.Direction.{Direction}
 use Rattle.irs_base.specs.declared.rounding.Direction.TheVariants.{Up, Down, Nearest}
 use Rattle.irs_base.proofs.RoundingLemmas.{quotient_and_rest, near_low, near_high, down_low, up_low, up_high}

@@ -2,7 +2,7 @@
 use Rattle.std.proofs.Common.{◌≡◌, ℕ, List, [], ◌∷◌, Some, refl, sym, ◌∙◌, ap}
 use Rattle.std.specs.Prelude.{slice_get}
 use Rattle.std.proofs.lemmas.Option.{same_Some}
-use Rattle.irs_base.specs.Rules.{rule_number}
+use Rattle.irs_base.specs.Outcomes.{rule_number}
 use Rattle.irs_base.specs.declared.places.Rule.{Rule}
 use Rattle.irs_base.specs.declared.places.Rule.TheVariants.{K1, K2, K3, K4, K5, K6, K7, K8, K10, K11, K12, K13, K14}
 use Rattle.irs_base.specs.declared.places.Rule.TheVariants.{K15, K16, K17, K18, K19, K20, K21, K30, K31, K32, K33, K34}

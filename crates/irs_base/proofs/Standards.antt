@@ -2,9 +2,8 @@
 -- definition does not check.
 use Rattle.std.proofs.Common.{◌≡◌, true, false, pos, negsuc, refl, rules, codes}
 use Rattle.jiff_core.specs.Calendar.{is_leap_year, days_in_month, weekday_number}
-use Rattle.irs_base.specs.Days.{weekday_at, first_day, last_day}
-use Rattle.irs_base.specs.DateOf.{year_walk, month_walk, year_part, month_part}
-use Rattle.irs_base.specs.Rounding.{Rounded, rounded}
+use Rattle.irs_base.specs.Days.{weekday_at, first_day, last_day, year_walk, month_walk, year_part, month_part}
+use Rattle.irs_base.specs.Limits.{Rounded, rounded}
 use Rattle.irs_base.specs.Texts.{day_text}
 use Rattle.irs_base.specs.declared.rounding.Direction.TheVariants.{Up, Down, Nearest}
 

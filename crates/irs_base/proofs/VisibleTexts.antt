@@ -6,10 +6,9 @@ use Rattle.std.proofs.lemmas.Fmt.{decimal_by_steps}
 use Rattle.std.specs.Fmt.{decimal}
 use Rattle.irs_base.proofs.DateWalks.{date_of_day}
 use Rattle.irs_base.proofs.TextLemmas.{with_point}
-use Rattle.irs_base.specs.DateOf.{year_of, month_of, day_of_month}
-use Rattle.irs_base.specs.Days.{IsDay}
-use Rattle.irs_base.specs.Decimals.{AreDigits, number_after, number_of}
-use Rattle.irs_base.specs.Texts.{IsPlainDate, day_text, digit_row, two_digits, unsigned_dec}
+use Rattle.irs_base.specs.Days.{year_of, month_of, day_of_month, IsDay}
+use Rattle.irs_base.specs.Texts.{AreDigits, number_after, number_of, IsPlainDate, day_text, digit_row, two_digits}
+use Rattle.irs_base.specs.Texts.{unsigned_dec}
 
 -- each byte is above the space
 abbrev pub Visible : List ℕ → Type 0

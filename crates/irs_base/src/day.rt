@@ -84,8 +84,7 @@ impl Day {
     }
 }
 
-ghost use Rattle.irs_base.specs.Civils.{IsCivilOf, place_in_week};
-ghost use Rattle.irs_base.specs.DateOf.{year_of, month_of, day_of_month};
+ghost use Rattle.irs_base.specs.Days.{IsCivilOf, place_in_week, year_of, month_of, day_of_month};
 ghost use Rattle.jiff_core.specs.Date.{epoch_day};
 ghost use Rattle.jiff_core.specs.Calendar.{IsCivilDate, IsBetween};
 

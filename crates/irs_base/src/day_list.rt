@@ -1,6 +1,6 @@
 //! Lists of days.
 ghost use Rattle.std.specs.Prelude.{◌≡◌, ℤ, List, [], ◌∷◌, ◌++◌, length, IfOk, OnOk, OnErr};
-ghost use Rattle.irs_base.specs.DayLists.{AreDays};
+ghost use Rattle.irs_base.specs.Lists.{AreDays};
 
 use crate::{Day, Memory};
 use std::alloc::Global;

@@ -3,10 +3,8 @@
 ghost use Rattle.std.specs.Prelude.{◌≡◌, ◌+◌, ◌*◌, ◌^◌, ◌<◌, ◌≤◌, ◌∷◌, List, ℕ, suc, ℤ, pos, neg_ℤ, length, drop};
 ghost use Rattle.std.specs.Prelude.{unsigned_abs, IfSome, IfNone, IsTrue, ◌↔◌};
 ghost use Rattle.std.specs.List.{list_all};
-ghost use Rattle.irs_base.specs.Texts.{most_places};
-ghost use Rattle.irs_base.specs.Dates.{is_digit};
-ghost use Rattle.irs_base.specs.Decimals.{AreDigits, AreParts, DecText, IsCutAtPoint, IsUnsigned, is_zero};
-ghost use Rattle.irs_base.specs.Decimals.{most_digits, number_after, number_of, padded};
+ghost use Rattle.irs_base.specs.Texts.{most_places, is_digit, AreDigits, AreParts, DecText, IsCutAtPoint, IsUnsigned};
+ghost use Rattle.irs_base.specs.Texts.{is_zero, most_digits, number_after, number_of, padded};
 
 use crate::digits::power_of_ten;
 

@@ -5,8 +5,7 @@
 //! another party's cash flows. The table and its order are our rule.
 ghost use Rattle.std.specs.Prelude.{◌≡◌, ◌<◌, ◌≤◌, ℕ, [], Some, SomeIff, codes, map, slice_get, length, true};
 ghost use Rattle.irs_base.specs.Elements.{count, named_elements};
-ghost use Rattle.irs_base.specs.PathList.{printed_paths};
-ghost use Rattle.irs_base.specs.Paths.{are_whole, path_of, longest_path};
+ghost use Rattle.irs_base.specs.Paths.{printed_paths, are_whole, path_of, longest_path};
 ghost use Rattle.irs_base.specs.declared.elements.TheConstants.{PATHS};
 
 use std::marker::Model;

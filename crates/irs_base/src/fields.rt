@@ -1,6 +1,6 @@
 //! The fields of a line of a file, separated by spaces and tabs (our rule).
 ghost use Rattle.std.specs.Prelude.{◌≡◌, ◌<◌, ◌∷◌, [], false, length, MatchOption};
-ghost use Rattle.irs_base.specs.Fields.{is_space_or_tab, begins_space, without_gap, fields};
+ghost use Rattle.irs_base.specs.Texts.{is_space_or_tab, begins_space, without_gap, fields};
 
 /// Whether a byte separates fields: a space or a tab.
 pub fn is_gap(b: u8) -> bool

@@ -1,8 +1,7 @@
 //! Dates of calendar and fixing files: `YYYY-MM-DD` of a day in range, and nothing else.
 ghost use Rattle.std.specs.Prelude.{◌≡◌, ◌<◌, ℤ, IfSome, IfNone};
 ghost use Rattle.irs_base.specs.Days.{IsDay};
-ghost use Rattle.irs_base.specs.Texts.{IsPlainDate};
-ghost use Rattle.irs_base.specs.Dates.{digit_pair, day_number, date_at};
+ghost use Rattle.irs_base.specs.Texts.{IsPlainDate, digit_pair, day_number, date_at};
 
 use crate::{Civil, Day, day_of};
 

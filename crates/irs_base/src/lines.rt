@@ -1,7 +1,7 @@
 //! The lines of a file, which end in LF or CRLF (our rule).
 ghost use Rattle.std.specs.Prelude.{◌≡◌, ◌<◌, ◌∷◌, length};
-ghost use Rattle.irs_base.specs.Lines.{lines_of};
-ghost use Rattle.irs_base.specs.Private.Lines.{without_cr};
+ghost use Rattle.irs_base.specs.Texts.{lines_of};
+ghost use Rattle.irs_base.specs.Private.Order.{without_cr};
 
 fn before_return(line: &[u8]) -> &[u8]
     ensures { result.now ≡ without_cr line.now }

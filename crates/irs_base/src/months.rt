@@ -1,7 +1,6 @@
 //! Months, counted from January of the year 0: `12*year + month - 1`.
 ghost use Rattle.std.specs.Prelude.{◌≡◌, ◌<◌, ◌≤◌, pos, SomeIff};
-ghost use Rattle.irs_base.specs.Days.{IsDay, first_month, last_month};
-ghost use Rattle.irs_base.specs.Months.{InMonth, day_in_month};
+ghost use Rattle.irs_base.specs.Days.{IsDay, first_month, last_month, InMonth, day_in_month};
 ghost use Rattle.jiff_core.specs.Calendar.{IsBetween};
 
 use crate::day::day_of_date;

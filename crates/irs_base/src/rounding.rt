@@ -4,7 +4,7 @@
 //! negative numbers too. That is our rule.
 ghost use Rattle.std.specs.Prelude.{◌≡◌, ◌+◌, ◌*◌, ◌<◌, ◌≤◌, ◌^◌, pos, ◌<ℤ◌, ◌≤ℤ◌, ◌+ℤ◌, ◌*ℤ◌};
 ghost use Rattle.std.specs.Prelude.{unsigned_abs};
-ghost use Rattle.irs_base.specs.Rounding.{Rounded, rounded};
+ghost use Rattle.irs_base.specs.Limits.{Rounded, rounded};
 
 /// Where a number between two whole numbers goes (FpML `roundingDirection`).
 #[derive(Clone, Copy, Debug, PartialEq, Eq)]

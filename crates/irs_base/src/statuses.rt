@@ -1,6 +1,6 @@
 //! The exit statuses, which are our rule.
 ghost use Rattle.std.specs.Prelude.{◌≡◌, IfSome, IfNone};
-ghost use Rattle.irs_base.specs.Statuses.{status_number};
+ghost use Rattle.irs_base.specs.Outcomes.{status_number};
 
 /// How a run ends.
 #[derive(Clone, Copy, PartialEq, Eq)]

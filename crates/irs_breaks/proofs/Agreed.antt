@@ -7,18 +7,17 @@ use Rattle.std.proofs.lemmas.Bool.{cases_Bool, cases_lt}
 use Rattle.std.proofs.lemmas.Option.{none-some, same_Some, slice_get-get_or, slice_get-map, slice_get_cases, slice_get_past}
 use Rattle.std.proofs.lemmas.Option.{slice_get_within}
 use Rattle.irs_base.specs.Days.{first_day}
-use Rattle.irs_base.specs.Members.{Every, Pairs, day_at}
+use Rattle.irs_base.specs.Lists.{Every, Pairs, day_at}
 use Rattle.irs_base.proofs.MemberLemmas.{every_get}
 use Rattle.irs_terms.specs.declared.results.Exchange.{Exchange}
 use Rattle.irs_terms.specs.declared.results.Reset.{Reset}
 use Rattle.irs_schedule.specs.Parts.{IsWithin, KeepsBounds, Part}
-use Rattle.irs_schedule.specs.PeriodViews.{period_at}
+use Rattle.irs_schedule.specs.RowsOf.{period_at}
 use Rattle.irs_schedule.specs.declared.entries.PaymentEntry.{PaymentEntry}
 use Rattle.irs_schedule.specs.declared.views.CalculationPeriod.{CalculationPeriod}
-use Rattle.irs_audit.specs.Agreement.{Agrees, KindDeparts, RowDeparts, StreamDeparts, stated_reset_at}
-use Rattle.irs_audit.specs.FieldDepartures.{ExchangeDeparts, PaymentDeparts, PeriodDeparts, ResetDeparts}
-use Rattle.irs_flows.specs.FlowParts.{FlowPart}
-use Rattle.irs_audit.specs.StatedValues.{NotStatedRightly}
+use Rattle.irs_audit.specs.Verdicts.{Agrees, KindDeparts, RowDeparts, StreamDeparts, stated_reset_at, ExchangeDeparts}
+use Rattle.irs_audit.specs.Verdicts.{PaymentDeparts, PeriodDeparts, ResetDeparts, NotStatedRightly}
+use Rattle.irs_flows.specs.FlowReading.{FlowPart}
 use Rattle.irs_audit.specs.declared.departures.Field.{Field}
 use Rattle.irs_audit.specs.declared.departures.Field.TheVariants as field
 use Rattle.irs_audit.specs.declared.departures.RowKind.{RowKind}
@@ -29,15 +28,13 @@ use Rattle.irs_flows.specs.declared.flows.FlowPeriod.{FlowPeriod}
 use Rattle.irs_flows.specs.declared.flows.FlowReset.{FlowReset}
 use Rattle.irs_breaks.specs.BreakLists.{AreExchangesOf, ArePaymentsOf, IsBreakList, IsStream, StreamAt, first_due}
 use Rattle.irs_breaks.specs.BreakLists.{exchange_dates, payment_row_dates, stated_exchange_dates, stated_payment_dates}
-use Rattle.irs_breaks.specs.Counting.{AreBreaks, TiesTo, counts_in}
-use Rattle.irs_breaks.specs.Fields.{exchange_fields, payment_fields, period_fields, reset_fields}
-use Rattle.irs_breaks.specs.Findings.{Exactly, Findings, OnRow, RowAt, Then, UpTo, one_pair, joined_findings}
-use Rattle.irs_breaks.specs.Findings.{no_findings}
-use Rattle.irs_breaks.specs.RowFindings.{FindsExchange, AreFieldBreaks, FindsPayment, ArePeriods, ArePeriodsOf}
-use Rattle.irs_breaks.specs.RowFindings.{FindsRows}
-use Rattle.irs_breaks.specs.RowFindings.{IsExchangeRow, IsPaymentRow, IsPeriodRow, FindsReset, IsRow, UnlessBare}
-use Rattle.irs_breaks.specs.RowFindings.{counted_reset, field_breaks, moved, our_starts, payment_counts}
-use Rattle.irs_breaks.specs.RowFindings.{periods_before, break_place, reset_place, their_starts}
+use Rattle.irs_breaks.specs.BreakLists.{FindsExchange, AreFieldBreaks, FindsPayment, ArePeriods, ArePeriodsOf}
+use Rattle.irs_breaks.specs.BreakLists.{FindsRows, IsExchangeRow, IsPaymentRow, IsPeriodRow, FindsReset, IsRow}
+use Rattle.irs_breaks.specs.BreakLists.{UnlessBare, counted_reset, field_breaks, moved, our_starts, payment_counts}
+use Rattle.irs_breaks.specs.BreakLists.{periods_before, break_place, reset_place, their_starts}
+use Rattle.irs_breaks.specs.Findings.{AreBreaks, TiesTo, counts_in, exchange_fields, payment_fields, period_fields}
+use Rattle.irs_breaks.specs.Findings.{reset_fields, Exactly, Findings, OnRow, RowAt, Then, UpTo, one_pair}
+use Rattle.irs_breaks.specs.Findings.{joined_findings, no_findings}
 use Rattle.irs_breaks.specs.declared.dated.PairedRow.{PairedRow}
 use Rattle.irs_breaks.specs.declared.findings.BreakPlace.{BreakPlace}
 use Rattle.irs_breaks.specs.declared.values.FieldValues.{FieldValues}

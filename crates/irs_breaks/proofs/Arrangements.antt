@@ -6,8 +6,7 @@ use Rattle.std.specs.Ordering.{int_eq}
 use Rattle.std.proofs.lemmas.Bool.{both_ways, cases_Bool}
 use Rattle.std.proofs.lemmas.List.Sorted.{Contains-permutation, IsPermutation-sym, list_any-IsPermutation, sum_by-IsPermutation}
 use Rattle.irs_breaks.specs.Private.Blocks.{AreTogether, IsCommon}
-use Rattle.irs_breaks.specs.Dated.{row_before}
-use Rattle.irs_breaks.specs.Pairing.{ArePaired, are_together, has_date, is_common, rank_at, size_at}
+use Rattle.irs_breaks.specs.Pairing.{row_before, ArePaired, are_together, has_date, is_common, rank_at, size_at}
 use Rattle.irs_breaks.specs.declared.dated.DatedRow.{DatedRow}
 use Rattle.irs_breaks.proofs.DateLemmas.{common_false, common_true, false_common, together_alike, together_back, together_false}
 use Rattle.irs_breaks.proofs.DateLemmas.{together_more, together_true, true_common, true_together}

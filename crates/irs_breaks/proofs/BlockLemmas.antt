@@ -4,10 +4,8 @@ use Rattle.std.proofs.Common.{ℤ, Some, arith, sym, subst, ap, ◌∙◌}
 use Rattle.std.specs.List.{Contains}
 use Rattle.std.proofs.lemmas.Bool.{and_left, and_right, cases_eq, cases_lt}
 use Rattle.std.proofs.lemmas.Option.{get_or_from_slice_get, slice_get-get_or, slice_get_within}
-use Rattle.irs_breaks.specs.Blocks.{At}
+use Rattle.irs_breaks.specs.Pairing.{At, row_before, ArePaired, are_together, rank_at, size_at}
 use Rattle.irs_breaks.specs.Private.Blocks.{AreRising, AreTogether, IsBlock, IsEarlier, IsEdge, IsInside}
-use Rattle.irs_breaks.specs.Dated.{row_before}
-use Rattle.irs_breaks.specs.Pairing.{ArePaired, are_together, rank_at, size_at}
 use Rattle.irs_breaks.specs.declared.blocks.Block.{Block}
 use Rattle.irs_breaks.specs.declared.dated.DatedRow.{DatedRow}
 use Rattle.irs_breaks.proofs.DateLemmas.{and_both, common_false, false_common, together_back, together_false}

@@ -6,25 +6,23 @@ use Rattle.std.proofs.lemmas.Bool.{cases_lt, eq-eqb}
 use Rattle.std.proofs.lemmas.List.Sums.{sum_by-cons, sum_by_more, sum_by-take-le}
 use Rattle.std.proofs.lemmas.Option.{get_or_from_slice_get, none-some, same_Some, slice_get_cases, slice_get_past, slice_get_within}
 use Rattle.irs_base.specs.Days.{IsDay, first_day}
-use Rattle.irs_base.specs.DayLists.{AreDays}
-use Rattle.irs_base.specs.Members.{Every, Pairs}
+use Rattle.irs_base.specs.Lists.{AreDays, Every, Pairs}
 use Rattle.irs_base.proofs.MemberLemmas.{every_get}
 use Rattle.irs_base.proofs.Orders.{true_le}
 use Rattle.irs_base.specs.declared.line.Dec.{Dec}
-use Rattle.irs_terms.specs.Currencies.{decimals_of}
+use Rattle.irs_terms.specs.Lawful.{decimals_of}
 use Rattle.irs_terms.specs.declared.currency.Currency.{Currency}
 use Rattle.irs_terms.specs.declared.results.Exchange.{Exchange}
 use Rattle.irs_terms.specs.declared.results.Reset.{Reset}
 use Rattle.irs_schedule.specs.Parts.{EntriesCover, IsDatedExchange, IsDatedPayment, IsWithin, KeepsBounds, Part}
-use Rattle.irs_schedule.specs.PeriodViews.{dated_period, period_at}
+use Rattle.irs_schedule.specs.RowsOf.{dated_period, period_at}
 use Rattle.irs_schedule.specs.declared.entries.PaymentEntry.{PaymentEntry}
 use Rattle.irs_schedule.specs.declared.entries.PeriodEntry.{PeriodEntry}
 use Rattle.irs_schedule.specs.declared.views.CalculationPeriod.{CalculationPeriod}
-use Rattle.irs_audit.specs.Agreement.{Agrees, KindDeparts, RowDeparts, StreamDeparts}
-use Rattle.irs_audit.specs.FieldDepartures.{ExchangeDeparts, PaymentDeparts, PeriodDeparts, ResetDeparts}
-use Rattle.irs_flows.specs.FlowBounds.{FlowsAreWithin, KeepsFlowBounds}
-use Rattle.irs_flows.specs.FlowParts.{FlowPart}
-use Rattle.irs_audit.specs.StatedValues.{StatesAmount, StatesNumber, NotStatedRightly, StatedWrongly, WhereKnown}
+use Rattle.irs_audit.specs.Verdicts.{Agrees, KindDeparts, RowDeparts, StreamDeparts, ExchangeDeparts, PaymentDeparts}
+use Rattle.irs_audit.specs.Verdicts.{PeriodDeparts, ResetDeparts, StatesAmount, StatesNumber, NotStatedRightly}
+use Rattle.irs_audit.specs.Verdicts.{StatedWrongly, WhereKnown}
+use Rattle.irs_flows.specs.FlowReading.{FlowsAreWithin, KeepsFlowBounds, FlowPart}
 use Rattle.irs_audit.specs.declared.departures.Field.{Field}
 use Rattle.irs_audit.specs.declared.departures.Field.TheVariants as field
 use Rattle.irs_audit.specs.declared.departures.RowKind.{RowKind}
@@ -34,18 +32,16 @@ use Rattle.irs_flows.specs.declared.flows.FlowPayment.{FlowPayment}
 use Rattle.irs_flows.specs.declared.flows.FlowPeriod.{FlowPeriod}
 use Rattle.irs_flows.specs.declared.flows.FlowReset.{FlowReset}
 use Rattle.irs_breaks.specs.BreakLists.{AreExchangesOf, ArePaymentsOf, HasBreak, IsBreakList, IsStream, StreamAt}
-use Rattle.irs_breaks.specs.Dated.{is_due}
-use Rattle.irs_breaks.specs.Counting.{counts_in, number_of, same_standing}
-use Rattle.irs_breaks.specs.Fields.{exchange_fields, notional_of, payment_fields, period_fields, rate_decimal}
-use Rattle.irs_breaks.specs.Fields.{reset_fields}
-use Rattle.irs_breaks.specs.Fields.{reset_or_nothing}
-use Rattle.irs_breaks.specs.Findings.{Exactly, Findings, Then, one_pair}
-use Rattle.irs_breaks.specs.OneNumber.{HaveOneNumber, PairsHaveOneNumber, RowsHaveOneNumber}
-use Rattle.irs_breaks.specs.RowFindings.{FindsExchange, AreFieldBreaks, FindsPayment, ArePeriods, ArePeriodsOf}
-use Rattle.irs_breaks.specs.RowFindings.{IsExchangeRow, IsPaymentRow, IsPeriodRow, FindsReset, IsRow, UnlessBare}
-use Rattle.irs_breaks.specs.RowFindings.{break_at, counted_reset, extra_reset, member_at, moved, our_starts, ours_alone, payment_counts}
-use Rattle.irs_breaks.specs.RowFindings.{periods_before, break_place, reset_place, their_starts, theirs_alone}
-use Rattle.irs_breaks.specs.Values.{Differ, standing_of, stands_by}
+use Rattle.irs_breaks.specs.BreakLists.{FindsExchange, AreFieldBreaks, FindsPayment, ArePeriods, ArePeriodsOf}
+use Rattle.irs_breaks.specs.BreakLists.{IsExchangeRow, IsPaymentRow, IsPeriodRow, FindsReset, IsRow, UnlessBare}
+use Rattle.irs_breaks.specs.BreakLists.{break_at, counted_reset, extra_reset, member_at, moved, our_starts, ours_alone}
+use Rattle.irs_breaks.specs.BreakLists.{payment_counts, periods_before, break_place, reset_place, their_starts}
+use Rattle.irs_breaks.specs.BreakLists.{theirs_alone}
+use Rattle.irs_breaks.specs.Pairing.{is_due}
+use Rattle.irs_breaks.specs.Findings.{counts_in, number_of, same_standing, exchange_fields, notional_of, payment_fields}
+use Rattle.irs_breaks.specs.Findings.{period_fields, rate_decimal, reset_fields, reset_or_nothing, Exactly, Findings}
+use Rattle.irs_breaks.specs.Findings.{Then, one_pair, Differ, standing_of, stands_by}
+use Rattle.irs_breaks.specs.Laws.{HaveOneNumber, PairsHaveOneNumber, RowsHaveOneNumber}
 use Rattle.irs_breaks.specs.declared.counting.Counts.{Counts}
 use Rattle.irs_breaks.specs.declared.dated.PairedRow.{PairedRow}
 use Rattle.irs_breaks.specs.declared.findings.BreakPlace.{BreakPlace}

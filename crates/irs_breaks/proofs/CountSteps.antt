@@ -2,8 +2,7 @@
 use Rattle.std.proofs.Common.{◌≡◌, inl, inr, ℕ, ◌+◌, ◌<◌, List, [], ◌∷◌, ◌++◌, length, take, get_or, cond, refl, sym, subst, ap, ◌∙◌}
 use Rattle.std.proofs.lemmas.List.{take_more}
 use Rattle.std.proofs.lemmas.List.Sums.{sum_by_more}
-use Rattle.irs_breaks.specs.Counting.{AreBreaks, number_of, same_standing}
-use Rattle.irs_breaks.specs.Values.{Differ, standing_of}
+use Rattle.irs_breaks.specs.Findings.{AreBreaks, number_of, same_standing, Differ, standing_of}
 use Rattle.irs_breaks.specs.declared.values.FieldValues.{FieldValues}
 use Rattle.irs_breaks.specs.declared.values.Standing.{Standing}
 

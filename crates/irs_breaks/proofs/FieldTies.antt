@@ -1,24 +1,22 @@
 -- A field differs exactly where it is compared and the audit says that it departs.
 use Rattle.std.proofs.Common.{◌≡◌, ◌≤◌, Option, Some, None, ℤ, arith, refl}
 use Rattle.std.specs.Prelude.{IfSome}
-use Rattle.irs_audit.specs.Comparisons.{IsBoundedFraction}
-use Rattle.irs_audit.specs.FieldDepartures.{ExchangeDeparts, PaymentDeparts, PeriodDeparts, ResetDeparts}
-use Rattle.irs_audit.specs.StatedValues.{StatesAmount, StatesFraction, StatesNumber, NotStatedRightly, StatedWrongly}
-use Rattle.irs_audit.specs.StatedValues.{WhereKnown}
+use Rattle.irs_audit.specs.StatedFlows.{IsBoundedFraction}
+use Rattle.irs_audit.specs.Verdicts.{ExchangeDeparts, PaymentDeparts, PeriodDeparts, ResetDeparts, StatesAmount}
+use Rattle.irs_audit.specs.Verdicts.{StatesFraction, StatesNumber, NotStatedRightly, StatedWrongly, WhereKnown}
 use Rattle.irs_flows.specs.declared.flows.FlowExchange.{FlowExchange}
 use Rattle.irs_flows.specs.declared.flows.FlowPayment.{FlowPayment}
 use Rattle.irs_flows.specs.declared.flows.FlowPeriod.{FlowPeriod}
 use Rattle.irs_flows.specs.declared.flows.FlowReset.{FlowReset}
-use Rattle.irs_base.specs.Members.{Every}
+use Rattle.irs_base.specs.Lists.{Every}
 use Rattle.irs_base.specs.declared.line.Dec.{Dec}
 use Rattle.irs_schedule.specs.declared.entries.PaymentEntry.{PaymentEntry}
 use Rattle.irs_schedule.specs.declared.views.CalculationPeriod.{CalculationPeriod}
 use Rattle.irs_terms.specs.declared.currency.Currency.{Currency}
 use Rattle.irs_terms.specs.declared.results.Exchange.{Exchange}
 use Rattle.irs_terms.specs.declared.results.Reset.{Reset}
-use Rattle.irs_breaks.specs.Counting.{IsComparable, TiesTo}
-use Rattle.irs_breaks.specs.Fields.{exchange_fields, payment_fields, period_fields, rate_decimal, reset_fields}
-use Rattle.irs_breaks.specs.Values.{CanBeCompared, standing_of, stands_by}
+use Rattle.irs_breaks.specs.Findings.{IsComparable, TiesTo, exchange_fields, payment_fields, period_fields}
+use Rattle.irs_breaks.specs.Findings.{rate_decimal, reset_fields, CanBeCompared, standing_of, stands_by}
 use Rattle.irs_breaks.specs.declared.values.Standing.TheVariants.{Compared}
 use Rattle.irs_breaks.specs.declared.values.Values.TheVariants.{Numbers}
 

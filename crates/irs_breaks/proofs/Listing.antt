@@ -7,14 +7,10 @@ use Rattle.std.proofs.lemmas.Bool.{cases_lt}
 use Rattle.std.proofs.lemmas.List.Elements.{Contains-append_left, Contains-push}
 use Rattle.std.proofs.lemmas.List.Sorted.{Contains-permutation, IsPermutation-sym}
 use Rattle.std.proofs.lemmas.Option.{none-some, slice_get_within}
-use Rattle.irs_breaks.specs.Blocks.{At}
-use Rattle.irs_breaks.specs.Private.Blocks.{IsPartner}
-use Rattle.irs_breaks.specs.Dated.{rows_from}
-use Rattle.irs_breaks.specs.Private.Merging.{IsDatedRow, IsMergedTo}
-use Rattle.irs_breaks.specs.PairedRows.{Ahead, ComesBefore, IsListedRow, IsPairing, row_of_ours}
-use Rattle.irs_breaks.specs.PairedRows.{extra, missing, paired, undated, undated_extra, undated_ours, undated_theirs}
-use Rattle.irs_breaks.specs.Pairing.{ArePaired}
-use Rattle.irs_breaks.specs.Private.Undated.{AreListedTo, ListsUndated, ListsUndatedExtras}
+use Rattle.irs_breaks.specs.Pairing.{At, rows_from, Ahead, ComesBefore, IsListedRow, IsPairing, row_of_ours, extra}
+use Rattle.irs_breaks.specs.Pairing.{missing, paired, undated, undated_extra, undated_ours, undated_theirs, ArePaired}
+use Rattle.irs_breaks.specs.Private.Blocks.{IsPartner, IsDatedRow, IsMergedTo, AreListedTo, ListsUndated}
+use Rattle.irs_breaks.specs.Private.Blocks.{ListsUndatedExtras}
 use Rattle.irs_breaks.specs.declared.dated.DatedRow.{DatedRow}
 use Rattle.irs_breaks.specs.declared.dated.PairedRow.{PairedRow}
 use Rattle.irs_breaks.proofs.Arrangements.{arranged_paired, paired_back}

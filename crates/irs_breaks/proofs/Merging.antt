@@ -3,7 +3,7 @@ use Rattle.std.proofs.Common.{◌≡◌, ◌⊎◌, inl, inr, ⊎_elim, ℕ, zer
 use Rattle.std.proofs.Common.{ℤ, ◌<ℤ◌, ◌≤ℤ◌, arith, refl, sym, subst, true, false, ap, is_none, get_or, take}
 use Rattle.irs_base.proofs.MemberLemmas.{pairs_more}
 use Rattle.irs_base.proofs.Orders.{lt_false, lt_true}
-use Rattle.irs_base.specs.Members.{Pairs}
+use Rattle.irs_base.specs.Lists.{Pairs}
 use Rattle.std.specs.Ordering.{int_cmp, is_lt}
 use Rattle.irs_breaks.proofs.Arrangements.{swap_paired}
 use Rattle.irs_breaks.proofs.NextBlock.{least}
@@ -12,11 +12,9 @@ use Rattle.std.proofs.lemmas.Bool.{cases_lt}
 use Rattle.std.proofs.lemmas.List.Elements.{Contains-append_left, Contains-push, Contains-push_cases}
 use Rattle.std.proofs.lemmas.Option.{get_or_from_slice_get, none-some, same_Some, slice_get-get_or, slice_get_within}
 use Rattle.jiff_core.proofs.SignedLemmas.{signed_arith}
-use Rattle.irs_breaks.specs.Blocks.{At}
-use Rattle.irs_breaks.specs.Private.Blocks.{AreRising, IsEarlier, IsPartner}
-use Rattle.irs_breaks.specs.Private.Merging.{IsAlone, IsBeforeAll, IsDatedRow, IsMergedBefore, IsMergedTo, IsNotBefore}
-use Rattle.irs_breaks.specs.PairedRows.{AreRowsInOrder, ComesBefore, row_of_ours, row_of_theirs}
-use Rattle.irs_breaks.specs.Pairing.{ArePaired}
+use Rattle.irs_breaks.specs.Pairing.{At, AreRowsInOrder, ComesBefore, row_of_ours, row_of_theirs, ArePaired}
+use Rattle.irs_breaks.specs.Private.Blocks.{AreRising, IsEarlier, IsPartner, IsAlone, IsBeforeAll, IsDatedRow}
+use Rattle.irs_breaks.specs.Private.Blocks.{IsMergedBefore, IsMergedTo, IsNotBefore}
 use Rattle.irs_breaks.specs.declared.dated.DatedRow.{DatedRow}
 use Rattle.irs_breaks.specs.declared.dated.PairedRow.{PairedRow}
 use Rattle.irs_breaks.proofs.RowLemmas.{one_at}

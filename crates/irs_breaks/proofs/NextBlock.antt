@@ -4,7 +4,7 @@ use Rattle.std.proofs.Common.{arith, refl, sym, subst, ap, ◌∙◌}
 use Rattle.std.proofs.lemmas.Bool.{cases_lt}
 use Rattle.std.proofs.lemmas.Option.{slice_get_within}
 use Rattle.jiff_core.proofs.SignedLemmas.{signed_arith}
-use Rattle.irs_breaks.specs.Blocks.{At}
+use Rattle.irs_breaks.specs.Pairing.{At}
 use Rattle.irs_breaks.specs.Private.Blocks.{AreRising, AreTogether, IsBetween, IsBlock, IsCommon, IsDateEnd, IsDone}
 use Rattle.irs_breaks.specs.Private.Blocks.{IsEarlier, IsEdge, IsGapTo, IsInside, IsLeft, MeetsAt, MeetsBoth}
 use Rattle.irs_breaks.specs.declared.blocks.Block.{Block}

@@ -2,22 +2,21 @@
 use Rattle.std.proofs.Common.{◌≡◌, inl, inr, ℕ, zero, suc, ◌+◌, Bool, true, false, List, [], ◌∷◌, length, Option, Some, None}
 use Rattle.std.proofs.Common.{ℤ, sym, subst, ap, ap₂, ◌∙◌}
 use Rattle.std.specs.Prelude.{slice_get, max, option_and_then, unwrap_or, ◌==◌, ◌-◌, ◌++◌}
-use Rattle.irs_schedule.specs.PeriodViews.{period_at}
+use Rattle.irs_schedule.specs.RowsOf.{period_at}
 use Rattle.irs_terms.specs.declared.results.Reset.{Reset}
 use Rattle.irs_schedule.specs.Parts.{Part}
-use Rattle.irs_flows.specs.FlowParts.{FlowPart}
+use Rattle.irs_flows.specs.FlowReading.{FlowPart}
 use Rattle.irs_flows.specs.declared.flows.FlowReset.{FlowReset}
 use Rattle.irs_audit.specs.declared.departures.RowKind.TheVariants as row
 use Rattle.irs_breaks.specs.BreakLists.{AreExchangesOf, ArePaymentsOf, IsBreakList, IsStream, StreamAt, first_due}
 use Rattle.irs_breaks.specs.BreakLists.{exchange_dates, payment_row_dates, stated_exchange_dates, stated_payment_dates}
-use Rattle.irs_breaks.specs.Counting.{AreBreaks, counts_in}
-use Rattle.irs_breaks.specs.Fields.{exchange_fields, payment_fields, period_fields, reset_fields, reset_or_nothing}
-use Rattle.irs_breaks.specs.Findings.{EachRow, Exactly, Findings, OnRow, RowAt, Then, UpTo, one_pair, joined_findings}
-use Rattle.irs_breaks.specs.RowFindings.{FindsExchange, AreFieldBreaks, FindsPayment, ArePeriods, ArePeriodsOf}
-use Rattle.irs_breaks.specs.RowFindings.{FindsRows}
-use Rattle.irs_breaks.specs.RowFindings.{IsExchangeRow, IsPaymentRow, IsPeriodRow, FindsReset, IsRow, UnlessBare}
-use Rattle.irs_breaks.specs.RowFindings.{counted_reset, field_breaks, member_at, moved, payment_counts, reset_place}
-use Rattle.irs_breaks.specs.RowFindings.{periods_before, break_place, our_starts, their_starts}
+use Rattle.irs_breaks.specs.BreakLists.{FindsExchange, AreFieldBreaks, FindsPayment, ArePeriods, ArePeriodsOf}
+use Rattle.irs_breaks.specs.BreakLists.{FindsRows, IsExchangeRow, IsPaymentRow, IsPeriodRow, FindsReset, IsRow}
+use Rattle.irs_breaks.specs.BreakLists.{UnlessBare, counted_reset, field_breaks, member_at, moved, payment_counts}
+use Rattle.irs_breaks.specs.BreakLists.{reset_place, periods_before, break_place, our_starts, their_starts}
+use Rattle.irs_breaks.specs.Findings.{AreBreaks, counts_in, exchange_fields, payment_fields, period_fields}
+use Rattle.irs_breaks.specs.Findings.{reset_fields, reset_or_nothing, EachRow, Exactly, Findings, OnRow, RowAt, Then}
+use Rattle.irs_breaks.specs.Findings.{UpTo, one_pair, joined_findings}
 use Rattle.irs_base.specs.Days.{first_day}
 use Rattle.irs_breaks.specs.declared.dated.PairedRow.{PairedRow}
 use Rattle.irs_breaks.specs.declared.findings.BreakPlace.{BreakPlace}

@@ -4,8 +4,7 @@ use Rattle.std.proofs.Common.{ℤ, ◌<ℤ◌, arith, refl, sym, subst, ap, ap�
 use Rattle.std.specs.List.{Contains}
 use Rattle.std.proofs.lemmas.Option.{same_Some, slice_get-get_or}
 use Rattle.jiff_core.proofs.SignedLemmas.{signed_arith}
-use Rattle.irs_breaks.specs.Blocks.{At}
-use Rattle.irs_breaks.specs.PairedRows.{Ahead, AreRowsInOrder, ComesBefore, IsPairing}
+use Rattle.irs_breaks.specs.Pairing.{At, Ahead, AreRowsInOrder, ComesBefore, IsPairing}
 use Rattle.irs_breaks.specs.declared.dated.PairedRow.{PairedRow}
 use Rattle.irs_breaks.proofs.Merging.{contains_at}
 

@@ -5,11 +5,9 @@ use Rattle.std.specs.List.{count_by}
 use Rattle.std.proofs.lemmas.Bool.{and_parts, and_right, cases_order, false≢true}
 use Rattle.std.proofs.lemmas.Option.{none-some, same_Some}
 use Rattle.jiff_core.proofs.SignedLemmas.{signed_arith}
-use Rattle.irs_breaks.specs.Blocks.{At}
+use Rattle.irs_breaks.specs.Pairing.{At, row_before, ArePaired, are_together, rank_at}
 use Rattle.irs_breaks.specs.Private.Blocks.{AreTogether, IsBetween, IsCommon, IsEarlier}
-use Rattle.irs_breaks.specs.Dated.{row_before}
 use Rattle.irs_breaks.specs.Laws.{DontCross, HasOnePartner}
-use Rattle.irs_breaks.specs.Pairing.{ArePaired, are_together, rank_at}
 use Rattle.irs_breaks.specs.declared.dated.DatedRow.{DatedRow}
 use Rattle.irs_breaks.proofs.Arrangements.{ranks_same, same_dates, swap_paired}
 use Rattle.irs_breaks.proofs.BlockLemmas.{at_contains}

@@ -4,12 +4,10 @@ use Rattle.std.proofs.Common.{Option, Some, None, ℤ, arith, refl, sym, subst, 
 use Rattle.std.specs.Prelude.{slice_get, option_map, IfSome}
 use Rattle.std.specs.List.{Contains}
 use Rattle.std.proofs.lemmas.Option.{cond_some, none-some, same_Some, slice_get-get_or, slice_get-map}
-use Rattle.irs_breaks.specs.Dated.{dated_row, in_front, is_due, rows_from}
+use Rattle.irs_breaks.specs.Pairing.{dated_row, in_front, is_due, rows_from, IsListedRow, row_of_ours, row_of_theirs}
+use Rattle.irs_breaks.specs.Pairing.{undated_theirs, extra, missing, paired, undated_extra, ArePaired}
 use Rattle.irs_breaks.specs.Findings.{Findings, OnRow, RowAt}
-use Rattle.irs_breaks.specs.PairedRows.{IsListedRow, row_of_ours, row_of_theirs, undated_theirs}
-use Rattle.irs_breaks.specs.PairedRows.{extra, missing, paired, undated_extra}
-use Rattle.irs_breaks.specs.Pairing.{ArePaired}
-use Rattle.irs_breaks.specs.RowFindings.{FindsRows}
+use Rattle.irs_breaks.specs.BreakLists.{FindsRows}
 use Rattle.irs_breaks.specs.declared.dated.DatedRow.{DatedRow}
 use Rattle.irs_breaks.specs.declared.dated.PairedRow.{PairedRow}
 use Rattle.irs_breaks.proofs.Quiet.{IsQuiet, quiet_up_to}

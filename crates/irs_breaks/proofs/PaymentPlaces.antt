@@ -4,7 +4,7 @@ use Rattle.std.proofs.Common.{arith, refl, subst, ap, ◌∙◌}
 use Rattle.std.specs.Prelude.{slice_get, sum_by}
 use Rattle.std.proofs.lemmas.List.Sums.{sum_by-cons}
 use Rattle.std.proofs.lemmas.Option.{none-some, same_Some}
-use Rattle.irs_base.specs.Members.{Pairs}
+use Rattle.irs_base.specs.Lists.{Pairs}
 use Rattle.irs_schedule.specs.Parts.{EntriesCover, KeepsBounds, Part}
 use Rattle.irs_schedule.specs.declared.entries.PaymentEntry.{PaymentEntry}
 use Rattle.irs_schedule.proofs.WalkLemmas.{covers_within}

@@ -9,22 +9,20 @@ use Rattle.std.proofs.lemmas.List.Sums.{sum_by_more}
 use Rattle.std.proofs.lemmas.Option.{none-some, slice_get_within}
 use Rattle.irs_terms.specs.declared.results.Reset.{Reset}
 use Rattle.irs_schedule.specs.Parts.{KeepsBounds, Part}
-use Rattle.irs_schedule.specs.PeriodViews.{period_at}
+use Rattle.irs_schedule.specs.RowsOf.{period_at}
 use Rattle.irs_schedule.specs.declared.entries.PaymentEntry.{PaymentEntry}
 use Rattle.irs_schedule.specs.declared.views.CalculationPeriod.{CalculationPeriod}
-use Rattle.irs_audit.specs.Comparisons.{IsBoundedFraction}
-use Rattle.irs_flows.specs.FlowParts.{FlowPart}
+use Rattle.irs_audit.specs.StatedFlows.{IsBoundedFraction}
+use Rattle.irs_flows.specs.FlowReading.{FlowPart}
 use Rattle.irs_flows.specs.declared.flows.FlowPayment.{FlowPayment}
 use Rattle.irs_flows.specs.declared.flows.FlowPeriod.{FlowPeriod}
 use Rattle.irs_flows.specs.declared.flows.FlowReset.{FlowReset}
 use Rattle.irs_audit.proofs.BoundLemmas.{payment_kept, period_small}
-use Rattle.irs_breaks.specs.Counting.{counts_in}
-use Rattle.irs_breaks.specs.Fields.{payment_fields, period_fields}
-use Rattle.irs_breaks.specs.Findings.{Findings, Then, one_pair, joined_findings, no_findings, one_break}
-use Rattle.irs_breaks.specs.Private.Findings.{Adds}
-use Rattle.irs_breaks.specs.RowFindings.{AreFieldBreaks, FindsPayment, ArePeriods, ArePeriodsOf, FindsReset, UnlessBare}
-use Rattle.irs_breaks.specs.Private.RowFindings.{AreStarts}
-use Rattle.irs_breaks.specs.RowFindings.{counted_reset, extra_reset, member_at, payment_counts, periods_before}
+use Rattle.irs_breaks.specs.Findings.{counts_in, payment_fields, period_fields, Findings, Then, one_pair}
+use Rattle.irs_breaks.specs.Findings.{joined_findings, no_findings, one_break}
+use Rattle.irs_breaks.specs.Private.Findings.{Adds, AreStarts}
+use Rattle.irs_breaks.specs.BreakLists.{AreFieldBreaks, FindsPayment, ArePeriods, ArePeriodsOf, FindsReset, UnlessBare}
+use Rattle.irs_breaks.specs.BreakLists.{counted_reset, extra_reset, member_at, payment_counts, periods_before}
 use Rattle.irs_breaks.specs.declared.counting.Counts.{Counts}
 use Rattle.irs_breaks.specs.declared.findings.BreakPlace.{BreakPlace}
 use Rattle.irs_breaks.specs.declared.values.FieldValues.{FieldValues}

@@ -4,13 +4,11 @@ use Rattle.std.proofs.Common.{Option, Some, None, ℤ, arith, refl, sym, subst, 
 use Rattle.std.specs.List.{Contains}
 use Rattle.std.proofs.lemmas.Bool.{cases_Bool}
 use Rattle.std.proofs.lemmas.Option.{none-some, slice_get_within, same_Some}
-use Rattle.irs_base.specs.Members.{Every}
+use Rattle.irs_base.specs.Lists.{Every}
 use Rattle.irs_base.proofs.MemberLemmas.{every_get}
-use Rattle.irs_breaks.specs.Blocks.{At}
-use Rattle.irs_breaks.specs.Dated.{dated_row, in_front, is_due, rows_from}
-use Rattle.irs_breaks.specs.PairedRows.{IsListedRow, IsPairing, IsPlacedRow, row_of_ours}
-use Rattle.irs_breaks.specs.PairedRows.{extra, missing, paired, undated, undated_extra}
-use Rattle.irs_breaks.specs.Pairing.{ArePaired, are_together, has_date}
+use Rattle.irs_breaks.specs.Pairing.{At, dated_row, in_front, is_due, rows_from, IsListedRow, IsPairing, IsPlacedRow}
+use Rattle.irs_breaks.specs.Pairing.{row_of_ours, extra, missing, paired, undated, undated_extra, ArePaired}
+use Rattle.irs_breaks.specs.Pairing.{are_together, has_date}
 use Rattle.irs_breaks.specs.declared.dated.DatedRow.{DatedRow}
 use Rattle.irs_breaks.specs.declared.dated.PairedRow.{PairedRow}
 use Rattle.irs_breaks.proofs.BlockLemmas.{at_contains}

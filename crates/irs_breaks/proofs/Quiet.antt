@@ -5,13 +5,12 @@ use Rattle.std.specs.Prelude.{sum_by}
 use Rattle.std.proofs.lemmas.Bool.{cases_Bool, cases_lt}
 use Rattle.std.proofs.lemmas.List.Sums.{sum_by-append}
 use Rattle.std.proofs.lemmas.Option.{none-some}
-use Rattle.irs_base.specs.Members.{Every}
+use Rattle.irs_base.specs.Lists.{Every}
 use Rattle.irs_base.specs.declared.line.Dec.{Dec}
-use Rattle.irs_breaks.specs.Counting.{AreBreaks, number_of, same_standing}
-use Rattle.irs_breaks.specs.Findings.{Findings, Then, UpTo, one_pair, joined_findings, one_break}
-use Rattle.irs_breaks.specs.RowFindings.{AreFieldBreaks, IsRow, unpaired, break_at, field_breaks, ours_alone}
-use Rattle.irs_breaks.specs.RowFindings.{theirs_alone}
-use Rattle.irs_breaks.specs.Values.{Differ, standing_of}
+use Rattle.irs_breaks.specs.Findings.{AreBreaks, number_of, same_standing, Findings, Then, UpTo, one_pair}
+use Rattle.irs_breaks.specs.Findings.{joined_findings, one_break, Differ, standing_of}
+use Rattle.irs_breaks.specs.BreakLists.{AreFieldBreaks, IsRow, unpaired, break_at, field_breaks, ours_alone}
+use Rattle.irs_breaks.specs.BreakLists.{theirs_alone}
 use Rattle.irs_breaks.specs.declared.counting.Counts.{Counts}
 use Rattle.irs_breaks.specs.declared.findings.Break.{Break}
 use Rattle.irs_breaks.specs.declared.findings.BreakPlace.{BreakPlace}

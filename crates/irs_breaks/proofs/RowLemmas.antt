@@ -10,9 +10,8 @@ use Rattle.std.proofs.lemmas.List.Sums.{sum_by-cons}
 use Rattle.std.proofs.lemmas.Option.{same_Some, none-some}
 use Rattle.jiff_core.proofs.SignedLemmas.{signed_arith}
 use Rattle.irs_base.proofs.Orders.{lt_true, true_lt}
-use Rattle.irs_breaks.specs.Blocks.{At}
+use Rattle.irs_breaks.specs.Pairing.{At, row_before}
 use Rattle.irs_breaks.specs.Private.Blocks.{IsEarlier}
-use Rattle.irs_breaks.specs.Dated.{row_before}
 use Rattle.irs_breaks.specs.declared.dated.DatedRow.{DatedRow}
 
 -- two days that pass the test are equal

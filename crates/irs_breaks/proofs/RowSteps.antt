@@ -1,7 +1,7 @@
 -- The rows that have a date and are due, one by one.
 use Rattle.std.proofs.Common.{◌≡◌, ℕ, ◌+◌, ◌<◌, ◌≤◌, List, [], ◌∷◌, ◌++◌, length, drop, get_or, Option, Some, None, ℤ, refl, sym, ap, ◌∙◌}
 use Rattle.std.proofs.lemmas.List.{append-nil, append_assoc, drop_all, drop_more}
-use Rattle.irs_breaks.specs.Dated.{dated_row, in_front, rows_from}
+use Rattle.irs_breaks.specs.Pairing.{dated_row, in_front, rows_from}
 use Rattle.irs_breaks.specs.declared.dated.DatedRow.{DatedRow}
 
 front : (from : ℤ) (n : ℕ) (date : Option ℤ) (dates : List (Option ℤ))

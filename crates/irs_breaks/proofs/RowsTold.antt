@@ -2,16 +2,15 @@
 use Rattle.std.proofs.Common.{◌≡◌, ℕ, ◌+◌, ◌<◌, ◌≤◌, List, [], ◌∷◌, ◌++◌, length, take, get_or, Option, Some, None}
 use Rattle.std.proofs.Common.{ℤ, refl, sym, subst, ap, ◌∙◌}
 use Rattle.std.proofs.lemmas.List.{map-append, take_all}
-use Rattle.irs_breaks.specs.Findings.{EachRow, Exactly, Findings, Then, joined_findings, no_findings, one_break}
+use Rattle.irs_breaks.specs.Findings.{EachRow, Exactly, Findings, Then, joined_findings, no_findings, one_break, Differ}
 use Rattle.irs_breaks.specs.Private.Findings.{Adds}
 use Rattle.std.proofs.lemmas.Option.{none-some}
 use Rattle.irs_terms.specs.declared.results.Exchange.{Exchange}
 use Rattle.irs_schedule.specs.Parts.{KeepsBounds, Part}
 use Rattle.irs_audit.proofs.BoundLemmas.{exchange_decimals}
-use Rattle.irs_breaks.specs.RowFindings.{AreFieldBreaks, FindsRows, IsRow, break_at, field_breaks, member_at}
-use Rattle.irs_breaks.specs.PairedRows.{IsPairing}
+use Rattle.irs_breaks.specs.BreakLists.{AreFieldBreaks, FindsRows, IsRow, break_at, field_breaks, member_at}
+use Rattle.irs_breaks.specs.Pairing.{IsPairing}
 use Rattle.irs_breaks.specs.declared.dated.PairedRow.{PairedRow}
-use Rattle.irs_breaks.specs.Values.{Differ}
 use Rattle.irs_breaks.specs.declared.findings.Break.{Break}
 use Rattle.irs_breaks.specs.declared.findings.BreakPlace.{BreakPlace}
 use Rattle.irs_breaks.specs.declared.findings.What.TheVariants as what

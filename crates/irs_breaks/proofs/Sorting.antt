@@ -10,9 +10,8 @@ use Rattle.std.proofs.lemmas.Cmp.{by_ranked, int_cmp_total, int_ranked, nat_cmp_
 use Rattle.std.specs.Cmp.{IsTotalOrder}
 use Rattle.std.specs.Ordering.{int_cmp, is_lt, nat_cmp, on, ordering_then, then_cmp}
 use Rattle.jiff_core.proofs.SignedLemmas.{signed_arith}
-use Rattle.irs_breaks.specs.Blocks.{At}
+use Rattle.irs_breaks.specs.Pairing.{At, dated_row, in_front, is_due, rows_from}
 use Rattle.irs_breaks.specs.Private.Blocks.{AreRising, IsEarlier}
-use Rattle.irs_breaks.specs.Dated.{dated_row, in_front, is_due, rows_from}
 use Rattle.irs_breaks.specs.declared.dated.DatedRow.{DatedRow}
 use Rattle.irs_breaks.proofs.RowLemmas.{counted, counted_none, counted_one}
 

@@ -5,29 +5,26 @@ use Rattle.std.specs.Prelude.{slice_get, option_map, sum_by, ◌==◌}
 use Rattle.std.proofs.lemmas.Bool.{cases_Bool, eqb-true}
 use Rattle.std.proofs.lemmas.List.Sums.{sum_by-append}
 use Rattle.std.proofs.lemmas.Option.{none-some, same_Some, slice_get-map, slice_get_cases}
-use Rattle.irs_base.specs.Members.{Every}
+use Rattle.irs_base.specs.Lists.{Every}
 use Rattle.irs_base.proofs.MemberLemmas.{every_get}
 use Rattle.irs_base.specs.declared.line.Dec.{Dec}
 use Rattle.irs_terms.specs.declared.currency.Currency.{Currency}
 use Rattle.irs_terms.specs.declared.results.Exchange.{Exchange}
 use Rattle.irs_terms.specs.declared.results.Reset.{Reset}
 use Rattle.irs_schedule.specs.Parts.{IsWithin, KeepsBounds, Part}
-use Rattle.irs_schedule.specs.PeriodViews.{dated_period, period_at}
+use Rattle.irs_schedule.specs.RowsOf.{dated_period, period_at}
 use Rattle.irs_schedule.specs.declared.entries.PaymentEntry.{PaymentEntry}
 use Rattle.irs_schedule.specs.declared.views.CalculationPeriod.{CalculationPeriod}
-use Rattle.irs_flows.specs.FlowParts.{FlowPart}
-use Rattle.irs_audit.specs.StatedFlows.{stated_amount, stated_exchange, stated_flows, stated_number, stated_part, stated_payment}
-use Rattle.irs_audit.specs.StatedFlows.{stated_period, stated_periods_from, stated_reset}
+use Rattle.irs_flows.specs.FlowReading.{FlowPart}
+use Rattle.irs_audit.specs.StatedFlows.{stated_amount, stated_exchange, stated_flows, stated_number, stated_part}
+use Rattle.irs_audit.specs.StatedFlows.{stated_payment, stated_period, stated_periods_from, stated_reset}
 use Rattle.irs_flows.specs.declared.flows.FlowExchange.{FlowExchange}
 use Rattle.irs_flows.specs.declared.flows.FlowPayment.{FlowPayment}
 use Rattle.irs_flows.specs.declared.flows.FlowPeriod.{FlowPeriod}
 use Rattle.irs_audit.proofs.StatedLemmas.{flows_agree, stated_at, stated_get}
-use Rattle.irs_breaks.specs.BreakLists.{IsBreakList}
-use Rattle.irs_breaks.specs.Counting.{counts_in, number_of, same_standing}
-use Rattle.irs_breaks.specs.Fields.{exchange_fields, payment_fields, period_fields, rate_decimal}
-use Rattle.irs_breaks.specs.Findings.{Findings, one_pair}
-use Rattle.irs_breaks.specs.RowFindings.{counted_reset, payment_counts}
-use Rattle.irs_breaks.specs.Values.{standing_of}
+use Rattle.irs_breaks.specs.BreakLists.{IsBreakList, counted_reset, payment_counts}
+use Rattle.irs_breaks.specs.Findings.{counts_in, number_of, same_standing, exchange_fields, payment_fields}
+use Rattle.irs_breaks.specs.Findings.{period_fields, rate_decimal, Findings, one_pair, standing_of}
 use Rattle.irs_breaks.specs.declared.counting.Counts.{Counts}
 use Rattle.irs_breaks.specs.declared.values.FieldValues.{FieldValues}
 use Rattle.irs_breaks.specs.declared.values.Standing.TheVariants.{Unstated}

@@ -4,7 +4,7 @@ use Rattle.std.specs.Prelude.{option_copied, slice_get}
 use Rattle.std.specs.Slice.{IsItemAt}
 use Rattle.std.proofs.lemmas.Option.{slice_get_past, slice_get_read}
 use Rattle.irs_schedule.specs.Parts.{Part}
-use Rattle.irs_flows.specs.FlowParts.{FlowPart}
+use Rattle.irs_flows.specs.FlowReading.{FlowPart}
 use Rattle.irs_breaks.specs.BreakLists.{AreExchangesOf, ArePaymentsOf, IsStream, StreamAt, whole_stream}
 use Rattle.irs_breaks.specs.Findings.{Findings, UpTo, joined_findings, no_findings}
 use Rattle.irs_breaks.specs.Private.Findings.{Adds}

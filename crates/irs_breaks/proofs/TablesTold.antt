@@ -1,13 +1,13 @@
 -- The findings of the rows of two lists that are paired.
 use Rattle.std.proofs.Common.{◌≡◌, ℕ, ◌-◌, List, length, length-drop, map, take, drop, Option, ℤ, arith, sym, subst, ap, ◌∙◌}
 use Rattle.std.proofs.lemmas.List.{take_all}
-use Rattle.irs_base.specs.Members.{Every}
-use Rattle.irs_flows.specs.FlowParts.{FlowPart}
+use Rattle.irs_base.specs.Lists.{Every}
+use Rattle.irs_flows.specs.FlowReading.{FlowPart}
 use Rattle.irs_flows.specs.declared.flows.FlowPeriod.{FlowPeriod}
 use Rattle.irs_breaks.specs.Findings.{EachRow, Findings}
 use Rattle.irs_breaks.specs.Private.Findings.{Adds}
-use Rattle.irs_breaks.specs.PairedRows.{IsPairing, IsPlacedRow}
-use Rattle.irs_breaks.specs.RowFindings.{FindsRows}
+use Rattle.irs_breaks.specs.Pairing.{IsPairing, IsPlacedRow}
+use Rattle.irs_breaks.specs.BreakLists.{FindsRows}
 use Rattle.irs_breaks.specs.declared.dated.PairedRow.{PairedRow}
 use Rattle.irs_breaks.proofs.RowsTold.{adds_told}
 

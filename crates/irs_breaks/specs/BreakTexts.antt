@@ -8,11 +8,10 @@ use Rattle.std.specs.List.{flat_map}
 use Rattle.irs_base.specs.Texts.{day_text, dec_text}
 use Rattle.irs_base.specs.declared.line.Dec.{Dec}
 use Rattle.irs_terms.specs.declared.currency.Currency.{Currency}
-use Rattle.irs_schedule.specs.RowTexts.{dec_or_dash}
-use Rattle.irs_audit.specs.RowNames.{field_name, row_name}
+use Rattle.irs_schedule.specs.RowsOf.{dec_or_dash}
+use Rattle.irs_audit.specs.Verdicts.{field_name, row_name}
 use Rattle.irs_flows.specs.declared.flows.StatedFraction.{StatedFraction}
-use Rattle.irs_breaks.specs.Counting.{counted_as}
-use Rattle.irs_breaks.specs.Findings.{Findings}
+use Rattle.irs_breaks.specs.Findings.{counted_as, Findings}
 use Rattle.irs_breaks.specs.declared.findings.Break.{Break}
 use Rattle.irs_breaks.specs.declared.findings.BreakPlace.{BreakPlace}
 use Rattle.irs_breaks.specs.declared.findings.What.{What}

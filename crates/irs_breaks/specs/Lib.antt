@@ -1,14 +1,6 @@
-pub mod Dated
 pub mod Pairing
-pub mod Blocks
-pub mod PairedRows
 pub mod Laws
-pub mod Values
-pub mod Fields
-pub mod Counting
 pub mod Findings
-pub mod RowFindings
 pub mod BreakLists
-pub mod OneNumber
 pub mod BreakTexts
 pub mod Private

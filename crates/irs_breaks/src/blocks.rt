@@ -1,7 +1,7 @@
 //! Two lists of rows in the order of their dates, walked block by block. A block holds the rows of one common
 //! date, or those of a gap between common dates.
 ghost use Rattle.std.specs.Prelude.{◌≡◌, ◌<◌, ◌≤◌, ◌+◌, IsFalse, IsTrue, length};
-ghost use Rattle.irs_breaks.specs.Blocks.{At};
+ghost use Rattle.irs_breaks.specs.Pairing.{At};
 ghost use Rattle.irs_breaks.specs.Private.Blocks.{AreRising, IsBlock, IsDateEnd, IsEdge, IsGapTo, MeetsAt, MeetsBoth};
 ghost use Rattle.irs_breaks.specs.declared.dated.DatedRow.{DatedRow};
 

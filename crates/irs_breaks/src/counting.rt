@@ -1,7 +1,7 @@
 //! How the fields of a pair are counted.
 ghost use Rattle.std.specs.Prelude.{◌≡◌, ◌+◌, ◌<◌, ◌^◌, length};
-ghost use Rattle.irs_breaks.specs.Counting.{counts_in};
-ghost use Rattle.irs_breaks.specs.Private.Counting.{together};
+ghost use Rattle.irs_breaks.specs.Findings.{counts_in};
+ghost use Rattle.irs_breaks.specs.Private.Findings.{together};
 
 use crate::values::{FieldValues, Standing, standing_of};
 

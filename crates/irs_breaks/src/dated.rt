@@ -2,7 +2,7 @@
 ghost use Rattle.std.specs.Prelude.{◌≡◌, IfOk};
 ghost use Rattle.std.specs.List.Sorted.{IsPermutation};
 ghost use Rattle.irs_breaks.specs.Private.Blocks.{AreRising};
-ghost use Rattle.irs_breaks.specs.Dated.{dated_row, rows_from};
+ghost use Rattle.irs_breaks.specs.Pairing.{dated_row, rows_from};
 
 use irs_base::{Day, Memory};
 use std::alloc::Global;

@@ -1,11 +1,11 @@
 //! The findings of the principal exchanges of a stream.
 ghost use Rattle.std.specs.Prelude.{◌≡◌, ◌≤◌, IfOk, OnOk, length};
-ghost use Rattle.irs_base.specs.Members.{Every};
-ghost use Rattle.irs_breaks.specs.BreakLists.{AreExchangesOf, exchange_dates, stated_exchange_dates};
+ghost use Rattle.irs_base.specs.Lists.{Every};
+ghost use Rattle.irs_breaks.specs.BreakLists.{AreExchangesOf, exchange_dates, stated_exchange_dates, FindsExchange};
+ghost use Rattle.irs_breaks.specs.BreakLists.{IsExchangeRow};
 ghost use Rattle.irs_breaks.specs.Findings.{EachRow};
 ghost use Rattle.irs_breaks.specs.Private.Findings.{Adds};
-ghost use Rattle.irs_breaks.specs.PairedRows.{IsPlacedRow};
-ghost use Rattle.irs_breaks.specs.RowFindings.{FindsExchange, IsExchangeRow};
+ghost use Rattle.irs_breaks.specs.Pairing.{IsPlacedRow};
 
 use crate::PairedRow;
 use crate::counting::counts_of;

@@ -1,12 +1,10 @@
 //! The fields of a pair of rows with the values of both sides, in the order in which they are compared.
 ghost use Rattle.std.specs.Prelude.{◌≡◌, ◌≤◌, IfSome};
-ghost use Rattle.irs_audit.specs.Comparisons.{IsBoundedFraction};
-ghost use Rattle.irs_audit.specs.FieldDepartures.{ExchangeDeparts, PaymentDeparts, PeriodDeparts, ResetDeparts};
-ghost use Rattle.irs_base.specs.Members.{Every};
-ghost use Rattle.irs_breaks.specs.Counting.{IsComparable, TiesTo};
-ghost use Rattle.irs_breaks.specs.Fields.{exchange_fields, notional_of, payment_fields, period_fields, rate_decimal};
-ghost use Rattle.irs_breaks.specs.Fields.{reset_fields};
-ghost use Rattle.irs_breaks.specs.Fields.{reset_or_nothing};
+ghost use Rattle.irs_audit.specs.StatedFlows.{IsBoundedFraction};
+ghost use Rattle.irs_audit.specs.Verdicts.{ExchangeDeparts, PaymentDeparts, PeriodDeparts, ResetDeparts};
+ghost use Rattle.irs_base.specs.Lists.{Every};
+ghost use Rattle.irs_breaks.specs.Findings.{IsComparable, TiesTo, exchange_fields, notional_of, payment_fields};
+ghost use Rattle.irs_breaks.specs.Findings.{period_fields, rate_decimal, reset_fields, reset_or_nothing};
 
 use crate::values::{FieldValues, Values};
 use irs_audit::Field;

@@ -1,11 +1,10 @@
 //! What is found where a schedule is compared with cash flows: the breaks, and how the fields of each pair are
 //! counted.
 ghost use Rattle.std.specs.Prelude.{◌≡◌, ◌↔◌, IsTrue, OnOk};
-ghost use Rattle.irs_base.specs.Members.{Every};
-ghost use Rattle.irs_breaks.specs.BreakLists.{HasBreak};
+ghost use Rattle.irs_base.specs.Lists.{Every};
+ghost use Rattle.irs_breaks.specs.BreakLists.{HasBreak, break_at};
 ghost use Rattle.irs_breaks.specs.Findings.{IsPrintable, IsPrintableWhat, one_pair, joined_findings, no_findings};
 ghost use Rattle.irs_breaks.specs.Findings.{one_break};
-ghost use Rattle.irs_breaks.specs.RowFindings.{break_at};
 
 use crate::counting::Counts;
 use crate::values::FieldValues;
@@ -61,7 +60,7 @@ pub struct BreakList {
 }
 
 impl Model for BreakList {
-    ghost use Rattle.irs_base.specs.Members.{Every};
+    ghost use Rattle.irs_base.specs.Lists.{Every};
     ghost use Rattle.irs_breaks.specs.Findings.{Findings, IsPrintable};
 
     ghost Value = { Findings };

@@ -1,15 +1,13 @@
 //! Laws of the pairing and of the list of breaks, each the contract of a function that does nothing.
 ghost use Rattle.std.specs.Prelude.{◌≡◌, List, None, Option, sum_by, ℤ};
-ghost use Rattle.irs_audit.specs.Agreement.{Agrees};
-ghost use Rattle.irs_flows.specs.FlowBounds.{FlowsAreWithin};
-ghost use Rattle.irs_flows.specs.FlowParts.{FlowPart};
+ghost use Rattle.irs_audit.specs.Verdicts.{Agrees};
+ghost use Rattle.irs_flows.specs.FlowReading.{FlowsAreWithin, FlowPart};
 ghost use Rattle.irs_audit.specs.StatedFlows.{stated_flows};
 ghost use Rattle.irs_breaks.specs.BreakLists.{HasBreak, IsBreakList};
 ghost use Rattle.irs_breaks.specs.Findings.{Findings};
 ghost use Rattle.irs_schedule.specs.Parts.{IsWithin, Part};
-ghost use Rattle.irs_breaks.specs.Laws.{DontCross, HasOnePartner, IsOnlyPairing, IsSymmetric};
-ghost use Rattle.irs_breaks.specs.OneNumber.{HaveOneNumber};
-ghost use Rattle.irs_breaks.specs.PairedRows.{IsPairing};
+ghost use Rattle.irs_breaks.specs.Laws.{DontCross, HasOnePartner, IsOnlyPairing, IsSymmetric, HaveOneNumber};
+ghost use Rattle.irs_breaks.specs.Pairing.{IsPairing};
 ghost use Rattle.irs_breaks.specs.declared.counting.Counts.{Counts};
 ghost use Rattle.irs_breaks.specs.declared.dated.DatedRow.{DatedRow};
 ghost use Rattle.irs_breaks.specs.declared.dated.PairedRow.{PairedRow};

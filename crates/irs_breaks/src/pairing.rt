@@ -4,12 +4,10 @@
 //! other dates into gaps. Where a gap holds as many rows of ours as of theirs, they are paired in order. The
 //! standard has no such pairing; it is our rule.
 ghost use Rattle.std.specs.Prelude.{◌≡◌, ◌<◌, ◌≤◌, ℕ, ℤ, IfOk, IsFalse, IsTrue, OnOk, Option, is_none, length, take};
-ghost use Rattle.irs_base.specs.Members.{Every, Pairs};
-ghost use Rattle.irs_breaks.specs.Blocks.{At};
-ghost use Rattle.irs_breaks.specs.Private.Blocks.{AreRising, IsBlock, IsEdge, IsPartner};
-ghost use Rattle.irs_breaks.specs.Private.Merging.{IsBeforeAll, IsMergedBefore, IsMergedTo, IsNotBefore};
-ghost use Rattle.irs_breaks.specs.PairedRows.{IsPairing, IsPlacedRow, row_of_ours};
-ghost use Rattle.irs_breaks.specs.Private.Undated.{ListsUndated, ListsUndatedExtras};
+ghost use Rattle.irs_base.specs.Lists.{Every, Pairs};
+ghost use Rattle.irs_breaks.specs.Pairing.{At, IsPairing, IsPlacedRow, row_of_ours};
+ghost use Rattle.irs_breaks.specs.Private.Blocks.{AreRising, IsBlock, IsEdge, IsPartner, IsBeforeAll, IsMergedBefore};
+ghost use Rattle.irs_breaks.specs.Private.Blocks.{IsMergedTo, IsNotBefore, ListsUndated, ListsUndatedExtras};
 ghost use Rattle.irs_breaks.specs.declared.dated.DatedRow.{DatedRow};
 
 use crate::blocks::{Block, next_block};

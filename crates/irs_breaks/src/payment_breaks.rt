@@ -1,13 +1,11 @@
 //! The findings of the payments of a stream.
 ghost use Rattle.std.specs.Prelude.{◌≡◌, ◌+◌, ◌<◌, ◌≤◌, min, IfSome, IfOk, OnOk, length, unwrap_or};
-ghost use Rattle.irs_base.specs.Members.{Every};
-ghost use Rattle.irs_breaks.specs.BreakLists.{ArePaymentsOf, payment_row_dates, stated_payment_dates};
-ghost use Rattle.irs_breaks.specs.Counting.{counts_in};
-ghost use Rattle.irs_breaks.specs.Findings.{EachRow};
-ghost use Rattle.irs_breaks.specs.Private.Findings.{Adds};
-ghost use Rattle.irs_breaks.specs.PairedRows.{IsPlacedRow};
-ghost use Rattle.irs_breaks.specs.RowFindings.{FindsPayment, IsPaymentRow, member_at, payment_counts};
-ghost use Rattle.irs_breaks.specs.Private.RowFindings.{AreStarts};
+ghost use Rattle.irs_base.specs.Lists.{Every};
+ghost use Rattle.irs_breaks.specs.BreakLists.{ArePaymentsOf, payment_row_dates, stated_payment_dates, FindsPayment};
+ghost use Rattle.irs_breaks.specs.BreakLists.{IsPaymentRow, member_at, payment_counts};
+ghost use Rattle.irs_breaks.specs.Findings.{counts_in, EachRow};
+ghost use Rattle.irs_breaks.specs.Private.Findings.{Adds, AreStarts};
+ghost use Rattle.irs_breaks.specs.Pairing.{IsPlacedRow};
 
 use crate::PairedRow;
 use crate::counting::{Counts, counts_of};

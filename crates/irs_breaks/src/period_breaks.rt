@@ -1,18 +1,15 @@
 //! The findings of the calculation periods of a pair of payments, and of their resets.
 ghost use Rattle.std.specs.Prelude.{◌≡◌, ◌+◌, ◌<◌, ◌≤◌, ◌++◌, IfSome, IfOk, OnOk, length, map, option_copied};
 ghost use Rattle.std.specs.Prelude.{option_and_then, option_map, take};
-ghost use Rattle.irs_audit.specs.Comparisons.{IsBoundedFraction};
-ghost use Rattle.irs_base.specs.Members.{Every};
-ghost use Rattle.irs_breaks.specs.Counting.{counts_in};
-ghost use Rattle.irs_breaks.specs.Fields.{notional_of};
-ghost use Rattle.irs_breaks.specs.Findings.{EachRow, joined_findings, one_break};
+ghost use Rattle.irs_audit.specs.StatedFlows.{IsBoundedFraction};
+ghost use Rattle.irs_base.specs.Lists.{Every};
+ghost use Rattle.irs_breaks.specs.Findings.{counts_in, notional_of, EachRow, joined_findings, one_break};
 ghost use Rattle.irs_breaks.specs.Private.Findings.{Adds};
-ghost use Rattle.irs_breaks.specs.PairedRows.{IsPlacedRow};
-ghost use Rattle.irs_breaks.specs.RowFindings.{ArePeriods, ArePeriodsOf, IsPeriodRow, FindsReset, counted_reset};
-ghost use Rattle.irs_breaks.specs.RowFindings.{extra_reset};
-ghost use Rattle.irs_breaks.specs.RowFindings.{moved, our_starts, reset_place};
+ghost use Rattle.irs_breaks.specs.Pairing.{IsPlacedRow};
+ghost use Rattle.irs_breaks.specs.BreakLists.{ArePeriods, ArePeriodsOf, IsPeriodRow, FindsReset, counted_reset};
+ghost use Rattle.irs_breaks.specs.BreakLists.{extra_reset, moved, our_starts, reset_place};
 ghost use Rattle.irs_flows.specs.declared.flows.FlowPeriod.{FlowPeriod};
-ghost use Rattle.irs_schedule.specs.PeriodViews.{period_at};
+ghost use Rattle.irs_schedule.specs.RowsOf.{period_at};
 
 use crate::PairedRow;
 use crate::counting::{Counts, both, counts_of};

@@ -1,12 +1,11 @@
 //! The findings of a row of the pairing, whatever its kind.
 ghost use Rattle.std.specs.Prelude.{◌≡◌, ◌+◌, ◌<◌, ◌≤◌, IfSome, OnOk, option_copied};
-ghost use Rattle.irs_base.specs.Members.{Every};
-ghost use Rattle.irs_breaks.specs.Counting.{IsComparable};
-ghost use Rattle.irs_breaks.specs.Findings.{joined_findings};
+ghost use Rattle.irs_base.specs.Lists.{Every};
+ghost use Rattle.irs_breaks.specs.Findings.{IsComparable, joined_findings};
 ghost use Rattle.irs_breaks.specs.Private.Findings.{Adds};
-ghost use Rattle.irs_breaks.specs.PairedRows.{IsPlacedRow};
-ghost use Rattle.irs_breaks.specs.RowFindings.{AreFieldBreaks, unpaired, member_at, numbered, ours_alone, break_place};
-ghost use Rattle.irs_breaks.specs.RowFindings.{theirs_alone};
+ghost use Rattle.irs_breaks.specs.Pairing.{IsPlacedRow};
+ghost use Rattle.irs_breaks.specs.BreakLists.{AreFieldBreaks, unpaired, member_at, numbered, ours_alone, break_place};
+ghost use Rattle.irs_breaks.specs.BreakLists.{theirs_alone};
 
 use crate::PairedRow;
 use crate::findings::{BreakList, BreakPlace, What};

@@ -10,14 +10,12 @@ ghost use Rattle.std.specs.Fmt.{signed_decimal};
 ghost use Rattle.std.specs.Int.{int_div_euclid, int_rem_euclid};
 ghost use Rattle.std.specs.Ordering.{int_eq};
 ghost use Rattle.std.specs.List.{flat_map};
-ghost use Rattle.irs_base.specs.Members.{Every};
+ghost use Rattle.irs_base.specs.Lists.{Every};
 ghost use Rattle.irs_base.specs.Texts.{day_text};
 ghost use Rattle.irs_breaks.specs.BreakTexts.{break_text, breaks_text, breaks_first_line, last_line, or_dash};
 ghost use Rattle.irs_breaks.specs.BreakTexts.{fraction_text, our_value, ours_text, place_fields, places_of, shortest, stated_text};
 ghost use Rattle.irs_breaks.specs.BreakTexts.{their_value, theirs_text, what_name};
-ghost use Rattle.irs_breaks.specs.Counting.{counted_as};
-ghost use Rattle.irs_breaks.specs.Findings.{IsPrintable, IsPrintableWhat};
-ghost use Rattle.irs_breaks.specs.Values.{CanBeCompared};
+ghost use Rattle.irs_breaks.specs.Findings.{counted_as, IsPrintable, IsPrintableWhat, CanBeCompared};
 ghost use Rattle.irs_terms.specs.declared.currency.Currency.{Currency};
 
 use crate::counting::Counts;

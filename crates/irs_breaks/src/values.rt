@@ -1,6 +1,6 @@
 //! The values of a field on both sides, and whether they differ.
 ghost use Rattle.std.specs.Prelude.{◌≡◌, ◌↔◌, IsTrue};
-ghost use Rattle.irs_breaks.specs.Values.{CanBeCompared, Differ, standing_of, stands_by};
+ghost use Rattle.irs_breaks.specs.Findings.{CanBeCompared, Differ, standing_of, stands_by};
 
 use irs_audit::{
     Field, count_is_wrong, currency_is_wrong, day_is_wrong, fraction_is_wrong, number_is_wrong,

@@ -23,17 +23,13 @@ use Rattle.irs_answers.specs.declared.refusals.Refusal.{Refusal}
 use Rattle.irs_answers.specs.declared.refusals.Refusal.TheVariants.{Rule, Calendars, Fixings, Flows, Memory, Unreadable}
 use Rattle.irs_answers.specs.declared.refusals.Refusal.TheVariants.{UnreadableFlows}
 use Rattle.irs_answers.specs.Forms.{json_text}
-use Rattle.irs_answers.specs.Due.{SpellsTask, facts}
-use Rattle.irs_answers.specs.Outcomes.{Answer, answer_of, Ends, IfRefused, IsScheduled, IsUnscheduled}
+use Rattle.irs_answers.specs.Due.{SpellsTask, facts, Answer, answer_of, Ends, IfRefused, IsScheduled, IsUnscheduled}
 use Rattle.irs_answers.proofs.DueLemmas.{passes_by, refuse_rules}
 use Rattle.irs_answers.proofs.OneAnswer.{one_due}
 use Rattle.irs_answers.proofs.PassLemmas.{passes_one, passes_due}
 use Rattle.irs_answers.proofs.StepLemmas.{read, unread, step_both}
-use Rattle.irs_bulk.specs.BulkCalendars.{calendar_text}
-use Rattle.irs_bulk.specs.BulkLines.{both_totals, line_text}
-use Rattle.irs_bulk.specs.BulkRuns.{AddsDocument, AreSums, DueAt, DueBulk, DueSchedule, HasBoth, IsScheduleOf, IsStop}
-use Rattle.irs_bulk.specs.BulkRuns.{files_of}
-use Rattle.irs_bulk.specs.BulkRuns.{one_total}
+use Rattle.irs_bulk.specs.BulkRuns.{calendar_text, both_totals, line_text, AddsDocument, AreSums, DueAt, DueBulk}
+use Rattle.irs_bulk.specs.BulkRuns.{DueSchedule, HasBoth, IsScheduleOf, IsStop, files_of, one_total}
 use Rattle.irs_bulk.specs.Documents.{bulk_document_text}
 use Rattle.irs_bulk.specs.declared.totals.Totals.{Totals}
 

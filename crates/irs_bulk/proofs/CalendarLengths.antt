@@ -2,7 +2,7 @@
 use Rattle.std.proofs.Common.{◌≡◌, ℕ, zero, suc, ◌+◌, ◌*◌, ◌≤◌, length, length-append, refl, arith}
 use Rattle.std.specs.List.{flat_map}
 use Rattle.irs_base.specs.Limits.{most_bytes}
-use Rattle.irs_bulk.specs.BulkCalendars.{calendar_text, head_text, holidays_text, years_from}
+use Rattle.irs_bulk.specs.BulkRuns.{calendar_text, head_text, holidays_text, years_from}
 
 length_year : (y : ℕ) → length (holidays_text y) ≡ 22
 length_year y = refl

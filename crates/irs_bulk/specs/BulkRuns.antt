@@ -1,20 +1,84 @@
--- What `bulk N` comes to: the first of its documents that has no schedule, or the sums over the schedules of all.
-use Rattle.std.specs.Prelude.{◌≡◌, ◌⊎◌, ℕ, zero, suc, ◌<◌, ◌≤◌, List, [], ◌∷◌, Bool, true, false, None}
-use Rattle.irs_answers.specs.declared.tasks.Task.TheVariants.{Schedule}
-use Rattle.irs_answers.specs.Due.{DueFor, Facts, PassesEachStep}
-use Rattle.irs_answers.specs.Forms.{json_text, no_source_text}
-use Rattle.irs_answers.specs.Given.{Given}
-use Rattle.irs_answers.specs.Steps.{Is, ReadStep}
-use Rattle.irs_audit.specs.StatedFlows.{stated_flows}
-use Rattle.irs_audit.specs.Sums.{sums_in}
+-- What `bulk N` comes to, with its calendar and its line.
+use Rattle.std.specs.Prelude.{ℕ, zero, suc, ◌+◌, List, [], ◌∷◌, ◌++◌, codes, ◌*◌, ◌^◌, ◌≤◌, decimal, pos, ◌+ℤ◌}
+use Rattle.std.specs.Prelude.{unsigned_abs, ◌≡◌, ◌⊎◌, ◌<◌, Bool, true, false, None}
+use Rattle.std.specs.List.{flat_map}
+use Rattle.std.specs.Fmt.{signed_decimal}
+use Rattle.irs_base.specs.Texts.{date_text, dec_text}
+use Rattle.irs_base.specs.Limits.{rounded}
+use Rattle.irs_base.specs.declared.rounding.Direction.TheVariants.{Nearest}
+use Rattle.irs_schedule.specs.Parts.{Part}
+use Rattle.irs_audit.specs.StatedFlows.{stated_flows, sums_in}
 use Rattle.irs_audit.specs.Verdicts.{IsVerdict}
 use Rattle.irs_audit.specs.declared.departures.Verdict.{Verdict}
 use Rattle.irs_audit.specs.declared.departures.Verdict.TheVariants.{Yes, No}
-use Rattle.irs_bulk.specs.BulkCalendars.{calendar_text}
-use Rattle.irs_bulk.specs.BulkLines.{both_totals, line_text, no_totals}
-use Rattle.irs_bulk.specs.Documents.{bulk_document_text}
+use Rattle.irs_answers.specs.declared.tasks.Task.TheVariants.{Schedule}
+use Rattle.irs_answers.specs.Due.{DueFor, Facts, PassesEachStep}
+use Rattle.irs_answers.specs.Forms.{json_text, no_source_text, Given}
+use Rattle.irs_answers.specs.Messages.{Is, ReadStep}
+use Rattle.irs_bulk.specs.Documents.{most_bulk, bulk_document_text}
 use Rattle.irs_bulk.specs.declared.totals.Totals.{Totals}
-use Rattle.irs_schedule.specs.Parts.{Part}
+
+-- ---- the calendar of `bulk`: one centre, whose holidays are the first of January and the 25th of December
+
+-- consecutive years: the first, and how many
+abbrev pub years_from : ℕ → ℕ → List ℕ
+years_from first zero = []
+years_from first (suc n) = first ∷ years_from (first + 1) n
+
+-- the two holidays of a year, a line each
+abbrev pub holidays_text : ℕ → List ℕ
+holidays_text year = date_text year 1 1 ++ codes "\n" ++ date_text year 12 25 ++ codes "\n"
+
+-- the name of the centre, its cover and its weekend
+abbrev pub head_text : List ℕ
+head_text = codes "center BULK\ncover 1949-01-01 2012-12-31\nweekend SAT SUN\n"
+
+-- the calendar file, with the holidays of 64 years from 1949
+unfoldable pub calendar_text : List ℕ
+calendar_text = head_text ++ flat_map holidays_text (years_from 1949 64)
+
+-- ---- the sums of a run of `bulk`, and its line
+
+-- the greatest count of one document
+abbrev pub most_count : ℕ
+most_count = 2 ^ 32
+
+-- the greatest size of a sum of amounts or of days of one document
+abbrev pub most_sum : ℕ
+most_sum = 10 ^ 32
+
+-- the sums of that many documents, each with counts and sums within the limits
+pub record AreRunTotals (t : Totals) : Type 0 where
+  pub documents : t.documents ≤ most_bulk
+  pub rows : t.rows ≤ t.documents * most_count
+  pub total : unsigned_abs t.total ≤ t.documents * most_sum
+  pub days : unsigned_abs t.days ≤ t.documents * most_sum
+  pub agree : t.agree ≤ t.documents
+  pub first : t.first ≤ t.documents * most_count
+
+-- the sums of no documents
+abbrev pub no_totals : Totals
+no_totals = record { documents = 0; rows = 0; total = pos 0; days = pos 0; agree = 0; first = 0 }
+
+-- the sums of two runs, added up
+abbrev pub both_totals : Totals → Totals → Totals
+both_totals t u = record {
+  documents = t.documents + u.documents;
+  rows = t.rows + u.rows;
+  total = t.total +ℤ u.total;
+  days = t.days +ℤ u.days;
+  agree = t.agree + u.agree;
+  first = t.first + u.first;
+}
+
+-- the line of a run: N, ROWS, TOTAL with two decimals, DAYS, AGREE and FIRST
+unfoldable pub line_text : Totals → List ℕ
+line_text t =
+    codes "bulk " ++ decimal t.documents ++ 32 ∷ decimal t.rows
+    ++ 32 ∷ dec_text (rounded Nearest t.total (pos (10 ^ 10))) 2
+    ++ 32 ∷ signed_decimal t.days ++ 32 ∷ decimal t.agree ++ 32 ∷ decimal t.first ++ codes "\n"
+
+-- ---- what `bulk N` comes to: the first of its documents that has no schedule, or the sums over the schedules of all
 
 -- ---- the schedules of a document
 

@@ -1,2 +1,1 @@
 pub mod BulkRuns
-pub mod Tables

@@ -1,7 +1,7 @@
 //! The calendar of `bulk`.
 ghost use Rattle.std.specs.Prelude.{◌≡◌, ◌<◌, ◌≤◌, ◌++◌, length, IfOk, OnOk};
 ghost use Rattle.irs_base.specs.Limits.{most_bytes};
-ghost use Rattle.irs_bulk.specs.BulkCalendars.{calendar_text, holidays_text};
+ghost use Rattle.irs_bulk.specs.BulkRuns.{calendar_text, holidays_text};
 
 use crate::digits::{put, put_date};
 use irs_base::Memory;
@@ -21,7 +21,7 @@ fn put_holidays(text: &mut Vec<u8>, year: u32) -> Result<(), Memory>
 /// The calendar file of `bulk`, in a format of ours. Its one centre is BULK, from 1949-01-01 to
 /// 2012-12-31. It is closed on Saturdays, Sundays, and each first of January and 25th of December.
 /// `Memory` comes only where memory ran out.
-#[tactic(auto, using(crate::proofs::CalendarLengths::calendar_short), unfolding(crate::specs::BulkCalendars::calendar_text))]
+#[tactic(auto, using(crate::proofs::CalendarLengths::calendar_short), unfolding(crate::specs::BulkRuns::calendar_text))]
 pub fn bulk_calendar(alloc: Global) -> Result<Vec<u8>, Memory>
     ensures value { IfOk result (λ text. text.items ≡ calendar_text) }
     ensures short { length calendar_text ≤ most_bytes }

@@ -4,19 +4,16 @@
 //! those of the calendar, as `schedule` reports them. The memory of one document is freed before the next.
 ghost use Rattle.std.specs.Prelude.{◌≡◌, ◌<◌, ◌≤◌, ◌^◌, [], ◌∷◌, map, IfErr, IfOk, IfSome};
 ghost use Rattle.irs_terms.specs.Lawful.{IsLawfulSwap};
-ghost use Rattle.irs_answers.specs.Due.{SpellsTask};
+ghost use Rattle.irs_answers.specs.Due.{SpellsTask, Ends, IfRefused, IsScheduled, IsUnscheduled};
 ghost use Rattle.irs_answers.specs.Forms.{json_text};
-ghost use Rattle.irs_answers.specs.Outcomes.{Ends, IfRefused, IsScheduled, IsUnscheduled};
 ghost use Rattle.irs_answers.specs.Private.Outcomes.{IfAnswered};
-ghost use Rattle.irs_answers.specs.Replying.{reply_status, reply_text};
+ghost use Rattle.irs_answers.specs.Messages.{reply_status, reply_text};
 ghost use Rattle.irs_answers.specs.declared.tasks.Task.TheVariants.{Schedule as OfSchedule};
-ghost use Rattle.irs_bulk.specs.BulkCalendars.{calendar_text};
-ghost use Rattle.irs_bulk.specs.BulkLines.{AreRunTotals, line_text};
-ghost use Rattle.irs_bulk.specs.BulkRuns.{AddsDocument, AreSums, DueAt, DueBulk, DueSchedule, IsOneBulk};
-ghost use Rattle.irs_bulk.specs.Private.BulkRuns.{IsCalendar};
-ghost use Rattle.irs_bulk.specs.BulkRuns.{IsScheduleOf, agree_of, first_departing_row, one_total};
+ghost use Rattle.irs_bulk.specs.BulkRuns.{calendar_text, AreRunTotals, line_text, AddsDocument, AreSums, DueAt};
+ghost use Rattle.irs_bulk.specs.BulkRuns.{DueBulk, DueSchedule, IsOneBulk, IsScheduleOf, agree_of, first_departing_row};
+ghost use Rattle.irs_bulk.specs.BulkRuns.{one_total};
+ghost use Rattle.irs_bulk.specs.Private.BulkRuns.{IsCalendar, IsTable};
 ghost use Rattle.irs_bulk.specs.Documents.{bulk_document_text, most_bulk};
-ghost use Rattle.irs_bulk.specs.Private.Tables.{IsTable};
 
 use crate::{Totals, bulk_calendar, bulk_doc, bulk_text};
 use irs_answers::{Form, Refusal, Reply, Source, read_document};

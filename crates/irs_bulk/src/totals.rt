@@ -1,9 +1,9 @@
 //! What a run of `bulk` prints of its schedules.
 ghost use Rattle.std.specs.Prelude.{◌≡◌, ◌+◌, ◌*◌, ◌<◌, ◌≤◌, ◌++◌, ◌∷◌, length, unsigned_abs, decimal, pos, ◌+ℤ◌, ◌^◌};
-ghost use Rattle.irs_base.specs.Rounding.{rounded};
+ghost use Rattle.irs_base.specs.Limits.{rounded};
 ghost use Rattle.irs_base.specs.Texts.{dec_text};
 ghost use Rattle.irs_base.specs.declared.rounding.Direction.TheVariants.{Nearest};
-ghost use Rattle.irs_bulk.specs.BulkLines.{AreRunTotals, both_totals, line_text, most_sum, no_totals};
+ghost use Rattle.irs_bulk.specs.BulkRuns.{AreRunTotals, both_totals, line_text, most_sum, no_totals};
 ghost use Rattle.irs_bulk.specs.Documents.{most_bulk};
 
 use irs_base::{Dec, Direction, Line, round};
@@ -89,7 +89,7 @@ fn put_total(line: &mut Line, total: i128)
 
 /// Replaces what the line holds by the line of a run, `bulk N ROWS TOTAL DAYS AGREE FIRST`, with
 /// its line feed. TOTAL has two decimals, to which the sum is rounded.
-#[tactic(auto, unfolding(crate::specs::BulkLines::line_text))]
+#[tactic(auto, unfolding(crate::specs::BulkRuns::line_text))]
 pub fn bulk_text(totals: &Totals, line: &mut Line)
     requires { AreRunTotals totals.now }
     ensures { line.new ≡ line_text totals.now }

@@ -7,13 +7,12 @@ use Rattle.std.specs.Result.{IsErrAnd}
 use Rattle.std.specs.declared.alloc.Global.{Global}
 use Rattle.std.proofs.lemmas.List.{append-nil, take_all}
 use Rattle.irs_cli.specs.Commands.{IsListed, Words, word_texts}
-use Rattle.irs_cli.specs.Due.{Due}
+use Rattle.irs_cli.specs.Run.{Due}
 use Rattle.irs_cli.proofs.OneAnswer.{one_answer}
-use Rattle.irs_c.specs.Each.{AreOutcomes, IsExplained, IsOutcome, IsRun, Outcome}
+use Rattle.irs_c.specs.Each.{AreOutcomes, IsExplained, IsOutcome, IsRun, Outcome, status_alone, said_by, slot_of}
+use Rattle.irs_c.specs.Each.{AreText, IsAbsent, file_in, gives_in, words_in}
 use Rattle.irs_c.specs.Private.Each.{AreRuns, Made}
-use Rattle.irs_c.specs.Each.{status_alone, said_by, slot_of}
 use Rattle.irs_c.specs.Private.Each.{RunFor}
-use Rattle.irs_c.specs.Given.{AreText, IsAbsent, file_in, gives_in, words_in}
 use Rattle.irs_c.specs.declared.each.Answer.{Answer}
 use Rattle.irs_c.specs.declared.given.Bytes.{Bytes}
 use Rattle.irs_c.specs.declared.given.File.{File}

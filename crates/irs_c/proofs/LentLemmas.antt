@@ -5,16 +5,15 @@ use Rattle.std.proofs.lemmas.List.{append-nil}
 use Rattle.std.specs.declared.alloc.Global.{Global}
 use Rattle.std.specs.Prelude.{if◌then◌else◌, IfOk, IfSome, take}
 use Rattle.std.specs.Str.{bytes_eq}
-use Rattle.irs_answers.specs.Given.{files_given_by, no_files, too_many}
+use Rattle.irs_answers.specs.Forms.{files_given_by, no_files, too_many}
 use Rattle.irs_answers.specs.declared.common.Common.{Common}
 use Rattle.irs_outside.specs.Outside.{IsFrontUnder}
 use Rattle.irs_cli.specs.Commands.{Words, word_texts}
-use Rattle.irs_cli.specs.Fetching.{Holds, IsGiven}
-use Rattle.irs_cli.specs.Sharing.{files_with}
+use Rattle.irs_cli.specs.Given.{Holds, IsGiven, files_with}
 use Rattle.irs_cli.proofs.FetchLemmas.{front_whole}
 use Rattle.irs_cli.proofs.SharingLemmas.{gathers_as}
 use Rattle.irs_c.specs.Private.Each.{IsCommonIn, Made}
-use Rattle.irs_c.specs.Given.{file_in, gives_in}
+use Rattle.irs_c.specs.Each.{file_in, gives_in}
 use Rattle.irs_c.specs.declared.given.File.{File}
 
 first_of : (b : Bool) (x : List ℕ) (o p : Option (List ℕ)) (whole : List ℕ) → (o ≡ Some whole → p ≡ Some whole)

@@ -1,6 +1,6 @@
 -- What a caller sees of an empty text.
 use Rattle.std.proofs.Common.{◌≡◌, ℕ, zero, suc, List, [], ◌++◌, length, take, refl, sym, ap}
-use Rattle.irs_c.specs.Shown.{Shown}
+use Rattle.irs_c.specs.Each.{Shown}
 
 take_none : (n : ℕ) → (let none : List ℕ = [] in take n none ≡ none)
 take_none zero = refl

@@ -7,7 +7,7 @@ use Rattle.std.specs.Str.{IsUtf8}
 use Rattle.std.specs.declared.alloc.Global.{Global}
 use Rattle.irs_c.specs.declared.given.Bytes.{Bytes}
 use Rattle.irs_cli.specs.Commands.{word_texts}
-use Rattle.irs_c.specs.Given.{AreText, words_in}
+use Rattle.irs_c.specs.Each.{AreText, words_in}
 
 -- words that were made into text are text
 pub are_text : (made : List (String Global)) (ws : List Bytes) → word_texts made ≡ words_in ws → AreText ws

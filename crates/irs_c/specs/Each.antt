@@ -1,19 +1,60 @@
--- What one command over many trades comes to.
-use Rattle.std.specs.Prelude.{◌≡◌, ◌≢◌, ◌⊎◌, ℕ, ◌<◌, List, [], ◌∷◌, ◌++◌, length, take, drop, map}
-use Rattle.irs_cli.specs.Causes.{IsRunCause}
-use Rattle.irs_cli.specs.Commands.{IsListed, Words}
-use Rattle.irs_cli.specs.Due.{Due, IsOneAnswer}
-use Rattle.irs_cli.specs.Fetching.{Gives}
-use Rattle.irs_cli.specs.Given.{TellsAll}
+-- What a C caller lends and sees, and what one command over many trades comes to.
+use Rattle.std.specs.Prelude.{◌≡◌, ℕ, List, ◌++◌, length, take, drop, [], ◌∷◌, map, All, Some, None, if◌then◌else◌, ◌≢◌}
+use Rattle.std.specs.Prelude.{◌⊎◌, ◌<◌}
+use Rattle.std.specs.Str.{IsUtf8, bytes_eq}
+use Rattle.irs_outside.specs.Outside.{IsFrontUnder}
+use Rattle.irs_cli.specs.Commands.{Words, Wanted, Asked, Asks, IsListed}
+use Rattle.irs_cli.specs.Given.{Gives, NotLong, Told, ReachesFile, TellsAll}
+use Rattle.irs_cli.specs.Run.{no_file, IsRunCause, Due, IsOneAnswer}
 use Rattle.irs_cli.specs.declared.causes.RunCause.{RunCause}
 use Rattle.irs_main.specs.Sentences.{sentence_of}
 use Rattle.irs_main.specs.Shown.{shown}
-use Rattle.irs_c.specs.Given.{AreText, IsAbsent, file_in, gives_in, words_in}
-use Rattle.irs_c.specs.Shown.{Shown}
-use Rattle.irs_c.specs.declared.each.Answer.{Answer}
 use Rattle.irs_c.specs.declared.given.Bytes.{Bytes}
 use Rattle.irs_c.specs.declared.given.File.{File}
+use Rattle.irs_c.specs.declared.each.Answer.{Answer}
 use Rattle.irs_c.specs.declared.given.Trade.{Trade}
+
+-- ---- what a C caller sees of a text
+
+-- the buffer holds the front of the text that fits, and is otherwise as it was. `needed` is the length of the whole
+-- text
+pub record Shown (before after : List ℕ) (needed : ℕ) (text : List ℕ) : Type 0 where
+  pub front : after ≡ take (length before) text ++ drop (length text) before
+  pub count : needed ≡ length text
+
+-- ---- the words and files that a C caller lends
+
+-- the words, by their bytes
+abbrev pub words_in : List Bytes → Words
+words_in ws = map (λ w. w.at.now) ws
+
+-- each word is UTF-8
+abbrev pub AreText : List Bytes → Type 0
+AreText ws = All (λ w. IsUtf8 w.at.now) ws
+
+-- the bytes of the first file of this name
+abbrev pub file_in : List File → Told
+file_in [] name = None
+file_in (f ∷ fs) name = if bytes_eq f.name.at.now name then Some f.bytes.at.now else file_in fs name
+
+-- what fetches of lent files give
+abbrev pub gives_in : List File → Gives
+gives_in fs name most bytes = IsFrontUnder (file_in fs name) most bytes
+
+-- the file of the word at this place isn't lent
+pub record AbsentAt (told : Told) (place : ℕ) (w : Wanted) : Type 0 where
+  pub at : w.place ≡ place
+  pub none : told w.name ≡ None
+
+-- the words name a file that isn't lent, none before it is too long, and the text says which
+pub record IsAbsent (ws : Words) (told : Told) (text : List ℕ) : Type 0 where
+  pub asked : Asked
+  pub asks : Asks ws asked
+  pub place : ℕ
+  pub file : ReachesFile (NotLong told) (AbsentAt told place) asked.files
+  pub is_text : text ≡ no_file place
+
+-- ---- what one command over many trades comes to
 
 -- what a trade comes to: a status, the text, and the sentence that says what the text means
 pub record Outcome : Type 0 where

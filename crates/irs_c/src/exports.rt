@@ -1,12 +1,10 @@
 //! The functions that C calls. Their form is our rule; `bindings/irs.h` declares them in C.
 ghost use Rattle.std.specs.Prelude.{◌≡◌, ◌≢◌, ◌⊎◌, ◌<◌, ◌++◌, length, take, drop, OnOk, OnErr, IfOk, IfErr};
 ghost use Rattle.irs_cli.specs.Commands.{word_texts};
-ghost use Rattle.irs_cli.specs.Due.{IsOneAnswer};
+ghost use Rattle.irs_cli.specs.Run.{IsOneAnswer};
 ghost use Rattle.irs_cli.specs.Given.{TellsAll};
-ghost use Rattle.irs_c.specs.Each.{IsOutcome, IsRun, Outcome, SaysOfTrades};
+ghost use Rattle.irs_c.specs.Each.{IsOutcome, IsRun, Outcome, SaysOfTrades, words_in, file_in, AreText, Shown};
 ghost use Rattle.irs_c.specs.Private.Each.{outcome_by};
-ghost use Rattle.irs_c.specs.Given.{words_in, file_in, AreText};
-ghost use Rattle.irs_c.specs.Shown.{Shown};
 
 use crate::each::{Answer, answer_each};
 use crate::given::{Bytes, File, Trade};

@@ -1,7 +1,7 @@
 //! Words and files that a C caller lends.
 ghost use Rattle.std.specs.Prelude.{◌≡◌, ℕ, List, ◌++◌, Some, None, option_map, string_bytes};
 ghost use Rattle.irs_outside.specs.Outside.{IsFrontUnder};
-ghost use Rattle.irs_c.specs.Given.{file_in};
+ghost use Rattle.irs_c.specs.Each.{file_in};
 
 use irs_cli::{FetchErr, Files};
 use std::alloc::Global;

@@ -1,11 +1,9 @@
 //! What a run comes to, as a caller sees it: the status, the text and the sentence.
 ghost use Rattle.std.specs.Prelude.{◌≡◌, ◌≢◌, ◌<◌, ◌++◌, map, IfOk, IfErr, IfSome};
-ghost use Rattle.irs_cli.specs.Causes.{IsRunCause};
+ghost use Rattle.irs_cli.specs.Run.{IsRunCause, Due};
 ghost use Rattle.irs_cli.specs.Commands.{IsListed, word_texts};
-ghost use Rattle.irs_cli.specs.Due.{Due};
-ghost use Rattle.irs_c.specs.Each.{IsRun};
+ghost use Rattle.irs_c.specs.Each.{IsRun, file_in, gives_in, IsAbsent};
 ghost use Rattle.irs_c.specs.Private.Each.{IsCommonIn, outcome_by};
-ghost use Rattle.irs_c.specs.Given.{file_in, gives_in, IsAbsent};
 ghost use Rattle.irs_main.specs.Sentences.{sentence_of};
 ghost use Rattle.irs_main.specs.Shown.{shown};
 

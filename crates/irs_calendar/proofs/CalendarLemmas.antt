@@ -6,12 +6,10 @@ use Rattle.std.proofs.Math.Seq.{drop-cons}
 use Rattle.std.proofs.lemmas.List.{append-nil}
 use Rattle.std.proofs.lemmas.Bool.{cases_Bool}
 use Rattle.irs_calendar.specs.declared.sections.Section.{Section}
-use Rattle.irs_calendar.specs.Private.Files.{sections_of}
+use Rattle.irs_calendar.specs.Private.Files.{sections_of, in_file, then_file, calendars_in, SpotFails}
 use Rattle.std.specs.Str.{bytes_eq}
-use Rattle.irs_calendar.specs.Sections.{is_named, section_named}
-use Rattle.irs_calendar.specs.Selected.{with_found, sections_named, first_missing}
-use Rattle.irs_calendar.specs.FirstFaults.{Spot}
-use Rattle.irs_calendar.specs.Private.Calendars.{in_file, then_file, calendars_in, SpotFails}
+use Rattle.irs_calendar.specs.Sections.{is_named, section_named, with_found, sections_named, first_missing}
+use Rattle.irs_calendar.specs.Grammar.{Spot}
 
 -- past the end of a list nothing is left
 pub drop_all : {A : Type 0} (xs : List A) (i : ℕ) → length xs ≤ i → drop i xs ≡ []

@@ -5,11 +5,10 @@ use Rattle.std.proofs.Math.Seq.{drop-cons}
 use Rattle.irs_calendar.specs.declared.sections.Section.{Section}
 use Rattle.jiff_core.proofs.SignedLemmas.{signed_arith}
 use Rattle.irs_base.specs.Days.{first_day, last_day}
-use Rattle.irs_calendar.specs.GoodDays.{DaySet, SameDays}
-use Rattle.irs_calendar.specs.Runs.{CoveredRuns, set_of_runs}
-use Rattle.irs_calendar.specs.Private.Represents.{Represents}
-use Rattle.irs_calendar.specs.Selected.{later_day, earlier_day, latest_first, earliest_last, set_of_sections, AllCover}
-use Rattle.irs_calendar.specs.Selected.{CoversCommon}
+use Rattle.irs_calendar.specs.GoodDays.{DaySet, SameDays, CoveredRuns, set_of_runs}
+use Rattle.irs_calendar.specs.Private.Closed.{Represents}
+use Rattle.irs_calendar.specs.Sections.{later_day, earlier_day, latest_first, earliest_last, set_of_sections, AllCover}
+use Rattle.irs_calendar.specs.Sections.{CoversCommon}
 use Rattle.irs_calendar.proofs.CalendarLemmas.{drop_all}
 
 -- the sections that are borrowed

@@ -11,16 +11,12 @@ use Rattle.irs_calendar.specs.declared.part.State.{State}
 use Rattle.irs_base.specs.Limits.{most_holidays}
 use Rattle.irs_calendar.specs.declared.machine.Fault.{Fault}
 use Rattle.irs_calendar.specs.declared.calendars.CalErr.{CalErr}
-use Rattle.irs_calendar.specs.Words.{Said, Nothing, Center, Cover, Weekend, Holiday, Wrong}
-use Rattle.irs_calendar.specs.Private.Machine.{begun, after_center, after_cover, after_weekend, after_holiday}
-use Rattle.irs_calendar.specs.Private.Machine.{after_line, at_end}
-use Rattle.irs_calendar.specs.Private.Machine.{fits_section}
+use Rattle.irs_calendar.specs.Grammar.{Said, Nothing, Center, Cover, Weekend, Holiday, Wrong, line_said, seen_lines}
+use Rattle.irs_calendar.specs.Grammar.{Spot}
+use Rattle.irs_calendar.specs.Private.Files.{begun, after_center, after_cover, after_weekend, after_holiday, after_line}
+use Rattle.irs_calendar.specs.Private.Files.{at_end, fits_section, Place, numbered, then_read, sections_in, sections_of}
+use Rattle.irs_calendar.specs.Private.Files.{in_file, then_file, calendars_in, GivesAll}
 use Rattle.irs_calendar.specs.Sections.{is_named, AreDistinct}
-use Rattle.irs_calendar.specs.Words.{line_said}
-use Rattle.irs_calendar.specs.Private.Files.{Place, numbered, then_read, sections_in, sections_of}
-use Rattle.irs_calendar.specs.EndLines.{seen_lines}
-use Rattle.irs_calendar.specs.FirstFaults.{Spot}
-use Rattle.irs_calendar.specs.Private.Calendars.{in_file, then_file, calendars_in, GivesAll}
 use Rattle.irs_calendar.proofs.RisingLemmas.{not_true}
 
 -- where neither is, both are false

@@ -2,11 +2,9 @@
 use Rattle.std.proofs.Common.{◌≡◌, inl, inr, ℕ, ◌+◌, ◌==◌, Bool, true, false, ◌&&◌, List, [], ◌∷◌, length}
 use Rattle.std.proofs.Common.{refl, ap, arith}
 use Rattle.std.proofs.lemmas.Bool.{cases_Bool}
-use Rattle.irs_base.specs.Lines.{begins_feed, lines_of, with_byte}
-use Rattle.irs_calendar.specs.EndLines.{bad_line, is_none, seen_from}
-use Rattle.irs_calendar.specs.Private.EndLines.{EndsTruly}
-use Rattle.irs_calendar.specs.Words.{Wrong}
-use Rattle.irs_calendar.specs.Words.{line_said}
+use Rattle.irs_base.specs.Texts.{begins_feed, lines_of, with_byte}
+use Rattle.irs_calendar.specs.Grammar.{bad_line, is_none, seen_from, Wrong, line_said}
+use Rattle.irs_calendar.specs.Private.Files.{EndsTruly}
 
 some_with : (b : ℕ) (ls : List (List ℕ)) → is_none (with_byte b ls) ≡ false
 some_with b [] = refl

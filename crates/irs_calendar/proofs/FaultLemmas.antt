@@ -6,7 +6,9 @@ use Rattle.std.proofs.lemmas.List.{append-nil}
 use Rattle.std.proofs.lemmas.Bool.{cases_Bool}
 use Rattle.jiff_core.specs.Calendar.{days_from_civil, day_count, days_of_years, days_of_months}
 use Rattle.irs_base.specs.Limits.{most_holidays}
-use Rattle.irs_calendar.specs.EndLines.{seen_lines}
+use Rattle.irs_calendar.specs.Grammar.{seen_lines, Said, Nothing, Center, Cover, Weekend, Holiday, Wrong, line_said}
+use Rattle.irs_calendar.specs.Grammar.{no_days, Spot, RisesWithin, CalFiles, SpellsSections, CanGoOn, IsRepeat}
+use Rattle.irs_calendar.specs.Grammar.{IsOneTooMany, IsFaultKind, IsFaultBehind, IsFirstCalendarFault}
 use Rattle.irs_base.proofs.Orders.{le_true, true_le, both_true}
 use Rattle.irs_calendar.specs.declared.sections.Section.{Section}
 use Rattle.irs_calendar.specs.declared.part.Part.{Part}
@@ -14,19 +16,10 @@ use Rattle.irs_calendar.specs.declared.part.Part.TheVariants.{Between, Named, Co
 use Rattle.irs_calendar.specs.declared.part.State.{State}
 use Rattle.irs_calendar.specs.declared.machine.Fault.{Fault}
 use Rattle.irs_calendar.specs.declared.machine.Fault.TheVariants.{Syntax, Repeat, TooMany}
-use Rattle.irs_calendar.specs.Private.Rising.{all_before}
+use Rattle.irs_calendar.specs.Private.Files.{all_before, begun, after_center, after_cover, after_weekend, after_holiday}
+use Rattle.irs_calendar.specs.Private.Files.{after_line, at_end, fits_section, Place, numbered, then_read, sections_in}
+use Rattle.irs_calendar.specs.Private.Files.{sections_of, in_file, then_file, calendars_in}
 use Rattle.irs_calendar.specs.Sections.{is_named, AreDistinct}
-use Rattle.irs_calendar.specs.Words.{Said, Nothing, Center, Cover, Weekend, Holiday, Wrong}
-use Rattle.irs_calendar.specs.Private.Machine.{begun, after_center, after_cover, after_weekend, after_holiday}
-use Rattle.irs_calendar.specs.Private.Machine.{after_line, at_end}
-use Rattle.irs_calendar.specs.Private.Machine.{fits_section}
-use Rattle.irs_calendar.specs.Words.{line_said, no_days}
-use Rattle.irs_calendar.specs.Private.Files.{Place, numbered, then_read, sections_in, sections_of}
-use Rattle.irs_calendar.specs.FirstFaults.{Spot}
-use Rattle.irs_calendar.specs.Private.Calendars.{in_file, then_file, calendars_in}
-use Rattle.irs_calendar.specs.Grammar.{RisesWithin, CalFiles}
-use Rattle.irs_calendar.specs.FirstFaults.{SpellsSections, CanGoOn, IsRepeat, IsOneTooMany, IsFaultKind, IsFaultBehind}
-use Rattle.irs_calendar.specs.FirstFaults.{IsFirstCalendarFault}
 use Rattle.irs_calendar.proofs.DistinctLemmas.{same_state, then_ok, numbered_ok, then_file_ok, file_ok, calendars_apart}
 use Rattle.irs_calendar.proofs.DistinctLemmas.{sections_apart}
 use Rattle.irs_calendar.proofs.GrammarLemmas.{reads_continue, lines_read, rises_more, rises_to}

@@ -4,11 +4,9 @@ use Rattle.irs_calendar.specs.declared.sections.Section.{Section}
 use Rattle.irs_calendar.specs.declared.part.State.{State}
 use Rattle.irs_calendar.specs.declared.files.FileErr.{FileErr}
 use Rattle.irs_calendar.specs.declared.files.FileErr.TheVariants as errors
-use Rattle.irs_calendar.specs.Private.Machine.{after_line, at_end}
-use Rattle.irs_calendar.specs.Words.{line_said}
-use Rattle.irs_base.specs.Lines.{lines_of}
-use Rattle.irs_calendar.specs.EndLines.{seen_from}
-use Rattle.irs_calendar.specs.Private.Files.{Place, numbered, then_read, sections_in, FileFails}
+use Rattle.irs_calendar.specs.Private.Files.{after_line, at_end, Place, numbered, then_read, sections_in, FileFails}
+use Rattle.irs_calendar.specs.Grammar.{line_said, seen_from}
+use Rattle.irs_base.specs.Texts.{lines_of}
 
 -- a line that is read hands its state to the next line
 pub goes_on : (n : ℕ) (s t : State) (line : List ℕ) (lines more : List (List ℕ)) (whole : Result (List Section) Place)

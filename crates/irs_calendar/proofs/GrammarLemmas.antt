@@ -7,7 +7,9 @@ use Rattle.std.specs.Str.{bytes_eq}
 use Rattle.std.proofs.lemmas.List.{append-nil}
 use Rattle.std.proofs.lemmas.Bool.{cases_Bool}
 use Rattle.jiff_core.proofs.SignedLemmas.{signed_arith}
-use Rattle.irs_calendar.specs.EndLines.{seen_lines}
+use Rattle.irs_calendar.specs.Grammar.{seen_lines, Said, Nothing, Center, Cover, Weekend, Holiday, Wrong, line_said}
+use Rattle.irs_calendar.specs.Grammar.{with_said, said_lines, section_lines, spelt, RisesWithin, IsLawfulSection}
+use Rattle.irs_calendar.specs.Grammar.{AreLawful, AreSpelt, joined_sections, CalFiles}
 use Rattle.irs_base.proofs.Orders.{le_true, true_le, lt_true, true_lt, both_true}
 use Rattle.irs_calendar.specs.declared.sections.Section.{Section}
 use Rattle.irs_base.specs.Limits.{most_holidays}
@@ -15,18 +17,10 @@ use Rattle.irs_calendar.specs.declared.part.Part.{Part}
 use Rattle.irs_calendar.specs.declared.part.Part.TheVariants.{Between, Named, Covered, Open}
 use Rattle.irs_calendar.specs.declared.part.State.{State}
 use Rattle.irs_calendar.specs.declared.machine.Fault.{Fault}
-use Rattle.irs_calendar.specs.Private.Rising.{all_before}
+use Rattle.irs_calendar.specs.Private.Files.{all_before, begun, after_center, after_cover, after_weekend, after_holiday}
+use Rattle.irs_calendar.specs.Private.Files.{after_line, at_end, fits_section, numbered, sections_in, sections_of}
+use Rattle.irs_calendar.specs.Private.Files.{in_file, calendars_in}
 use Rattle.irs_calendar.specs.Sections.{is_named, AreDistinct}
-use Rattle.irs_calendar.specs.Words.{Said, Nothing, Center, Cover, Weekend, Holiday, Wrong}
-use Rattle.irs_calendar.specs.Private.Machine.{begun, after_center, after_cover, after_weekend, after_holiday}
-use Rattle.irs_calendar.specs.Private.Machine.{after_line, at_end}
-use Rattle.irs_calendar.specs.Private.Machine.{fits_section}
-use Rattle.irs_calendar.specs.Words.{line_said}
-use Rattle.irs_calendar.specs.Private.Files.{numbered, sections_in, sections_of}
-use Rattle.irs_calendar.specs.Private.Calendars.{in_file, calendars_in}
-use Rattle.irs_calendar.specs.Grammar.{with_said, said_lines, section_lines, spelt, RisesWithin, IsLawfulSection}
-use Rattle.irs_calendar.specs.Grammar.{AreLawful}
-use Rattle.irs_calendar.specs.Grammar.{AreSpelt, joined_sections, CalFiles}
 use Rattle.irs_calendar.proofs.DistinctLemmas.{numbered_ok, then_ok, file_ok, then_file_ok, same_state, or_false}
 use Rattle.irs_calendar.proofs.DistinctLemmas.{turned}
 

@@ -7,8 +7,8 @@ use Rattle.std.specs.Ordering.{int_cmp, is_le}
 use Rattle.jiff_core.proofs.SignedLemmas.{signed_arith, one_part, unsigned_abs-parts}
 use Rattle.std.specs.Prelude.{unsigned_abs}
 use Rattle.irs_calendar.specs.declared.runs.Run.{Run}
-use Rattle.irs_calendar.specs.Runs.{CoveredRuns, holds_day}
-use Rattle.irs_calendar.specs.Private.Represents.{Represents}
+use Rattle.irs_calendar.specs.GoodDays.{CoveredRuns, holds_day}
+use Rattle.irs_calendar.specs.Private.Closed.{Represents}
 use Rattle.std.proofs.lemmas.Option.{same_Some}
 use Rattle.irs_base.proofs.Orders.{le_true, true_le, both_true}
 use Rattle.irs_calendar.proofs.ClosedLemmas.{Turn}

@@ -12,8 +12,7 @@ use Rattle.std.proofs.lemmas.Option.{same_Some}
 use Rattle.std.proofs.lemmas.Slice.Eq.{bytes_eq-Decides}
 use Rattle.std.proofs.lemmas.Bool.{cases_Bool}
 use Rattle.irs_calendar.specs.declared.sections.Section.{Section}
-use Rattle.irs_calendar.specs.Sections.{is_named, section_named, AreDistinct}
-use Rattle.irs_calendar.specs.Places.{place_for_name, IsIndex}
+use Rattle.irs_calendar.specs.Sections.{is_named, section_named, AreDistinct, place_for_name, IsIndex}
 use Rattle.irs_calendar.proofs.RunLemmas.{place_any}
 use Rattle.irs_calendar.proofs.CalendarLemmas.{found_is}
 use Rattle.irs_calendar.proofs.DistinctLemmas.{turned, named_behind}

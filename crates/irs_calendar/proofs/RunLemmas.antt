@@ -10,9 +10,9 @@ use Rattle.irs_base.specs.Days.{IsDay}
 use Rattle.irs_base.proofs.Orders.{le_true, le_false, true_le, lt_true, lt_false, true_lt, both_true}
 use Rattle.irs_calendar.specs.declared.runs.Run.{Run}
 use Rattle.irs_calendar.specs.declared.search.End.TheVariants.{First, Last}
-use Rattle.irs_calendar.specs.GoodDays.{DaySet, InCover, IsGood, Next, Prev}
-use Rattle.irs_calendar.specs.Runs.{CoveredRuns, AreRuns, holds_day, set_of_runs}
-use Rattle.irs_calendar.specs.Private.Splits.{begins_or_ends_before, IsDownward, Splits}
+use Rattle.irs_calendar.specs.GoodDays.{DaySet, InCover, IsGood, Next, Prev, CoveredRuns, AreRuns, holds_day}
+use Rattle.irs_calendar.specs.GoodDays.{set_of_runs}
+use Rattle.irs_calendar.specs.Private.Closed.{begins_or_ends_before, IsDownward, Splits}
 
 -- what passes a test somewhere in a list has a place in it
 pub any_place : {A : Type 0} (p : A → Bool) (xs : List A) → list_any p xs ≡ true

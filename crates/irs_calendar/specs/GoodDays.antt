@@ -1,6 +1,14 @@
--- Business days, and the next and the previous one. Days are numbers counted from 1970-01-01.
-use Rattle.std.specs.Prelude.{◌≡◌, Bool, ℤ, ◌≤ℤ◌, ◌<ℤ◌, IsTrue}
+-- Business days, the next and the previous one, and business days as runs.
+use Rattle.std.specs.Prelude.{◌≡◌, Bool, ℤ, ◌≤ℤ◌, ◌<ℤ◌, IsTrue, ℕ, ◌<◌, ◌&&◌, List, pos, ◌+ℤ◌, slice_get, Some, [], ◌∷◌}
+use Rattle.std.specs.List.{list_any}
+use Rattle.std.specs.Ordering.{int_cmp, is_le}
 use Rattle.irs_base.specs.Days.{first_day, last_day}
+use Rattle.irs_calendar.specs.declared.runs.Run.{Run}
+use Rattle.irs_calendar.specs.declared.runs.Stored.{Stored}
+use Rattle.irs_calendar.specs.declared.runs.Stored.TheVariants.{One, Many}
+
+-- ---- business days, and the next and the previous one
+-- Days are numbers counted from 1970-01-01.
 
 -- a cover, and a test of its days; what the test says of a day outside the cover doesn't count
 pub record DaySet : Type 0 where
@@ -43,3 +51,34 @@ pub record SameDays (s t : DaySet) : Type 0 where
   pub first : s.first ≡ t.first
   pub last : s.last ≡ t.last
   pub test : (d : ℤ) → InCover s d → s.test d ≡ t.test d
+
+-- ---- business days as runs
+
+-- a cover, and runs of days in it
+pub record CoveredRuns : Type 0 where
+  pub first : ℤ
+  pub last : ℤ
+  pub runs : List Run
+
+-- the runs rise from first to last, with at least one day between two of them
+pub record AreRuns (c : CoveredRuns) : Type 0 where
+  pub filled : (i : ℕ) (r : Run) → slice_get c.runs i ≡ Some r → r.first ≤ℤ r.last
+  pub from : (i : ℕ) (r : Run) → slice_get c.runs i ≡ Some r → c.first ≤ℤ r.first
+  pub to : (i : ℕ) (r : Run) → slice_get c.runs i ≡ Some r → r.last ≤ℤ c.last
+  pub apart : (i j : ℕ) (r s : Run) → i < j → slice_get c.runs i ≡ Some r → slice_get c.runs j ≡ Some s
+      → (r.last +ℤ pos 1) <ℤ s.first
+
+-- the day lies in the run
+abbrev pub holds_day : ℤ → Run → Bool
+holds_day d r = is_le (int_cmp r.first d) && is_le (int_cmp d r.last)
+
+-- the days of the runs are the business days
+abbrev pub set_of_runs : CoveredRuns → DaySet
+set_of_runs c = record { first = c.first; last = c.last; test = λ d. list_any (holds_day d) c.runs }
+
+-- ---- how runs are kept
+
+-- the runs that are kept
+abbrev pub runs_in : Stored → List Run
+runs_in (One r) = r ∷ []
+runs_in (Many v) = v.items

@@ -1,13 +1,4 @@
 pub mod GoodDays
-pub mod Runs
-pub mod Stored
-pub mod Rising
 pub mod Sections
-pub mod Places
-pub mod Selected
-pub mod Words
-pub mod EndLines
-pub mod Calendars
 pub mod Grammar
-pub mod FirstFaults
 pub mod Private

@@ -1,11 +1,2 @@
-pub mod Rising
-pub mod EndLines
-pub mod Machine
 pub mod Files
-pub mod Calendars
-pub mod Splits
-pub mod Halves
-pub mod Weekends
-pub mod Represents
 pub mod Closed
-pub mod Given

@@ -7,17 +7,14 @@
 ghost use Rattle.std.specs.Prelude.{◌≡◌, ◌≤◌, List, [], length, map, Some, Ok, All, IsOk, IfOk, IfErr};
 ghost use Rattle.std.specs.Prelude.{IfSome, None, option_copied, slice_get};
 ghost use Rattle.irs_base.specs.Limits.{most_bytes, most_centers, most_files};
-ghost use Rattle.irs_calendar.specs.Runs.{set_of_runs};
-ghost use Rattle.irs_calendar.specs.Private.Files.{sections_of};
-ghost use Rattle.irs_calendar.specs.GoodDays.{SameDays};
-ghost use Rattle.irs_calendar.specs.Sections.{center_names, is_named, AreDistinct};
-ghost use Rattle.irs_calendar.specs.Selected.{sections_named, day_set_of, first_missing, CoversCommon};
+ghost use Rattle.irs_calendar.specs.GoodDays.{set_of_runs, SameDays};
+ghost use Rattle.irs_calendar.specs.Private.Files.{sections_of, calendars_in, in_file, GivesAll};
+ghost use Rattle.irs_calendar.specs.Sections.{center_names, is_named, AreDistinct, sections_named, day_set_of};
+ghost use Rattle.irs_calendar.specs.Sections.{first_missing, CoversCommon};
 ghost use Rattle.irs_calendar.specs.declared.sections.Section.{Section};
 ghost use Rattle.irs_calendar.specs.declared.calendars.SelErr.TheVariants.{Memory as NoMemory};
-ghost use Rattle.irs_calendar.specs.Calendars.{spot_of, SelFails};
-ghost use Rattle.irs_calendar.specs.Private.Calendars.{calendars_in, in_file, GivesAll};
-ghost use Rattle.irs_calendar.specs.Grammar.{CalFiles};
-ghost use Rattle.irs_calendar.specs.FirstFaults.{IsFirstCalendarFault, HaveOneFirstFault, AreSpeltOrFaulty, Spot};
+ghost use Rattle.irs_calendar.specs.Grammar.{spot_of, SelFails, CalFiles, IsFirstCalendarFault, HaveOneFirstFault};
+ghost use Rattle.irs_calendar.specs.Grammar.{AreSpeltOrFaulty, Spot};
 
 use crate::chosen::chosen_days;
 use crate::files::{FileErr, read_file};

@@ -1,9 +1,8 @@
 //! The business days of several centres together: a payment waits for all of them.
 ghost use Rattle.std.specs.Prelude.{◌≡◌, ◌<◌, ◌^◌, pos, ◌+ℤ◌, ◌≤ℤ◌, IfOk, map};
 ghost use Rattle.irs_base.specs.Days.{first_day, last_day};
-ghost use Rattle.irs_calendar.specs.GoodDays.{SameDays};
-ghost use Rattle.irs_calendar.specs.Runs.{set_of_runs};
-ghost use Rattle.irs_calendar.specs.Selected.{later_day, earlier_day, latest_first, earliest_last, set_of_sections};
+ghost use Rattle.irs_calendar.specs.GoodDays.{SameDays, set_of_runs};
+ghost use Rattle.irs_calendar.specs.Sections.{later_day, earlier_day, latest_first, earliest_last, set_of_sections};
 
 use crate::RunSet;
 use crate::openings::open_runs;

@@ -6,10 +6,9 @@
 ghost use Rattle.std.specs.Prelude.{◌≡◌, ◌+◌, ◌<◌, ◌∷◌, length};
 ghost use Rattle.std.specs.List.{list_all};
 ghost use Rattle.std.specs.Str.{bytes_eq};
-ghost use Rattle.irs_base.specs.Lines.{lines_of};
-ghost use Rattle.irs_base.specs.Dates.{is_digit};
-ghost use Rattle.irs_calendar.specs.EndLines.{end_line_text, has_no_zero_in_front, is_end_line, is_false_end};
-ghost use Rattle.irs_calendar.specs.EndLines.{is_number, line_seen, seen_from};
+ghost use Rattle.irs_base.specs.Texts.{lines_of, is_digit};
+ghost use Rattle.irs_calendar.specs.Grammar.{end_line_text, has_no_zero_in_front, is_end_line, is_false_end, is_number};
+ghost use Rattle.irs_calendar.specs.Grammar.{line_seen, seen_from};
 
 use irs_base::{Line, split_line};
 

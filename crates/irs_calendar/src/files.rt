@@ -1,9 +1,8 @@
 //! Reading a calendar file line by line.
 ghost use Rattle.std.specs.Prelude.{◌≤◌, length};
 ghost use Rattle.irs_base.specs.Limits.{most_bytes};
-ghost use Rattle.irs_calendar.specs.Private.Machine.{after_line, at_end};
-ghost use Rattle.irs_calendar.specs.Words.{line_said};
-ghost use Rattle.irs_calendar.specs.Private.Files.{numbered, sections_of, GivesFile};
+ghost use Rattle.irs_calendar.specs.Private.Files.{after_line, at_end, numbered, sections_of, GivesFile};
+ghost use Rattle.irs_calendar.specs.Grammar.{line_said};
 
 use crate::end_lines::split_seen;
 use crate::machine::{Fault, StepErr, step};

@@ -4,9 +4,8 @@
 //! On one line a fault of the grammar takes precedence over a repeated centre and over too many
 //! holidays.
 ghost use Rattle.std.specs.Prelude.{◌≡◌, Ok};
-ghost use Rattle.irs_calendar.specs.Private.Machine.{fits_section, begun, after_center, after_cover, after_weekend};
-ghost use Rattle.irs_calendar.specs.Private.Machine.{after_holiday, after_line, said_of};
-ghost use Rattle.irs_calendar.specs.Private.Given.{Gives};
+ghost use Rattle.irs_calendar.specs.Private.Files.{fits_section, begun, after_center, after_cover, after_weekend};
+ghost use Rattle.irs_calendar.specs.Private.Files.{after_holiday, after_line, said_of, Gives};
 ghost use Rattle.irs_calendar.specs.declared.machine.StepErr.TheVariants.{Memory};
 
 use crate::holidays::Holidays;

@@ -1,7 +1,7 @@
 //! The runs of days that several sections leave open, from one closed day to the next. So a set is
 //! made in a time that grows with its runs and the holidays.
 ghost use Rattle.std.specs.Prelude.{IfOk, map};
-ghost use Rattle.irs_calendar.specs.Private.Represents.{Represents};
+ghost use Rattle.irs_calendar.specs.Private.Closed.{Represents};
 ghost use Rattle.irs_calendar.specs.Sections.{all_open};
 
 use crate::chosen::days_after;

@@ -3,8 +3,7 @@
 //! A set of business days is kept as its cover and its runs and nothing else. One call reads a run,
 //! and each call is a step. So the number of steps of a search is the number of runs it reads.
 ghost use Rattle.std.specs.Prelude.{◌≡◌, ◌+◌, ◌-◌, ◌*◌, ◌^◌, ◌<◌, ◌≤◌, ℤ, length, IfSome, IfNone};
-ghost use Rattle.irs_calendar.specs.GoodDays.{Next, Prev, IsWhole};
-ghost use Rattle.irs_calendar.specs.Runs.{CoveredRuns, AreRuns, set_of_runs};
+ghost use Rattle.irs_calendar.specs.GoodDays.{Next, Prev, IsWhole, CoveredRuns, AreRuns, set_of_runs};
 
 use crate::runs::{Run, Runs};
 use crate::search::{End, count_before, count_near};

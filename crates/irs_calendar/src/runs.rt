@@ -34,7 +34,7 @@ impl Model for Runs {
 
     ghost Value = { List Run };
 
-    ghost use Rattle.irs_calendar.specs.Stored.{runs_in};
+    ghost use Rattle.irs_calendar.specs.GoodDays.{runs_in};
 
     ghost view = { λ r. runs_in r.stored };
 }

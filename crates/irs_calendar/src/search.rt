@@ -1,6 +1,6 @@
 //! Binary search in runs.
 ghost use Rattle.std.specs.Prelude.{◌≡◌, ◌+◌, ◌-◌, ◌*◌, ◌^◌, ◌≤◌, length, IsTrue};
-ghost use Rattle.irs_calendar.specs.Private.Splits.{begins_or_ends_before, IsDownward, Splits};
+ghost use Rattle.irs_calendar.specs.Private.Closed.{begins_or_ends_before, IsDownward, Splits};
 
 use crate::Steps;
 use crate::runs::{Run, Runs};

@@ -27,7 +27,7 @@ impl Model for SectionList {
 
     ghost view = { λ l. l.sections.items };
 
-    ghost use Rattle.irs_calendar.specs.Places.{IsIndex};
+    ghost use Rattle.irs_calendar.specs.Sections.{IsIndex};
 
     ghost invariant = { λ l. IsIndex l.places l.sections.items };
 }

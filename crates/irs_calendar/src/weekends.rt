@@ -1,8 +1,7 @@
 //! The weekdays that are closed in some section, and how long they stay so.
 ghost use Rattle.std.specs.Prelude.{◌≡◌, ◌+◌, ◌<◌, ◌^◌, map};
-ghost use Rattle.irs_calendar.specs.Private.Weekends.{off_on, IsStretch, AreShut, AreNext, ArePlaces, IsWeek};
-ghost use Rattle.irs_calendar.specs.Private.Weekends.{IsWeekend};
-ghost use Rattle.irs_calendar.specs.Private.Weekends.{day_after, weekend_after};
+ghost use Rattle.irs_calendar.specs.Private.Closed.{off_on, IsStretch, AreShut, AreNext, ArePlaces, IsWeek, IsWeekend};
+ghost use Rattle.irs_calendar.specs.Private.Closed.{day_after, weekend_after};
 
 use crate::sections::{Section, weekday_place};
 use irs_base::Day;

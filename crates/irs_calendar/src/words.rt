@@ -5,11 +5,10 @@
 //! and isn't blank is at fault.
 ghost use Rattle.std.specs.Prelude.{◌≡◌, ◌<◌, IfSome, true};
 ghost use Rattle.std.specs.List.{list_all};
-ghost use Rattle.irs_base.specs.Fields.{fields};
-ghost use Rattle.irs_calendar.specs.Private.Machine.{said_of};
-ghost use Rattle.irs_calendar.specs.Words.{is_visible, is_center_field, said_center, said_cover, weekday_place};
-ghost use Rattle.irs_calendar.specs.Words.{weekend_of};
-ghost use Rattle.irs_calendar.specs.Words.{no_days, said_holiday, said_by, line_said};
+ghost use Rattle.irs_base.specs.Texts.{fields};
+ghost use Rattle.irs_calendar.specs.Private.Files.{said_of};
+ghost use Rattle.irs_calendar.specs.Grammar.{is_visible, is_center_field, said_center, said_cover, weekday_place};
+ghost use Rattle.irs_calendar.specs.Grammar.{weekend_of, no_days, said_holiday, said_by, line_said};
 
 use crate::part::Said;
 use irs_base::{MOST_NAME, date, first_field, is_gap};

@@ -3,11 +3,10 @@ use Rattle.std.proofs.Common.{◌≡◌, ℕ, List, Option, Result, Ok, Err, ref
 use Rattle.std.specs.Prelude.{IfOk}
 use Rattle.irs_answers.proofs.CauseLemmas.{same_status}
 use Rattle.irs_outside.specs.Outside.{Grew}
-use Rattle.irs_cli.specs.Causes.{IsCauseOfWritten, IsRunCause, run_cause_of}
-use Rattle.irs_cli.specs.Private.Causes.{IsUnreplied}
-use Rattle.irs_cli.specs.Causes.{run_reply_status, run_reply_text, run_status}
+use Rattle.irs_cli.specs.Run.{IsCauseOfWritten, IsRunCause, run_cause_of, run_reply_status, run_reply_text, run_status}
+use Rattle.irs_cli.specs.Private.Fetching.{IsUnreplied}
 use Rattle.irs_cli.specs.Commands.{Words}
-use Rattle.irs_cli.specs.Fetching.{Gives}
+use Rattle.irs_cli.specs.Given.{Gives}
 use Rattle.irs_cli.specs.declared.causes.RunCause.{RunCause}
 use Rattle.irs_cli.specs.declared.causes.RunReply.{RunReply}
 use Rattle.irs_cli.specs.declared.causes.RunReply.TheVariants.{Replied, BadWords, NoFile, TooLong}

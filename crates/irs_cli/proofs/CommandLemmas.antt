@@ -16,20 +16,17 @@ use Rattle.irs_average.specs.declared.means.Mean.{Mean}
 use Rattle.irs_average.specs.declared.stubs.Side.{Side}
 use Rattle.irs_terms.specs.declared.frequency.Frequency.{Frequency}
 use Rattle.irs_answers.specs.declared.tasks.Task.TheVariants as task
-use Rattle.irs_answers.specs.Given.{most_calendars}
+use Rattle.irs_answers.specs.Forms.{most_calendars}
 use Rattle.irs_cli.specs.declared.commands.Request.{Request}
 use Rattle.irs_cli.specs.declared.commands.Request.TheVariants.{OverFiles, Bulk}
 use Rattle.irs_cli.specs.declared.commands.Command.{Command}
 use Rattle.irs_cli.specs.declared.commands.Named.{Named}
 use Rattle.irs_cli.specs.Commands.{Words, word_texts, Wanted, Asked, Asks, AsksAs, AsksAccrue, AsksAverage, AsksBreaks}
 use Rattle.irs_cli.specs.Commands.{AsksBulk, AsksInterpolate, AsksObservations, AsksOvernight, IsRequest, IsListed}
-use Rattle.irs_cli.specs.Commands.{command_of, params_of, roles_of, calendars_of, role_at, is_file}
-use Rattle.irs_cli.specs.Private.Commands.{asked_by, wanted_by}
-use Rattle.irs_cli.specs.Commands.{kept_file, files_from}
-use Rattle.irs_cli.specs.Private.Commands.{IsCommand, IsCommandAs}
-use Rattle.irs_cli.specs.Private.Due.{IsLawfulRequest}
-use Rattle.irs_cli.specs.Params.{IsCountWord, IsDateWord, IsFromWord, IsMeanWord, IsSideWord, IsStepWord, IsStreamWord}
-use Rattle.irs_cli.specs.Params.{IsTenorWord}
+use Rattle.irs_cli.specs.Commands.{command_of, params_of, roles_of, calendars_of, role_at, is_file, kept_file}
+use Rattle.irs_cli.specs.Commands.{files_from, IsCountWord, IsDateWord, IsFromWord, IsMeanWord, IsSideWord, IsStepWord}
+use Rattle.irs_cli.specs.Commands.{IsStreamWord, IsTenorWord}
+use Rattle.irs_cli.specs.Private.Fetching.{asked_by, wanted_by, IsCommand, IsCommandAs, IsLawfulRequest}
 use Rattle.irs_cli.proofs.ParamLemmas.{one_at, one_count, one_date, one_from, one_mean, one_side, one_step, one_stream}
 use Rattle.irs_cli.proofs.ParamLemmas.{one_tenor, step_lawful}
 

@@ -1,20 +1,15 @@
 -- What a run says whose common files were read before.
 use Rattle.std.proofs.Common.{◌≡◌, ℕ, List, Option, true, false, sym, subst, arith}
-use Rattle.irs_answers.specs.Common.{AreRead}
-use Rattle.irs_answers.specs.Given.{Given, IsWithinLimits, files_given_by, no_files}
-use Rattle.irs_answers.specs.Outcomes.{Ends}
+use Rattle.irs_answers.specs.Due.{AreRead, Ends}
+use Rattle.irs_answers.specs.Forms.{Given, IsWithinLimits, files_given_by, no_files}
 use Rattle.irs_answers.specs.declared.causes.Cause.{Cause}
 use Rattle.irs_answers.specs.declared.common.Common.{Common}
 use Rattle.irs_answers.specs.declared.files.TaskFiles.{TaskFiles}
 use Rattle.irs_answers.specs.declared.notes.Note.{Note}
-use Rattle.irs_cli.specs.Causes.{IsCauseFor, IsNotedFor, IsReplyCause}
+use Rattle.irs_cli.specs.Run.{IsCauseFor, IsNotedFor, IsReplyCause, DueOf, Replies, source}
 use Rattle.irs_cli.specs.Commands.{Asked, Asks, Wanted, Words}
-use Rattle.irs_cli.specs.Due.{DueOf}
-use Rattle.irs_cli.specs.Fetching.{FailedAt, Gives, Holds, IsGiven, NotLong}
+use Rattle.irs_cli.specs.Given.{FailedAt, Gives, Holds, IsGiven, NotLong, Gathers, Told, IsCommon, files_with}
 use Rattle.irs_cli.specs.Private.Fetching.{OverAt, Stops}
-use Rattle.irs_cli.specs.Given.{Gathers, Told}
-use Rattle.irs_cli.specs.Run.{Replies, source}
-use Rattle.irs_cli.specs.Sharing.{IsCommon, files_with}
 use Rattle.irs_cli.specs.declared.fetching.Unfetched.{Unfetched}
 use Rattle.irs_cli.specs.declared.fetching.Unfetched.TheVariants.{NoFile, TooLong, Memory}
 use Rattle.irs_cli.proofs.CommandLemmas.{few_cals, one_command}

@@ -7,18 +7,15 @@ use Rattle.std.proofs.lemmas.Bool.{cases_lt}
 use Rattle.std.proofs.lemmas.List.{take_all, length-take-le, map_more, map-append}
 use Rattle.irs_outside.specs.Outside.{Rose}
 use Rattle.irs_answers.specs.declared.forms.Form.{Form}
-use Rattle.irs_cli.specs.Params.{form_of}
+use Rattle.irs_cli.specs.Commands.{form_of, Wanted}
 use Rattle.irs_cli.specs.declared.commands.Named.{Named}
 use Rattle.irs_cli.specs.declared.commands.Role.{Role}
 use Rattle.irs_answers.specs.declared.files.TaskFiles.{TaskFiles}
-use Rattle.irs_answers.specs.Given.{Given, no_files, too_many}
+use Rattle.irs_answers.specs.Forms.{Given, no_files, too_many}
 use Rattle.irs_cli.specs.declared.fetching.Unfetched.{Unfetched}
 use Rattle.irs_cli.specs.declared.fetching.Unfetched.TheVariants.{NoFile, TooLong, Memory}
-use Rattle.irs_cli.specs.Commands.{Wanted}
-use Rattle.irs_cli.specs.Private.Commands.{wanted_by}
-use Rattle.irs_cli.specs.Given.{Told, Gathers, ReachesFile, text_as, with_file}
-use Rattle.irs_cli.specs.Fetching.{Holds, NotLong, FailedAt}
-use Rattle.irs_cli.specs.Private.Fetching.{OverAt, Stops, StopsOne, FetchesAll}
+use Rattle.irs_cli.specs.Private.Fetching.{wanted_by, OverAt, Stops, StopsOne, FetchesAll}
+use Rattle.irs_cli.specs.Given.{Told, Gathers, ReachesFile, text_as, with_file, Holds, NotLong, FailedAt}
 use Rattle.irs_cli.proofs.FileLemmas.{gathers_reach, gathers_more}
 
 -- ---- the source states the same at a later call

@@ -1,13 +1,12 @@
 -- Lists of wanted files: what is reached among them, and what is gathered from them.
 use Rattle.std.proofs.Common.{◌≡◌, inl, inr, ℕ, ◌+◌, ◌<◌, ◌≤◌, List, [], ◌∷◌, ◌++◌, length, sym, ◌∙◌, ap, subst, arith}
-use Rattle.irs_answers.specs.Given.{Given, IsWithinLimits, most_calendars, no_files, too_many}
+use Rattle.irs_answers.specs.Forms.{Given, IsWithinLimits, most_calendars, no_files, too_many, SourceText}
 use Rattle.irs_cli.specs.Commands.{Wanted}
 use Rattle.std.specs.Prelude.{IfSome, All}
 use Rattle.std.proofs.lemmas.List.{length-append}
 use Rattle.std.proofs.lemmas.List.Elements.{All-nil, All-cons, All-append}
 use Rattle.irs_cli.specs.declared.commands.Role.{Role}
 use Rattle.irs_cli.specs.declared.commands.Role.TheVariants.{Document, Fixings, Flows, Calendar}
-use Rattle.irs_answers.specs.Forms.{SourceText}
 use Rattle.irs_cli.specs.Given.{with_file, text_as, Gathers, Each, ReachesFile}
 use Rattle.irs_cli.proofs.CommandLemmas.{is_cal, cals}
 

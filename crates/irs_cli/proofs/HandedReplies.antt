@@ -4,7 +4,7 @@ use Rattle.std.specs.Prelude.{IfNone, IsErr, IsTrue}
 use Rattle.std.specs.Result.{IsErrAnd}
 use Rattle.irs_answers.specs.declared.notes.NotedReply.{NotedReply}
 use Rattle.irs_cli.specs.declared.refusals.Refusal.{Refusal}
-use Rattle.irs_cli.specs.Private.Outcomes.{IfRunAnswered, IfRunRefused}
+use Rattle.irs_cli.specs.Private.Fetching.{IfRunAnswered, IfRunRefused}
 
 -- an error that becomes an answer
 pub answered_by : (r : Result NotedReply Refusal) (e : Refusal) (P : ℕ → List ℕ → Type 0) → IsErr r → IsErrAnd r (λ x. x ≡ e)

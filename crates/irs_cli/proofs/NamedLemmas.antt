@@ -6,8 +6,7 @@ use Rattle.std.proofs.lemmas.List.{get_or-drop}
 use Rattle.std.proofs.lemmas.Option.{get_or_from_slice_get, unwrap_or-slice_get}
 use Rattle.irs_cli.specs.Commands.{Asked, Asks, AsksAs, Wanted, Words, files_from, is_file, command_of, params_of}
 use Rattle.irs_cli.specs.Commands.{role_at, roles_of}
-use Rattle.irs_cli.specs.Given.{Each}
-use Rattle.irs_cli.specs.Naming.{IsNamed, IsNamedAs, file_name, roles_before, word_place, word_from, word_if}
+use Rattle.irs_cli.specs.Given.{Each, IsNamed, IsNamedAs, file_name, roles_before, word_place, word_from, word_if}
 use Rattle.irs_cli.specs.declared.commands.Kind.{Kind}
 use Rattle.irs_cli.specs.declared.commands.Kind.TheVariants as kind
 use Rattle.irs_cli.specs.declared.commands.Role.{Role}

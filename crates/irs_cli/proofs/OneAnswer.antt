@@ -1,13 +1,12 @@
 -- Where the source states every file that the words name, one status and one text are due.
 use Rattle.std.proofs.Common.{◌≡◌, ℕ, List, sym, ◌∙◌}
-use Rattle.irs_answers.specs.Given.{Given}
-use Rattle.irs_answers.specs.Steps.{Is}
+use Rattle.irs_answers.specs.Forms.{Given}
+use Rattle.irs_answers.specs.Messages.{Is}
 use Rattle.irs_answers.proofs.OneAnswer.{one_carrier, one_due}
 use Rattle.irs_bulk.proofs.BulkRunLemmas.{one_bulk}
 use Rattle.irs_cli.specs.Commands.{Words}
-use Rattle.irs_cli.specs.Due.{Due, DueOf, IsOneAnswer, WordsCase, all_told, long_file, no_command}
+use Rattle.irs_cli.specs.Run.{Due, DueOf, IsOneAnswer, WordsCase, all_told, long_file, no_command, bad_words, too_long}
 use Rattle.irs_cli.specs.Given.{Told, TellsAll}
-use Rattle.irs_cli.specs.Messages.{bad_words, too_long}
 use Rattle.irs_cli.specs.declared.commands.Request.{Request}
 use Rattle.irs_cli.specs.declared.commands.Request.TheVariants.{OverFiles, Bulk, Carrier}
 

@@ -13,8 +13,8 @@ use Rattle.irs_elements.proofs.DatesAt.{day_is}
 use Rattle.irs_terms.specs.declared.frequency.Frequency.{Frequency}
 use Rattle.irs_terms.specs.declared.frequency.Unit.{Unit as FrequencyUnit}
 use Rattle.irs_terms.specs.declared.frequency.Unit.TheVariants.{D, W, M, Y, T}
-use Rattle.irs_cli.specs.Params.{At, IsCountWord, IsDateWord, IsFromWord, IsMeanWord, IsSideWord, IsStepWord}
-use Rattle.irs_cli.specs.Params.{IsStreamWord, IsTenorWord, days_of_unit, mean_name, side_name}
+use Rattle.irs_cli.specs.Commands.{At, IsCountWord, IsDateWord, IsFromWord, IsMeanWord, IsSideWord, IsStepWord}
+use Rattle.irs_cli.specs.Commands.{IsStreamWord, IsTenorWord, days_of_unit, mean_name, side_name}
 use Rattle.irs_cli.proofs.TenorWords.{tenor_read}
 
 -- the word at a place spells one x at most, where every word does

@@ -4,16 +4,13 @@ use Rattle.std.specs.Prelude.{IfSome}
 use Rattle.irs_outside.specs.Outside.{Grew, GrewByFront, Rose}
 use Rattle.irs_cli.specs.declared.fetching.Unfetched.{Unfetched}
 use Rattle.irs_cli.specs.declared.fetching.Unfetched.TheVariants as fetching
-use Rattle.irs_answers.specs.Given.{Given, no_files, too_many}
-use Rattle.irs_answers.specs.Outcomes.{Ends}
+use Rattle.irs_answers.specs.Forms.{Given, no_files, too_many}
+use Rattle.irs_answers.specs.Due.{Ends}
 use Rattle.irs_cli.specs.Commands.{Words, Wanted, Asked, Asks, IsListed}
 use Rattle.irs_cli.specs.Given.{Told, Gathers, ReachesFile, IsTold, IsShortFile, IsLongAt, IsFirstLong, AreTold}
-use Rattle.irs_cli.specs.Fetching.{FailedAt, Gives, Holds, IsGiven, NotLong}
-use Rattle.irs_cli.specs.Private.Fetching.{OverAt, Stops}
-use Rattle.irs_cli.specs.Messages.{bad_words, no_file, too_long}
-use Rattle.irs_cli.specs.Due.{Due, DueOf, no_command, long_file, all_told}
-use Rattle.irs_cli.specs.Outcomes.{of_fetch}
-use Rattle.irs_cli.specs.Private.Outcomes.{IfRunRefused}
+use Rattle.irs_cli.specs.Given.{FailedAt, Gives, Holds, IsGiven, NotLong}
+use Rattle.irs_cli.specs.Private.Fetching.{OverAt, Stops, IfRunRefused}
+use Rattle.irs_cli.specs.Run.{bad_words, no_file, too_long, Due, DueOf, no_command, long_file, all_told, of_fetch}
 use Rattle.irs_cli.specs.Run.{NoFile, Ran, Replies, Source, source, written}
 use Rattle.irs_cli.proofs.CommandLemmas.{one_command}
 use Rattle.irs_cli.proofs.OneAnswer.{one_answer}

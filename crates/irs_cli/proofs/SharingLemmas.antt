@@ -1,10 +1,9 @@
 -- The files of a run, gathered in two parts: those that runs have in common, and its own.
 use Rattle.std.proofs.Common.{◌≡◌, inl, inr, ℕ, ◌≤◌, List, [], ◌∷◌, map, Bool, true, false, refl, ◌∙◌, ap, arith}
-use Rattle.irs_answers.specs.Given.{Given}
+use Rattle.irs_answers.specs.Forms.{Given}
 use Rattle.irs_cli.specs.Commands.{Wanted}
-use Rattle.irs_cli.specs.Private.Commands.{wanted_by}
-use Rattle.irs_cli.specs.Given.{Gathers, ReachesFile, text_as, with_file}
-use Rattle.irs_cli.specs.Sharing.{files_with}
+use Rattle.irs_cli.specs.Private.Fetching.{wanted_by}
+use Rattle.irs_cli.specs.Given.{Gathers, ReachesFile, text_as, with_file, files_with}
 use Rattle.irs_cli.specs.declared.commands.Named.{Named}
 use Rattle.irs_cli.specs.declared.commands.Role.{Role}
 use Rattle.irs_cli.specs.declared.commands.Role.TheVariants.{Document, Fixings, Flows, Calendar}

@@ -8,15 +8,14 @@ use Rattle.std.proofs.lemmas.Bool.Decides.{nat_tests}
 use Rattle.std.proofs.lemmas.Fmt.{decimal_digit, decimal_step}
 use Rattle.std.proofs.lemmas.Option.{same_Some}
 use Rattle.irs_base.proofs.TextLemmas.{of_two_digits}
-use Rattle.irs_resets.specs.Tenors.{digit_at, first_digit, tenor_at, tens, two_digit_number, hundreds, three_digits}
-use Rattle.irs_resets.specs.Tenors.{unit_of_letter}
-use Rattle.irs_resets.specs.Tenors.{with_unit}
+use Rattle.irs_resets.specs.FixingFiles.{digit_at, first_digit, tenor_at, tens, two_digit_number, hundreds}
+use Rattle.irs_resets.specs.FixingFiles.{three_digits, unit_of_letter, with_unit}
 use Rattle.irs_terms.specs.declared.frequency.Frequency.{Frequency}
 use Rattle.irs_terms.specs.declared.frequency.Unit.{Unit as FrequencyUnit}
 use Rattle.irs_terms.specs.declared.frequency.Unit.TheVariants.{D, W, M, Y, T}
 use Rattle.irs_overnight.specs.Texts.{unit_text}
 use Rattle.irs_overnight.proofs.VisibleTexts.{tenor_back}
-use Rattle.irs_cli.specs.Params.{IsTenorWord}
+use Rattle.irs_cli.specs.Commands.{IsTenorWord}
 
 -- ---- digits
 

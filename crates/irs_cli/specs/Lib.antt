@@ -1,13 +1,5 @@
-pub mod Params
 pub mod Commands
 pub mod Given
-pub mod Fetching
-pub mod Messages
-pub mod Sharing
-pub mod Due
-pub mod Outcomes
 pub mod Run
 pub mod Pages
-pub mod Causes
-pub mod Naming
 pub mod Private

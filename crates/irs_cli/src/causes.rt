@@ -1,6 +1,6 @@
 //! What the words of a run come to, and what a run comes to, for the sentence about it.
 ghost use Rattle.std.specs.Prelude.{◌≡◌};
-ghost use Rattle.irs_cli.specs.Causes.{run_cause_of, run_status};
+ghost use Rattle.irs_cli.specs.Run.{run_cause_of, run_status};
 
 use irs_answers::{Cause, Note, NotedReply};
 use irs_base::Status;

@@ -22,10 +22,8 @@
 //! words. To these comes the most calendars that may follow.
 ghost use Rattle.std.specs.Prelude.{◌≡◌, ◌≤◌, ◌+◌, map, length, option_map, IfOk, IfSome, IfNone};
 ghost use Rattle.irs_cli.specs.Commands.{word_texts, command_of, params_of, roles_of, calendars_of, may_have_words};
-ghost use Rattle.irs_cli.specs.Commands.{role_at};
-ghost use Rattle.irs_cli.specs.Commands.{is_file};
-ghost use Rattle.irs_cli.specs.Commands.{IsRequest, files_from};
-ghost use Rattle.irs_cli.specs.Private.Commands.{IsCommand, IsCommandAs, asked_by, wanted_by, most_words};
+ghost use Rattle.irs_cli.specs.Commands.{role_at, is_file, IsRequest, files_from};
+ghost use Rattle.irs_cli.specs.Private.Fetching.{IsCommand, IsCommandAs, asked_by, wanted_by, most_words};
 
 use crate::params::{
     accrue_of, average_of, breaks_of, bulk_of, carrier_of, interpolate_of, observations_of,

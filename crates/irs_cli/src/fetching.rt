@@ -1,11 +1,8 @@
 //! Fetching the files of a command: all of them, in the order of the words.
 ghost use Rattle.std.specs.Prelude.{◌≡◌, ℕ, List, map, IfOk, OnOk};
-ghost use Rattle.irs_cli.specs.Private.Commands.{wanted_by};
-ghost use Rattle.irs_answers.specs.Forms.{source_by};
-ghost use Rattle.irs_answers.specs.Given.{files_given_by};
-ghost use Rattle.irs_cli.specs.Given.{with_file};
-ghost use Rattle.irs_cli.specs.Fetching.{IsGiven};
-ghost use Rattle.irs_cli.specs.Private.Fetching.{AreGiven, FetchesOne, FetchesAll};
+ghost use Rattle.irs_cli.specs.Private.Fetching.{wanted_by, AreGiven, FetchesOne, FetchesAll};
+ghost use Rattle.irs_answers.specs.Forms.{source_by, files_given_by};
+ghost use Rattle.irs_cli.specs.Given.{with_file, IsGiven};
 ghost use Rattle.irs_cli.specs.declared.fetching.Unfetched.TheVariants.{Memory as OfMemory};
 
 use crate::commands::{Named, Role};

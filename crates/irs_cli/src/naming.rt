@@ -1,12 +1,9 @@
 //! The names of the files of a command, for the sentences: by the role of a file, from the table of commands.
 ghost use Rattle.std.specs.Prelude.{◌≡◌, ◌≤◌, length, IfSome};
 ghost use Rattle.irs_cli.specs.Commands.{Asked, Asks, Words, word_texts};
-ghost use Rattle.irs_cli.specs.Given.{Each};
-ghost use Rattle.irs_cli.specs.Naming.{IsNamed};
-ghost use Rattle.irs_cli.specs.Naming.{file_name as file_name_of, roles_before as first_of_roles};
-ghost use Rattle.irs_cli.specs.Naming.{first_place as first_place_of};
-ghost use Rattle.irs_cli.specs.Naming.{is_same_role, word_place as place_in_table, role_number};
-ghost use Rattle.irs_cli.specs.Naming.{word_from as word_from_of};
+ghost use Rattle.irs_cli.specs.Given.{Each, IsNamed, file_name as file_name_of, roles_before as first_of_roles};
+ghost use Rattle.irs_cli.specs.Given.{first_place as first_place_of, is_same_role, word_place as place_in_table};
+ghost use Rattle.irs_cli.specs.Given.{role_number, word_from as word_from_of};
 
 use crate::commands::{Kind, Role, kind_of};
 

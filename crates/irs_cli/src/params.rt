@@ -1,8 +1,7 @@
 //! What the words of a command ask for: its parameters, and the name that `carrier` takes.
 ghost use Rattle.std.specs.Prelude.{◌≡◌, ◌↔◌, ℕ, ℤ, Option, Some, IfSome, IfNone, IsTrue};
-ghost use Rattle.irs_cli.specs.Commands.{word_texts, IsRequest};
-ghost use Rattle.irs_cli.specs.Params.{At, IsCountWord, IsDateWord, IsFromWord, IsMeanWord, IsSideWord, IsStepWord};
-ghost use Rattle.irs_cli.specs.Params.{IsStreamWord, IsTenorWord, days_of_unit, form_of};
+ghost use Rattle.irs_cli.specs.Commands.{word_texts, IsRequest, At, IsCountWord, IsDateWord, IsFromWord, IsMeanWord};
+ghost use Rattle.irs_cli.specs.Commands.{IsSideWord, IsStepWord, IsStreamWord, IsTenorWord, days_of_unit, form_of};
 ghost use Rattle.irs_cli.specs.declared.commands.Kind.TheVariants as kind;
 ghost use Rattle.irs_cli.specs.declared.commands.Request.{Request as RequestSpec};
 ghost use Rattle.irs_average.specs.declared.means.Mean.{Mean as MeanSpec};

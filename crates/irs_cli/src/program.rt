@@ -4,19 +4,14 @@
 //! first write.
 ghost use Rattle.std.specs.Prelude.{◌≡◌, ℕ, List, IfOk, IfSome};
 ghost use Rattle.irs_cli.specs.Commands.{word_texts};
-ghost use Rattle.irs_answers.specs.Common.{AreRead};
-ghost use Rattle.irs_answers.specs.Given.{IsWithinLimits, files_given_by, given_with};
-ghost use Rattle.irs_answers.specs.Outcomes.{Ends};
-ghost use Rattle.irs_answers.specs.Replying.{reply_status, reply_text};
-ghost use Rattle.irs_answers.specs.Causes.{cause_of};
+ghost use Rattle.irs_answers.specs.Due.{AreRead, Ends};
+ghost use Rattle.irs_answers.specs.Forms.{IsWithinLimits, files_given_by, given_with};
+ghost use Rattle.irs_answers.specs.Messages.{reply_status, reply_text, cause_of};
 ghost use Rattle.irs_answers.specs.declared.notes.Note.TheVariants.{Nothing};
-ghost use Rattle.irs_cli.specs.Causes.{IsCauseFor, IsCauseOfWritten, IsNotedFor, IsReplyCause, IsRunCause};
-ghost use Rattle.irs_cli.specs.Causes.{run_cause_of, run_reply_status, run_reply_text, run_status};
-ghost use Rattle.irs_cli.specs.Due.{DueOf};
-ghost use Rattle.irs_cli.specs.Private.Due.{IsLawfulRequest};
-ghost use Rattle.irs_cli.specs.Private.Outcomes.{IfRunAnswered};
-ghost use Rattle.irs_cli.specs.Run.{Ran, Replies, source, written};
-ghost use Rattle.irs_cli.specs.Sharing.{IsCommon};
+ghost use Rattle.irs_cli.specs.Run.{IsCauseFor, IsCauseOfWritten, IsNotedFor, IsReplyCause, IsRunCause, run_cause_of};
+ghost use Rattle.irs_cli.specs.Run.{run_reply_status, run_reply_text, run_status, DueOf, Ran, Replies, source, written};
+ghost use Rattle.irs_cli.specs.Private.Fetching.{IsLawfulRequest, IfRunAnswered};
+ghost use Rattle.irs_cli.specs.Given.{IsCommon};
 
 use crate::causes::{RunCause, RunReply};
 use crate::commands::{Request, command_of};

@@ -1,9 +1,8 @@
 //! Writing what the words of a run come to.
 ghost use Rattle.std.specs.Prelude.{◌≡◌, ◌++◌, ◌≤◌, codes, decimal, length, OnOk, OnErr};
 ghost use Rattle.irs_outside.specs.Outside.{Rose, Grew, GrewByFront};
-ghost use Rattle.irs_answers.specs.FlowMessages.{verdict_text};
-ghost use Rattle.irs_answers.specs.Replying.{refusal_text, reply_text};
-ghost use Rattle.irs_cli.specs.Causes.{run_reply_text};
+ghost use Rattle.irs_answers.specs.Messages.{verdict_text, refusal_text, reply_text};
+ghost use Rattle.irs_cli.specs.Run.{run_reply_text};
 
 use crate::causes::RunReply;
 use crate::rows::put_schedule;

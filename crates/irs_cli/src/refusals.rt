@@ -1,9 +1,7 @@
 //! Why a request isn't carried out over files, and what is written then.
 ghost use Rattle.std.specs.Prelude.{◌≡◌, Some, IfOk};
-ghost use Rattle.irs_cli.specs.Causes.{run_reply_status, run_reply_text};
-ghost use Rattle.irs_cli.specs.Private.Causes.{IsUnreplied};
-ghost use Rattle.irs_cli.specs.Outcomes.{of_fetch};
-ghost use Rattle.irs_cli.specs.Private.Outcomes.{run_answer_of};
+ghost use Rattle.irs_cli.specs.Run.{run_reply_status, run_reply_text, of_fetch};
+ghost use Rattle.irs_cli.specs.Private.Fetching.{IsUnreplied, run_answer_of};
 ghost use Rattle.irs_cli.specs.declared.refusals.Refusal.TheVariants.{Memory as OfMemory};
 
 use crate::causes::RunReply;

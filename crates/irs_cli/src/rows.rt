@@ -1,7 +1,7 @@
 //! The text of a schedule: its lines are gathered on a page, and a full page is written.
 ghost use Rattle.std.specs.Prelude.{◌≡◌, OnOk, OnErr};
 ghost use Rattle.irs_outside.specs.Outside.{Rose, Grew, GrewByFront};
-ghost use Rattle.irs_schedule.specs.RowTexts.{schedule_text};
+ghost use Rattle.irs_schedule.specs.RowsOf.{schedule_text};
 
 use crate::page::Page;
 use crate::{PutFailed, Sink};

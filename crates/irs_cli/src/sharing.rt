@@ -1,8 +1,8 @@
 //! The files that many runs of the same words have in common: the fixings and the calendars, read once.
 ghost use Rattle.std.specs.Prelude.{◌≡◌, ℕ, List, map, IfOk, IfSome};
 ghost use Rattle.irs_cli.specs.Commands.{word_texts};
-ghost use Rattle.irs_cli.specs.Private.Commands.{wanted_by};
-ghost use Rattle.irs_cli.specs.Sharing.{IsCommon, belongs, files_with};
+ghost use Rattle.irs_cli.specs.Private.Fetching.{wanted_by};
+ghost use Rattle.irs_cli.specs.Given.{IsCommon, belongs, files_with};
 
 use crate::Files;
 use crate::commands::{Named, Role, command_of};

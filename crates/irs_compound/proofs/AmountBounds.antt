@@ -10,24 +10,19 @@ use Rattle.std.proofs.lemmas.List.Elements.{All-get_or, All-take}
 use Rattle.std.proofs.lemmas.Nat.{pow-add}
 use Rattle.std.proofs.lemmas.Option.{slice_get-get_or}
 use Rattle.jiff_core.proofs.SignedLemmas.{signed_arith}
-use Rattle.irs_base.specs.Rounding.{Rounded}
+use Rattle.irs_base.specs.Limits.{Rounded}
 use Rattle.irs_base.specs.declared.rounding.Direction.TheVariants.{Nearest}
 use Rattle.irs_base.proofs.RoundingLaws.{rounded_size}
 use Rattle.irs_terms.specs.declared.codes.CompCode.{CompCode}
 use Rattle.irs_terms.specs.declared.codes.CompCode.TheVariants.{Simple, Straight, Flat, SpreadExclusive}
 use Rattle.irs_compound.proofs.Sizes.{positive_size}
 use Rattle.irs_compound.specs.Amounts.{IsDayCountFraction, IsTermOver, IsPaymentOfTerms, AllPriced, AmountOf}
-use Rattle.irs_compound.specs.Amounts.{IsOutOfRange}
-use Rattle.irs_compound.specs.Amounts.{Pays}
-use Rattle.irs_compound.specs.Amounts.{RoundedAt, Follows, StandsAfter, StaysWithin, PeriodPasses, amount, total}
-use Rattle.irs_compound.specs.Amounts.{sum_kept}
-use Rattle.irs_compound.specs.Amounts.{kept_of}
-use Rattle.irs_compound.specs.Amounts.{denominator, code_for, most_amount, most_exact, most_currency_places, most_units}
-use Rattle.irs_compound.specs.PartsLaws.{AllFractions, all_fractions, follows_exists, follows_once}
-use Rattle.irs_compound.specs.Private.PartsLaws.{follows_more}
-use Rattle.irs_compound.specs.PartsLaws.{stands_exists}
-use Rattle.irs_compound.specs.Private.PartsLaws.{total-push}
-use Rattle.irs_compound.specs.Tens.{ten_above}
+use Rattle.irs_compound.specs.Amounts.{IsOutOfRange, Pays, RoundedAt, Follows, StandsAfter, StaysWithin, PeriodPasses}
+use Rattle.irs_compound.specs.Amounts.{amount, total, sum_kept, kept_of, denominator, code_for, most_amount, most_exact}
+use Rattle.irs_compound.specs.Amounts.{most_currency_places, most_units}
+use Rattle.irs_compound.specs.AmountLaws.{AllFractions, all_fractions, follows_exists, follows_once, stands_exists}
+use Rattle.irs_compound.specs.AmountLaws.{ten_above}
+use Rattle.irs_compound.specs.Private.AmountLaws.{follows_more, total-push}
 use Rattle.irs_compound.specs.declared.periods.PeriodTerm.{PeriodTerm}
 use Rattle.irs_compound.specs.declared.periods.Parts.{Parts}
 

@@ -7,21 +7,16 @@ use Rattle.std.specs.List.{slice_get}
 use Rattle.std.proofs.lemmas.Bool.{cases_lt}
 use Rattle.std.proofs.lemmas.List.Elements.{All-nil, All-cons, All-get_or, All-take}
 use Rattle.std.proofs.lemmas.Option.{slice_get-get_or}
-use Rattle.irs_base.specs.Order.{First}
+use Rattle.irs_base.specs.Outcomes.{First}
 use Rattle.irs_base.specs.Private.Order.{IsDecided}
 use Rattle.irs_base.proofs.Firsts.{lt_false, one_first, tied_last}
 use Rattle.irs_terms.specs.declared.codes.CompCode.{CompCode}
 use Rattle.irs_terms.specs.declared.codes.CompCode.TheVariants.{Simple, Straight, Flat, SpreadExclusive}
 use Rattle.irs_compound.specs.Amounts.{IsDayCountFraction, AllPriced, SomeUnpriced, AmountOf, PeriodPasses}
-use Rattle.irs_compound.specs.Amounts.{IsOutOfRange}
-use Rattle.irs_compound.specs.Private.Amounts.{IsFirstOut}
-use Rattle.irs_compound.specs.Amounts.{RatesWithin, PartsWithin, SumsWithin, StaysWithin, amount, total, sum_kept}
-use Rattle.irs_compound.specs.Amounts.{kept_of}
-use Rattle.irs_compound.specs.Amounts.{code_for, most_amount, most_exact}
-use Rattle.irs_compound.specs.AmountLaws.{pays_exists}
-use Rattle.irs_compound.specs.Private.AmountLaws.{priced_or_not}
-use Rattle.irs_compound.specs.PartsLaws.{AllFractions, follows_exists, stands_exists}
-use Rattle.irs_compound.specs.Private.PartsLaws.{not_passed, number_within}
+use Rattle.irs_compound.specs.Amounts.{IsOutOfRange, RatesWithin, PartsWithin, SumsWithin, StaysWithin, amount, total}
+use Rattle.irs_compound.specs.Amounts.{sum_kept, kept_of, code_for, most_amount, most_exact}
+use Rattle.irs_compound.specs.Private.AmountLaws.{IsFirstOut, priced_or_not, not_passed, number_within}
+use Rattle.irs_compound.specs.AmountLaws.{pays_exists, AllFractions, follows_exists, stands_exists}
 use Rattle.irs_compound.specs.declared.periods.PeriodTerm.{PeriodTerm}
 use Rattle.irs_compound.specs.declared.periods.Parts.{Parts}
 use Rattle.irs_compound.specs.declared.periods.Rates.{Rates}

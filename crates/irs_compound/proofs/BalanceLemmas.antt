@@ -6,17 +6,16 @@ use Rattle.std.proofs.lemmas.Bool.{cases_lt}
 use Rattle.std.proofs.lemmas.List.{take_more, take_all}
 use Rattle.std.proofs.lemmas.List.Elements.{All-get_or}
 use Rattle.std.proofs.lemmas.Option.{slice_get-get_or}
-use Rattle.irs_base.specs.Order.{First}
+use Rattle.irs_base.specs.Outcomes.{First}
 use Rattle.irs_base.proofs.Firsts.{lt_false}
 use Rattle.irs_terms.specs.declared.codes.CompCode.{CompCode}
 use Rattle.irs_terms.specs.declared.codes.CompCode.TheVariants.{Simple, Straight, Flat, SpreadExclusive}
 use Rattle.irs_compound.specs.Amounts.{Pays, RoundedAt, IsTermOver, StandsAt, StandsAfter, Follows, SumsWithin}
-use Rattle.irs_compound.specs.Amounts.{StaysWithin}
-use Rattle.irs_compound.specs.Amounts.{PeriodPasses}
-use Rattle.irs_compound.specs.Amounts.{amount, total, kept_of, sum_kept, denominator, most_exact}
-use Rattle.irs_compound.specs.Private.Balances.{BalanceFits, Takes, Stops, Balances}
-use Rattle.irs_compound.specs.PartsLaws.{all_fractions}
-use Rattle.irs_compound.specs.Private.PartsLaws.{follows_more, not_passed, number_within, total-push, kept-push}
+use Rattle.irs_compound.specs.Amounts.{StaysWithin, PeriodPasses, amount, total, kept_of, sum_kept, denominator}
+use Rattle.irs_compound.specs.Amounts.{most_exact}
+use Rattle.irs_compound.specs.Private.AmountLaws.{BalanceFits, Takes, Stops, Balances, follows_more, not_passed}
+use Rattle.irs_compound.specs.Private.AmountLaws.{number_within, total-push, kept-push}
+use Rattle.irs_compound.specs.AmountLaws.{all_fractions}
 use Rattle.irs_compound.specs.declared.balances.Balance.{Balance}
 use Rattle.irs_compound.specs.declared.periods.PeriodTerm.{PeriodTerm}
 use Rattle.irs_compound.specs.declared.periods.Parts.{Parts}

@@ -7,9 +7,8 @@ use Rattle.std.proofs.lemmas.List.Elements.{All-get_or}
 use Rattle.std.proofs.Math.Nat.{div-lt_iff_lt-mul, mul-le-mul_left}
 use Rattle.jiff_core.proofs.SignedLemmas.{signed_arith}
 use Rattle.irs_terms.specs.declared.step_list.Step.{Step}
-use Rattle.irs_terms.specs.StepDates.{StepsRise}
-use Rattle.irs_compound.specs.Private.InForceLaws.{same_day, behind, rest}
-use Rattle.irs_compound.specs.Private.StepCounts.{IsCountTo}
+use Rattle.irs_terms.specs.TermDates.{StepsRise}
+use Rattle.irs_compound.specs.Private.RateLaws.{same_day, behind, rest, IsCountTo}
 
 -- of steps that rise, none is after a later one
 pub rises_to : (steps : List Step) (i k : ℕ) (e : Step) → StepsRise steps → i ≤ k → k < length steps

@@ -5,10 +5,9 @@ use Rattle.std.proofs.lemmas.List.Elements.{All-nil, All-from_get_or, Contains-g
 use Rattle.std.proofs.lemmas.Bool.{cases_lt}
 use Rattle.jiff_core.proofs.SignedLemmas.{signed_arith}
 use Rattle.irs_terms.specs.declared.step_list.Step.{Step}
-use Rattle.irs_terms.specs.StepDates.{StepsRise}
-use Rattle.irs_compound.specs.InForce.{LastOf, last_from}
-use Rattle.irs_compound.specs.Private.InForceLaws.{last_from_is}
-use Rattle.irs_compound.specs.Private.StepCounts.{IsCountTo}
+use Rattle.irs_terms.specs.TermDates.{StepsRise}
+use Rattle.irs_compound.specs.PeriodRates.{LastOf, last_from}
+use Rattle.irs_compound.specs.Private.RateLaws.{last_from_is, IsCountTo}
 use Rattle.irs_compound.proofs.CountedSteps.{rises_to}
 
 -- a test of all steps by place

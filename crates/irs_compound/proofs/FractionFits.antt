@@ -6,8 +6,7 @@ use Rattle.irs_terms.specs.declared.results.Frac.{Frac}
 use Rattle.irs_terms.specs.declared.codes.DayCountCode.{DayCountCode}
 use Rattle.irs_terms.specs.declared.codes.DayCountCode.TheVariants.{OneOne, ActActIsda, Act365Fixed, Act360, Thirty360}
 use Rattle.irs_terms.specs.declared.codes.DayCountCode.TheVariants.{ThirtyE360, ThirtyE360Isda}
-use Rattle.irs_daycount.specs.Actual.{act_act_denominator}
-use Rattle.irs_daycount.specs.Fractions.{Fraction, IsNumerator, denominator_of}
+use Rattle.irs_daycount.specs.Fractions.{act_act_denominator, Fraction, IsNumerator, denominator_of}
 use Rattle.irs_daycount.specs.Private.FractionLaws.{one_denominator}
 use Rattle.irs_daycount.proofs.FractionBounds.{fraction_bounded}
 use Rattle.irs_compound.specs.Amounts.{IsDayCountFraction}

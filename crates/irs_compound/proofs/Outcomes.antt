@@ -4,10 +4,9 @@ use Rattle.std.specs.Prelude.{nat_lt}
 use Rattle.irs_base.specs.Outcomes.{Determined}
 use Rattle.irs_base.proofs.Outcomes.{unless_broken_determined}
 use Rattle.irs_terms.specs.declared.codes.CompCode.{CompCode}
-use Rattle.irs_compound.specs.Amounts.{AmountOf, IsOutOfRange}
+use Rattle.irs_compound.specs.Amounts.{AmountOf, IsOutOfRange, payment_amount_of}
 use Rattle.irs_compound.specs.Private.AmountLaws.{one_amount}
-use Rattle.irs_compound.specs.Outcomes.{payment_amount_of}
-use Rattle.irs_compound.specs.PartsLaws.{AllFractions}
+use Rattle.irs_compound.specs.AmountLaws.{AllFractions}
 use Rattle.irs_compound.specs.declared.periods.PeriodTerm.{PeriodTerm}
 use Rattle.irs_compound.proofs.AmountTheorems.{amount_decided, amount_there, one_amount_out}
 

@@ -9,8 +9,7 @@ use Rattle.irs_observed.specs.ObservedRates.{most_period_rate}
 use Rattle.irs_observed.specs.OvernightRates.{HasBounds}
 use Rattle.irs_observed.specs.declared.overnight_rate.OvernightRate.{OvernightRate}
 use Rattle.irs_observed.specs.declared.overnight_rate.OvernightRate.TheVariants.{Stated, Known, Absent, OutOfRange}
-use Rattle.irs_compound.specs.OvernightRates.{IsAbove}
-use Rattle.irs_compound.specs.PeriodRates.{fixed_rates_of, most_rounded_rate, rates_of}
+use Rattle.irs_compound.specs.PeriodRates.{IsAbove, fixed_rates_of, most_rounded_rate, rates_of}
 use Rattle.irs_compound.specs.declared.periods.Rates.{Rates}
 use Rattle.irs_compound.proofs.RateSizes.{rate_size}
 

@@ -3,7 +3,7 @@ use Rattle.std.proofs.Common.{◌≡◌, ℕ, ◌+◌, ◌-◌, ◌*◌, ◌^◌
 use Rattle.std.proofs.Common.{Option, Some, None, IfSome, arith, sym, ap, ◌∙◌, true, false, int_lt, if◌then◌else◌}
 use Rattle.std.proofs.lemmas.Nat.{pow-add}
 use Rattle.jiff_core.proofs.SignedLemmas.{signed_arith, product_within}
-use Rattle.irs_base.specs.Rounding.{rounded}
+use Rattle.irs_base.specs.Limits.{rounded}
 use Rattle.irs_base.proofs.RoundingLaws.{rounded_is, rounded_size}
 use Rattle.irs_terms.specs.declared.amounts.Rounding.{Rounding}
 use Rattle.irs_terms.specs.declared.amounts.FloatTerms.{FloatTerms}
@@ -13,13 +13,10 @@ use Rattle.irs_terms.specs.declared.amounts.Leg.{Leg}
 use Rattle.irs_terms.specs.declared.amounts.Leg.TheVariants.{Fixed, Floating}
 use Rattle.irs_terms.specs.declared.step_list.StepValues.{StepValues}
 use Rattle.irs_terms.specs.Lawful.{IsLawfulValues, IsLawfulFloat, IsLawfulLeg, IsRate}
-use Rattle.irs_compound.specs.InForce.{value_in_force}
-use Rattle.irs_compound.specs.Private.InForceLaws.{in_force_is, in_force_within}
-use Rattle.irs_compound.specs.PeriodRates.{rate_by_rounding, exact_base, treated, rates_of, fixed_rates_of, leg_rates}
-use Rattle.irs_compound.specs.PeriodRates.{most_rounded_rate}
-use Rattle.irs_compound.specs.Private.PeriodRates.{most_exact_rate}
-use Rattle.irs_compound.specs.Tens.{ten_above}
-use Rattle.irs_compound.specs.Private.Tens.{ten_positive}
+use Rattle.irs_compound.specs.PeriodRates.{value_in_force, rate_by_rounding, exact_base, treated, rates_of}
+use Rattle.irs_compound.specs.PeriodRates.{fixed_rates_of, leg_rates, most_rounded_rate}
+use Rattle.irs_compound.specs.Private.RateLaws.{in_force_is, in_force_within, most_exact_rate, ten_positive}
+use Rattle.irs_compound.specs.AmountLaws.{ten_above}
 
 -- a value in force is one of those that there are
 pub value_within : (Within : ℤ → Type 0) (values : StepValues) (d : ℤ) → IsLawfulValues Within values

@@ -2,7 +2,7 @@
 use Rattle.std.proofs.Common.{◌≡◌, sym, subst, Option, Some, None, IsSomeAnd, IfSome, IfNone, SomeIff}
 use Rattle.irs_terms.specs.declared.codes.CompCode.{CompCode}
 use Rattle.irs_compound.specs.Amounts.{StandsAt, RatesWithin, SumsWithin}
-use Rattle.irs_compound.specs.Private.Balances.{balance_after, Takes, Stops}
+use Rattle.irs_compound.specs.Private.AmountLaws.{balance_after, Takes, Stops}
 use Rattle.irs_compound.specs.declared.balances.Balance.{Balance}
 use Rattle.irs_compound.specs.declared.periods.Rates.{Rates}
 use Rattle.irs_compound.specs.declared.periods.PeriodTerm.{PeriodTerm}

@@ -1,19 +1,23 @@
--- Amounts of the periods of a payment, and of the payment: the 2006 ISDA Definitions, articles 5 and 6. Notionals are
--- in units of 10^-4, rates in units of 10^-9. Two rules are ours: that flat compounding takes the base rate, and how
--- the spread is excluded from compounding.
-use Rattle.std.specs.Prelude.{◌≡◌, ℕ, ℤ, pos, ◌-◌, ◌*◌, ◌^◌, ◌≤◌, ◌+ℤ◌, ◌-ℤ◌, ◌*ℤ◌, ◌≤ℤ◌, unsigned_abs, List, []}
-use Rattle.std.specs.Prelude.{◌∷◌, ◌++◌, length, All, IsSome, IsSomeAnd, Option, Some, None, slice_get, take}
-use Rattle.irs_base.specs.Limits.{most_numerator, most_periods}
-use Rattle.irs_base.specs.Rounding.{Rounded}
+-- Amounts of the periods of a payment, and of the payment: the 2006 ISDA Definitions, articles 5 and 6.
+use Rattle.std.specs.Prelude.{◌≡◌, ℕ, ℤ, pos, ◌-◌, ◌*◌, ◌^◌, ◌≤◌, ◌+ℤ◌, ◌-ℤ◌, ◌*ℤ◌, ◌≤ℤ◌, unsigned_abs, List, [], ◌∷◌}
+use Rattle.std.specs.Prelude.{◌++◌, length, All, IsSome, IsSomeAnd, Option, Some, None, slice_get, take, Result, Ok}
+use Rattle.std.specs.Prelude.{Err, nat_lt}
+use Rattle.irs_base.specs.Limits.{most_numerator, most_periods, Rounded}
 use Rattle.irs_base.specs.declared.rounding.Direction.TheVariants.{Nearest}
+use Rattle.irs_base.specs.Outcomes.{Spec, unless_broken}
 use Rattle.irs_terms.specs.Lawful.{IsNotional, IsRate}
 use Rattle.irs_terms.specs.declared.results.Frac.{Frac}
 use Rattle.irs_terms.specs.declared.codes.CompCode.{CompCode}
 use Rattle.irs_terms.specs.declared.codes.CompCode.TheVariants.{Simple, Straight, Flat, SpreadExclusive}
-use Rattle.irs_daycount.specs.Actual.{act_act_denominator}
+use Rattle.irs_daycount.specs.Fractions.{act_act_denominator}
 use Rattle.irs_compound.specs.declared.periods.Rates.{Rates}
 use Rattle.irs_compound.specs.declared.periods.PeriodTerm.{PeriodTerm}
 use Rattle.irs_compound.specs.declared.periods.Parts.{Parts}
+use Rattle.irs_compound.specs.declared.compounding.OutOfRange.{OutOfRange}
+
+-- ---- amounts of the periods of a payment, and of the payment: the 2006 ISDA Definitions, articles 5 and 6
+-- Notionals are in units of 10^-4, rates in units of 10^-9. Two rules are ours: that flat compounding takes the base
+-- rate, and how the spread is excluded from compounding.
 
 -- 10^14 units of currency, in units of 10^-6
 abbrev pub most_amount : ℕ
@@ -176,3 +180,14 @@ IsOutOfRange code ps number = AllPriced ps × PeriodPasses (code_for code ps) ps
 abbrev pub AmountOf : CompCode → List PeriodTerm → ℕ → Option ℤ → Type 0
 AmountOf code ps places None = SomeUnpriced ps
 AmountOf code ps places (Some m) = AllPriced ps × Pays (code_for code ps) ps places m
+
+-- ---- what the calls of this crate answer, and what they refuse: the position of a period in its payment (K39)
+
+-- the amount of a payment, absent where the rates of a period are, or the first period that leaves the range
+abbrev pub payment_amount_of : CompCode → List PeriodTerm → ℕ → Spec (Option ℤ) ℕ
+payment_amount_of code ps places = unless_broken nat_lt (IsOutOfRange code ps) (AmountOf code ps places)
+
+-- a result gives a right answer, or the position that is a right refusal
+abbrev pub MeetsPosition : {A : Type 0} → Spec A ℕ → Result A OutOfRange → Type 0
+MeetsPosition spec (Ok a) = spec.Answers a
+MeetsPosition spec (Err e) = spec.Refuses e.period

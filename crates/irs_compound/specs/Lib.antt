@@ -1,9 +1,4 @@
-pub mod InForce
 pub mod PeriodRates
-pub mod OvernightRates
 pub mod Amounts
-pub mod Tens
-pub mod PartsLaws
 pub mod AmountLaws
-pub mod Outcomes
 pub mod Private

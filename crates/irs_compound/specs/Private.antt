@@ -1,11 +1,2 @@
-pub mod PeriodRates
-pub mod Amounts
-pub mod Tens
-pub mod PartsLaws
-pub mod AmountLaws
-pub mod Outcomes
-pub mod InForceLaws
-pub mod StepCounts
 pub mod RateLaws
-pub mod OvernightLaws
-pub mod Balances
+pub mod AmountLaws

@@ -1,12 +1,10 @@
 //! The amount of a payment: the sum over its periods, rounded once to the decimals of its currency.
 ghost use Rattle.std.specs.Prelude.{◌≡◌, ◌-◌, ◌≤◌, IfOk, IfErr, length, nat_lt, pos, ◌≤ℤ◌};
-ghost use Rattle.irs_base.specs.Order.{First};
-ghost use Rattle.irs_daycount.specs.Actual.{act_act_denominator};
+ghost use Rattle.irs_base.specs.Outcomes.{First};
+ghost use Rattle.irs_daycount.specs.Fractions.{act_act_denominator};
 ghost use Rattle.irs_compound.specs.Amounts.{IsPaymentOfTerms, AllPriced, PeriodPasses, RoundedAt, code_for};
-ghost use Rattle.irs_compound.specs.Amounts.{most_currency_places};
-ghost use Rattle.irs_compound.specs.Private.Balances.{BalanceFits, Balances};
-ghost use Rattle.irs_compound.specs.Outcomes.{MeetsPosition};
-ghost use Rattle.irs_compound.specs.Private.Outcomes.{pay_of};
+ghost use Rattle.irs_compound.specs.Amounts.{most_currency_places, MeetsPosition};
+ghost use Rattle.irs_compound.specs.Private.AmountLaws.{BalanceFits, Balances, pay_of};
 
 use crate::balances::{Balance, next_balance};
 use crate::compounding::OutOfRange;

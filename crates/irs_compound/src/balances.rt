@@ -8,13 +8,12 @@ ghost use Rattle.std.specs.Prelude.{◌≡◌, ◌+◌, ◌*◌, ◌-◌, ◌≤
 ghost use Rattle.std.specs.Prelude.{unsigned_abs, IfSome, IfNone, SomeIff, MatchBool, IsSome};
 ghost use Rattle.irs_base.specs.Limits.{most_notional, most_rate};
 ghost use Rattle.irs_terms.specs.Lawful.{IsNotional};
-ghost use Rattle.irs_daycount.specs.Actual.{act_act_denominator};
+ghost use Rattle.irs_daycount.specs.Fractions.{act_act_denominator};
 ghost use Rattle.irs_compound.specs.declared.periods.Parts.{Parts};
 ghost use Rattle.irs_compound.specs.Amounts.{IsTermOver, StandsAt, PartsWithin, RatesWithin, amount, kept_of};
-ghost use Rattle.irs_compound.specs.Amounts.{most_amount};
-ghost use Rattle.irs_compound.specs.Amounts.{most_exact};
-ghost use Rattle.irs_compound.specs.Private.Amounts.{most_balance, most_product};
-ghost use Rattle.irs_compound.specs.Private.Balances.{BalanceFits, Takes, Stops, balance_after};
+ghost use Rattle.irs_compound.specs.Amounts.{most_amount, most_exact};
+ghost use Rattle.irs_compound.specs.Private.AmountLaws.{most_balance, most_product, BalanceFits, Takes, Stops};
+ghost use Rattle.irs_compound.specs.Private.AmountLaws.{balance_after};
 
 use crate::interest::{earned, interest};
 use crate::periods::{Parts, PeriodTerm, Rates};

@@ -4,9 +4,8 @@ ghost use Rattle.irs_base.specs.Outcomes.{unless_broken};
 ghost use Rattle.irs_terms.specs.declared.codes.CompCode.{CompCode};
 ghost use Rattle.irs_compound.specs.declared.periods.PeriodTerm.{PeriodTerm};
 ghost use Rattle.irs_compound.specs.Amounts.{IsPaymentOfTerms, AllPriced, PeriodPasses, Pays, code_for};
-ghost use Rattle.irs_compound.specs.Amounts.{most_currency_places};
+ghost use Rattle.irs_compound.specs.Amounts.{most_currency_places, MeetsPosition};
 ghost use Rattle.irs_compound.specs.AmountLaws.{one_amount_of, some_amount_of};
-ghost use Rattle.irs_compound.specs.Outcomes.{MeetsPosition};
 
 use crate::amounts::amount_by;
 use crate::periods::PeriodTerm;

@@ -2,7 +2,7 @@
 ghost use Rattle.std.specs.Prelude.{◌≡◌, ◌*◌, ◌≤◌, ◌*ℤ◌, unsigned_abs};
 ghost use Rattle.irs_base.specs.Limits.{most_rate};
 ghost use Rattle.irs_compound.specs.Amounts.{IsDayCountFraction, Interest};
-ghost use Rattle.irs_compound.specs.Private.Amounts.{most_balance, most_product};
+ghost use Rattle.irs_compound.specs.Private.AmountLaws.{most_balance, most_product};
 
 use crate::products::product;
 use irs_base::{Direction, round};

@@ -7,13 +7,13 @@
 ghost use Rattle.std.specs.Prelude.{◌≡◌, ◌≤◌, ◌+◌, pos, Option, IfNone, IfSome, unsigned_abs};
 ghost use Rattle.irs_base.specs.Limits.{most_rate};
 ghost use Rattle.irs_terms.specs.Lawful.{IsLawfulFloat, IsLawfulLeg, IsLawfulValues, IsRate};
-ghost use Rattle.irs_terms.specs.StepDates.{LegStepsRise, StepsRise};
+ghost use Rattle.irs_terms.specs.TermDates.{LegStepsRise, StepsRise};
 ghost use Rattle.irs_observed.specs.ObservedRates.{most_period_rate, period_rate_at};
 ghost use Rattle.irs_observed.specs.OvernightRates.{HasBounds};
 ghost use Rattle.irs_compound.specs.declared.periods.Rates.{Rates};
-ghost use Rattle.irs_compound.specs.OvernightRates.{AreRatesIn, IsAbove, floating_rates_by, out_of_range, overnight_rates_by};
-ghost use Rattle.irs_compound.specs.OvernightRates.{rates_in, rates_over};
-ghost use Rattle.irs_compound.specs.PeriodRates.{fixed_rates_of, leg_rates, rates_of, treated};
+ghost use Rattle.irs_compound.specs.PeriodRates.{AreRatesIn, IsAbove, floating_rates_by, out_of_range};
+ghost use Rattle.irs_compound.specs.PeriodRates.{overnight_rates_by, rates_in, rates_over, fixed_rates_of, leg_rates};
+ghost use Rattle.irs_compound.specs.PeriodRates.{rates_of, treated};
 
 use crate::periods::Rates;
 use crate::rates::treated;

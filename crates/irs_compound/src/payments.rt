@@ -4,8 +4,7 @@ ghost use Rattle.std.specs.Prelude.{◌≡◌, ◌≤◌, ℕ, ℤ, List, length
 ghost use Rattle.irs_base.specs.Outcomes.{Determined};
 ghost use Rattle.irs_compound.specs.declared.periods.Parts.{Parts};
 ghost use Rattle.irs_compound.specs.Amounts.{IsPaymentOfTerms, AllPriced, SomeUnpriced, IsOutOfRange, Follows};
-ghost use Rattle.irs_compound.specs.Amounts.{most_currency_places, most_units};
-ghost use Rattle.irs_compound.specs.Outcomes.{MeetsPosition, payment_amount_of};
+ghost use Rattle.irs_compound.specs.Amounts.{most_currency_places, most_units, MeetsPosition, payment_amount_of};
 
 use crate::amounts::amount_by;
 use crate::compounding::OutOfRange;

@@ -1,6 +1,6 @@
 //! Products of whole numbers that fit 128 bits, and powers of ten.
 ghost use Rattle.std.specs.Prelude.{◌≡◌, ◌<◌, ◌≤◌, ◌^◌, ◌*◌, pos, ◌<ℤ◌, ◌≤ℤ◌, ◌*ℤ◌, unsigned_abs};
-ghost use Rattle.irs_daycount.specs.Actual.{act_act_denominator};
+ghost use Rattle.irs_daycount.specs.Fractions.{act_act_denominator};
 
 use irs_base::power_of_ten;
 

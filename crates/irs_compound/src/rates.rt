@@ -6,16 +6,12 @@
 //! is then 0, and the base rate stays. That the base rate is rounded as the rate is, and that the
 //! treatment applies to the rounded rate with the spread, are our rules.
 ghost use Rattle.std.specs.Prelude.{◌≡◌, ◌+◌, ◌-◌, ◌*◌, ◌≤◌, ◌^◌, pos, ◌+ℤ◌, ◌*ℤ◌, unsigned_abs};
-ghost use Rattle.irs_base.specs.Rounding.{rounded};
+ghost use Rattle.irs_base.specs.Limits.{rounded, most_rate};
 ghost use Rattle.irs_terms.specs.Lawful.{IsRate, IsLawfulValues, IsLawfulFloat};
-ghost use Rattle.irs_base.specs.Limits.{most_rate};
 ghost use Rattle.irs_compound.specs.declared.periods.Rates.{Rates};
-ghost use Rattle.irs_compound.specs.InForce.{value_in_force};
-ghost use Rattle.irs_compound.specs.PeriodRates.{RatesOf, rate_by_rounding, treated};
-ghost use Rattle.irs_compound.specs.Private.PeriodRates.{all_in_at};
-ghost use Rattle.irs_compound.specs.PeriodRates.{rates_of};
-ghost use Rattle.irs_compound.specs.Private.PeriodRates.{most_exact_base, most_exact_rate};
+ghost use Rattle.irs_compound.specs.PeriodRates.{value_in_force, RatesOf, rate_by_rounding, treated, rates_of};
 ghost use Rattle.irs_compound.specs.PeriodRates.{most_rounded_rate};
+ghost use Rattle.irs_compound.specs.Private.RateLaws.{all_in_at, most_exact_base, most_exact_rate};
 
 use crate::periods::Rates;
 use crate::products::{product, ten_to};

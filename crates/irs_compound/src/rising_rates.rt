@@ -2,10 +2,10 @@
 ghost use Rattle.std.specs.Prelude.{◌≡◌, ◌≤◌, unsigned_abs, Option, IfSome};
 ghost use Rattle.irs_base.specs.Limits.{most_rate};
 ghost use Rattle.irs_terms.specs.Lawful.{IsRate, IsLawfulValues, IsLawfulFloat, IsLawfulLeg};
-ghost use Rattle.irs_terms.specs.StepDates.{StepsRise, LegStepsRise};
+ghost use Rattle.irs_terms.specs.TermDates.{StepsRise, LegStepsRise};
 ghost use Rattle.irs_compound.specs.declared.periods.Rates.{Rates};
-ghost use Rattle.irs_compound.specs.InForce.{value_in_force};
-ghost use Rattle.irs_compound.specs.PeriodRates.{AreRates, rates_of, fixed_rates_of, leg_rates, most_rounded_rate};
+ghost use Rattle.irs_compound.specs.PeriodRates.{value_in_force, AreRates, rates_of, fixed_rates_of, leg_rates};
+ghost use Rattle.irs_compound.specs.PeriodRates.{most_rounded_rate};
 
 use crate::periods::Rates;
 use crate::rates::{fixed_from, rates_from};

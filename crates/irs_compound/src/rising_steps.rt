@@ -1,7 +1,7 @@
 //! The value in force where the steps rise: the steps that aren't after the day are counted.
 ghost use Rattle.std.specs.Prelude.{◌≡◌, ℤ};
-ghost use Rattle.irs_terms.specs.StepDates.{StepsRise};
-ghost use Rattle.irs_compound.specs.InForce.{InForce, last_from, value_in_force};
+ghost use Rattle.irs_terms.specs.TermDates.{StepsRise};
+ghost use Rattle.irs_compound.specs.PeriodRates.{InForce, last_from, value_in_force};
 
 use crate::step_counts::count_to;
 use irs_base::Day;

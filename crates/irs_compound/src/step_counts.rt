@@ -2,8 +2,8 @@
 //! period has one, the day itself says how many; else they are counted by halves.
 ghost use Rattle.std.specs.Prelude.{◌≡◌, ◌<◌, ◌≤◌, pos, ◌+ℤ◌, ◌≤ℤ◌, length, IsTrue, ◌↔◌};
 ghost use Rattle.irs_base.specs.Days.{all_days};
-ghost use Rattle.irs_terms.specs.StepDates.{StepsRise};
-ghost use Rattle.irs_compound.specs.Private.StepCounts.{IsCountTo};
+ghost use Rattle.irs_terms.specs.TermDates.{StepsRise};
+ghost use Rattle.irs_compound.specs.Private.RateLaws.{IsCountTo};
 
 use irs_base::Day;
 use irs_terms::Step;

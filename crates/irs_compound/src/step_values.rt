@@ -1,7 +1,7 @@
 //! The value that a schedule of steps gives on a day, in whatever order they are. It is that of the last
 //! step not after the day, else the initial value (FpML `Schedule`).
 ghost use Rattle.std.specs.Prelude.{◌≡◌};
-ghost use Rattle.irs_compound.specs.InForce.{InForce, counted_step, last_from, value_in_force};
+ghost use Rattle.irs_compound.specs.PeriodRates.{InForce, counted_step, last_from, value_in_force};
 
 use irs_base::Day;
 use irs_terms::{Step, StepValues};

@@ -2,9 +2,8 @@
 use Rattle.std.proofs.Common.{◌≡◌, ℕ, ◌+◌, ◌*◌, ◌^◌, ◌<◌, ◌≤◌, List, length, take, Option, Some, None, IsSome, ℤ, pos}
 use Rattle.std.proofs.Common.{refl, sym, subst, arith}
 use Rattle.std.specs.Prelude.{get_or, unsigned_abs}
-use Rattle.irs_observed.specs.DailyRates.{AreKnown, DailyRates, Through}
-use Rattle.irs_observed.specs.Factors.{FactorPasses, GrowsBy, one_factor}
-use Rattle.irs_observed.specs.ObservedRates.{AddsBy, days_of_year, rate_precision}
+use Rattle.irs_observed.specs.ObservedRates.{AreKnown, DailyRates, Through, FactorPasses, GrowsBy, one_factor, AddsBy}
+use Rattle.irs_observed.specs.ObservedRates.{days_of_year, rate_precision}
 use Rattle.irs_observed.specs.Observations.{HasWeights, total_weight}
 use Rattle.irs_observed.specs.declared.method.DailyRateMethod.{DailyRateMethod}
 use Rattle.irs_observed.specs.declared.method.DailyRateMethod.TheVariants.{Compounding, Averaging}

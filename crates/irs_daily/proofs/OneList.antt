@@ -5,10 +5,9 @@ use Rattle.irs_base.proofs.MemberLemmas.{one_numbered}
 use Rattle.irs_resets.specs.Rates.{RateTable}
 use Rattle.irs_resets.specs.declared.observed.PeriodKind.{PeriodKind}
 use Rattle.irs_resets.proofs.KindLaws.{one_kind}
-use Rattle.irs_observed.specs.DailyRates.{AreKnown, DailyRates, Through, daily_rates}
-use Rattle.irs_observed.specs.Factors.{GrowsBy, one_factor}
-use Rattle.irs_observed.specs.ObservationPeriods.{ObservedPeriod}
-use Rattle.irs_observed.specs.ObservedRates.{AddsBy, days_of_year, rate_precision}
+use Rattle.irs_observed.specs.ObservedRates.{AreKnown, DailyRates, Through, daily_rates, GrowsBy, one_factor, AddsBy}
+use Rattle.irs_observed.specs.ObservedRates.{days_of_year, rate_precision}
+use Rattle.irs_observed.specs.Observations.{ObservedPeriod}
 use Rattle.irs_observed.specs.OvernightRates.{OvernightSource, period_of, source_periods}
 use Rattle.irs_observed.specs.declared.method.DailyRateMethod.{DailyRateMethod}
 use Rattle.irs_observed.specs.declared.method.DailyRateMethod.TheVariants.{Compounding, Averaging}
@@ -17,8 +16,7 @@ use Rattle.irs_observed.proofs.FactorLemmas.{one_grown}
 use Rattle.irs_observed.proofs.OutcomeLemmas.{one_observations}
 use Rattle.irs_observed.proofs.ThroughLemmas.{one_through}
 use Rattle.irs_daily.specs.ObservedRows.{AreDailyRows, AreObservedRows, AreRowsBy, AreRowsOf, AreRowsOfKind, day_rows}
-use Rattle.irs_daily.specs.ObservedRows.{joined_rows}
-use Rattle.irs_daily.specs.PeriodFactors.{IsFactor, IsFactorOrAbsent}
+use Rattle.irs_daily.specs.ObservedRows.{joined_rows, IsFactor, IsFactorOrAbsent}
 use Rattle.irs_daily.specs.declared.rows.ObservedRow.{ObservedRow}
 use Rattle.irs_daily.specs.declared.rows.ObservedRow.TheVariants.{Daily}
 use Rattle.irs_daily.proofs.Growths.{some_days}

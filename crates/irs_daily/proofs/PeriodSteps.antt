@@ -1,26 +1,22 @@
 -- The rows of one period: what its kind and its observations give.
 use Rattle.std.proofs.Common.{◌≡◌, inl, inr, ℕ, List, [], ◌∷◌, Result, Ok, Err, sym, subst, ap₂, ℤ}
-use Rattle.irs_base.specs.Faults.{IfStopped}
-use Rattle.irs_base.specs.Outcomes.{Meets}
+use Rattle.irs_base.specs.Outcomes.{IfStopped, Meets}
 use Rattle.irs_base.specs.declared.stopped.Stopped.{Stopped}
 use Rattle.irs_base.specs.declared.stopped.Stopped.TheVariants.{Broken as OfBroken, Memory as OfMemory}
 use Rattle.irs_resets.specs.Rates.{RateTable}
-use Rattle.irs_resets.specs.ResetDates.{IsPeriod}
+use Rattle.irs_resets.specs.Resets.{IsPeriod}
 use Rattle.irs_resets.specs.declared.observed.PeriodKind.{PeriodKind}
 use Rattle.irs_resets.proofs.KindLaws.{one_kind}
-use Rattle.irs_observed.specs.DailyRates.{DailyRates, daily_rates}
-use Rattle.irs_observed.specs.ObservationPeriods.{ObservedPeriod}
-use Rattle.irs_observed.specs.ObservationRules.{LacksObservations}
-use Rattle.irs_observed.specs.Observations.{AreObservations}
-use Rattle.irs_observed.specs.ObservedRates.{PassesLimit}
-use Rattle.irs_observed.specs.OvernightRates.{IsKindIn, OvernightSource, period_of, source_periods}
-use Rattle.irs_observed.specs.RateOrigins.{HasOwnRate, StatesRate}
+use Rattle.irs_observed.specs.ObservedRates.{DailyRates, daily_rates, PassesLimit}
+use Rattle.irs_observed.specs.Observations.{ObservedPeriod, LacksObservations, AreObservations}
+use Rattle.irs_observed.specs.OvernightRates.{IsKindIn, OvernightSource, period_of, source_periods, HasOwnRate}
+use Rattle.irs_observed.specs.OvernightRates.{StatesRate}
 use Rattle.irs_observed.specs.declared.method.DailyRateMethod.{DailyRateMethod}
 use Rattle.irs_observed.specs.declared.observation.NoObservations.{NoObservations}
 use Rattle.irs_observed.specs.declared.observation.Observation.{Observation}
 use Rattle.irs_observed.proofs.OutcomeLemmas.{one_observations}
-use Rattle.irs_daily.specs.Outcomes.{HasNoDailyRows, HasNoRows}
-use Rattle.irs_daily.specs.Private.Outcomes.{daily_rows_of, period_rows_of, rows_by_of}
+use Rattle.irs_daily.specs.ObservedRows.{HasNoDailyRows, HasNoRows}
+use Rattle.irs_daily.specs.Private.FactorSteps.{daily_rows_of, period_rows_of, rows_by_of}
 use Rattle.irs_daily.specs.declared.periods.PeriodRows.{PeriodRows}
 use Rattle.irs_daily.specs.declared.rows.NoRowsWhy.{NoRowsWhy}
 use Rattle.irs_daily.specs.declared.rows.NoRowsWhy.TheVariants.{Unobserved, OutOfRange}

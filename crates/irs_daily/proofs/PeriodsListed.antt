@@ -1,14 +1,13 @@
 -- The rows of the periods, one period after another.
 use Rattle.std.proofs.Common.{◌≡◌, inl, inr, ℕ, ◌+◌, ◌<◌, ◌≤◌, List, [], ◌∷◌, ◌++◌, length, length-append, refl, sym, subst}
 use Rattle.std.proofs.Common.{◌∙◌, ap, arith, ℤ}
-use Rattle.irs_base.specs.Members.{EachNumbered}
+use Rattle.irs_base.specs.Lists.{EachNumbered}
 use Rattle.irs_base.proofs.MemberLemmas.{numbered_push}
 use Rattle.irs_resets.specs.Rates.{RateTable}
 use Rattle.irs_resets.proofs.FileLemmas.{below}
 use Rattle.irs_resets.proofs.RowLemmas.{many_rows}
 use Rattle.irs_observed.specs.OvernightRates.{OvernightSource}
-use Rattle.irs_daily.specs.ObservedRows.{AreObservedRows, AreRowsOf, joined_rows}
-use Rattle.irs_daily.specs.Outcomes.{HasNoRows, NoneBefore}
+use Rattle.irs_daily.specs.ObservedRows.{AreObservedRows, AreRowsOf, joined_rows, HasNoRows, NoneBefore}
 use Rattle.irs_daily.specs.declared.rows.NoRowsWhy.{NoRowsWhy}
 use Rattle.irs_daily.specs.declared.rows.ObservedRow.{ObservedRow}
 use Rattle.irs_daily.proofs.RowSteps.{joined_more}

@@ -1,17 +1,15 @@
 -- The observed rates of a stream and its rows: each period that has the one has the other.
 use Rattle.std.proofs.Common.{◌≡◌, inl, inr, ℕ, ◌+◌, List, [], ◌∷◌, Option, Some, None, ℤ, refl, sym, subst, ◌∙◌, ap}
 use Rattle.std.proofs.Common.{ap₂, arith}
-use Rattle.irs_base.specs.Members.{EachNumbered, Every}
+use Rattle.irs_base.specs.Lists.{EachNumbered, Every}
 use Rattle.irs_base.proofs.MemberLemmas.{numbered_has}
 use Rattle.irs_resets.specs.Rates.{RateTable}
 use Rattle.irs_resets.specs.declared.observed.PeriodKind.{PeriodKind}
 use Rattle.irs_resets.proofs.KindLaws.{one_kind}
-use Rattle.irs_observed.specs.DailyRates.{DailyRates, daily_rates}
-use Rattle.irs_observed.specs.ObservedRates.{RateFraction, IsObservedRate, PassesLimit}
-use Rattle.irs_observed.specs.OvernightRates.{AreOvernightRates, IsOvernightRate, IsRateBy, IsRateOf}
-use Rattle.irs_observed.specs.OvernightRates.{OvernightSource, period_of, source_periods}
-use Rattle.irs_observed.specs.Private.OvernightWalk.{NoneLacks}
-use Rattle.irs_observed.specs.RateOrigins.{HasOwnRate}
+use Rattle.irs_observed.specs.ObservedRates.{DailyRates, daily_rates, RateFraction, IsObservedRate, PassesLimit}
+use Rattle.irs_observed.specs.OvernightRates.{AreOvernightRates, IsOvernightRate, IsRateBy, IsRateOf, OvernightSource}
+use Rattle.irs_observed.specs.OvernightRates.{period_of, source_periods, HasOwnRate}
+use Rattle.irs_observed.specs.Private.OvernightRates.{NoneLacks}
 use Rattle.irs_observed.specs.declared.method.DailyRateMethod.{DailyRateMethod}
 use Rattle.irs_observed.specs.declared.method.DailyRateMethod.TheVariants.{Compounding, Averaging}
 use Rattle.irs_observed.specs.declared.observation.Observation.{Observation}
@@ -20,9 +18,8 @@ use Rattle.irs_observed.specs.declared.overnight_rate.OvernightRate.TheVariants.
 use Rattle.irs_observed.proofs.FirstOvernight.{none_lacks_at}
 use Rattle.irs_observed.proofs.OutcomeLemmas.{one_observations}
 use Rattle.irs_daily.specs.Laws.{NoneOutOfRange, RatesHaveRows, RowsShowRates, Show, rate_of_factor, rows_with}
-use Rattle.irs_daily.specs.ObservedRows.{AreRowsBy, AreRowsOfKind}
-use Rattle.irs_daily.specs.Outcomes.{HasNoRows, PassesFactorLimit}
-use Rattle.irs_daily.specs.PeriodFactors.{IsFactor, IsFactorOrAbsent}
+use Rattle.irs_daily.specs.ObservedRows.{AreRowsBy, AreRowsOfKind, HasNoRows, PassesFactorLimit, IsFactor}
+use Rattle.irs_daily.specs.ObservedRows.{IsFactorOrAbsent}
 use Rattle.irs_daily.specs.declared.rows.NoRowsWhy.{NoRowsWhy}
 use Rattle.irs_daily.specs.declared.rows.NoRowsWhy.TheVariants.{Unobserved, OutOfRange as PassedLimit}
 use Rattle.irs_daily.specs.declared.rows.ObservedRow.{ObservedRow}

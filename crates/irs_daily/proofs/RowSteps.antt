@@ -3,7 +3,7 @@ use Rattle.std.proofs.Common.{◌≡◌, ℕ, zero, suc, ◌+◌, ◌<◌, ◌�
 use Rattle.std.proofs.Common.{arith, append_assoc}
 use Rattle.std.specs.List.{flat_map}
 use Rattle.std.proofs.lemmas.List.{append-nil, take_all}
-use Rattle.irs_observed.specs.DailyRates.{DailyRates}
+use Rattle.irs_observed.specs.ObservedRates.{DailyRates}
 use Rattle.irs_observed.specs.declared.observation.Observation.{Observation}
 use Rattle.irs_daily.specs.ObservedRows.{day_row, day_rows, joined_rows}
 use Rattle.irs_daily.specs.declared.rows.ObservedRow.{ObservedRow}

@@ -1,20 +1,17 @@
 -- What holds of the rows of every stream with calculation parameters.
 use Rattle.std.specs.Prelude.{◌≡◌, ℕ, List, [], ◌∷◌, ℤ, pos, ◌*ℤ◌, ◌-ℤ◌, ◌^◌, Option, Some, None}
-use Rattle.irs_base.specs.Members.{Every}
+use Rattle.irs_base.specs.Lists.{Every}
 use Rattle.irs_resets.specs.Rates.{RateTable}
-use Rattle.irs_observed.specs.DailyRates.{DailyRates, daily_rates}
-use Rattle.irs_observed.specs.Factors.{one_factor}
-use Rattle.irs_observed.specs.ObservedRates.{RateFraction, days_of_year, rate_precision}
+use Rattle.irs_observed.specs.ObservedRates.{DailyRates, daily_rates, one_factor, RateFraction, days_of_year}
+use Rattle.irs_observed.specs.ObservedRates.{rate_precision}
 use Rattle.irs_observed.specs.Observations.{total_weight}
-use Rattle.irs_observed.specs.Outcomes.{overnight_rates_of}
-use Rattle.irs_observed.specs.OvernightRates.{IsOvernightRate, OvernightSource}
+use Rattle.irs_observed.specs.OvernightRates.{overnight_rates_of, IsOvernightRate, OvernightSource}
 use Rattle.irs_observed.specs.declared.method.DailyRateMethod.{DailyRateMethod}
 use Rattle.irs_observed.specs.declared.method.DailyRateMethod.TheVariants.{Compounding, Averaging}
 use Rattle.irs_observed.specs.declared.observation.Observation.{Observation}
 use Rattle.irs_observed.specs.declared.overnight_rate.OvernightRate.{OvernightRate}
 use Rattle.irs_observed.specs.declared.overnight_rate.OvernightRate.TheVariants.{Stated, Known, Absent, OutOfRange}
-use Rattle.irs_daily.specs.ObservedRows.{AreObservedRows, AreRowsOf, day_rows}
-use Rattle.irs_daily.specs.Outcomes.{HasNoRows}
+use Rattle.irs_daily.specs.ObservedRows.{AreObservedRows, AreRowsOf, day_rows, HasNoRows}
 use Rattle.irs_daily.specs.declared.rows.NoRowsWhy.{NoRowsWhy}
 use Rattle.irs_daily.specs.declared.rows.ObservedRow.{ObservedRow}
 use Rattle.irs_daily.specs.declared.rows.ObservedRow.TheVariants.{Daily, Stub}

@@ -7,8 +7,7 @@ ghost use Rattle.std.specs.Prelude.{◌≡◌, ◌*◌, ◌^◌, ◌<◌, ◌≤
 ghost use Rattle.irs_base.specs.Days.{all_days};
 ghost use Rattle.irs_base.specs.declared.rounding.Direction.TheVariants.{Nearest};
 ghost use Rattle.irs_terms.specs.Lawful.{IsRate};
-ghost use Rattle.irs_observed.specs.Factors.{unit_rate};
-ghost use Rattle.irs_observed.specs.ObservedRates.{days_of_year};
+ghost use Rattle.irs_observed.specs.ObservedRates.{unit_rate, days_of_year};
 ghost use Rattle.irs_observed.specs.declared.method.DailyRateMethod.TheVariants.{Averaging as Averages};
 ghost use Rattle.irs_observed.specs.declared.method.DailyRateMethod.TheVariants.{Compounding as Compounds};
 ghost use Rattle.irs_daily.specs.Private.FactorSteps.{IsNext, IsSmall, IsStepped, StepsBy, first_factor, most_factor};

@@ -1,10 +1,10 @@
 //! The days that make up each rate of a stream with calculation parameters, in rows.
 ghost use Rattle.std.specs.Prelude.{◌≡◌, ◌++◌, ◌∷◌, ◌<◌, ◌^◌, length, IfSome, OnOk};
-ghost use Rattle.irs_base.specs.Listed.{IsRising};
+ghost use Rattle.irs_base.specs.Lists.{IsRising};
 ghost use Rattle.irs_base.specs.Outcomes.{Meets};
 ghost use Rattle.irs_terms.specs.Lawful.{IsLawfulStubs};
 ghost use Rattle.irs_observed.specs.OvernightRates.{overnight_source};
-ghost use Rattle.irs_daily.specs.Outcomes.{observed_rows_of};
+ghost use Rattle.irs_daily.specs.ObservedRows.{observed_rows_of};
 
 use crate::periods::{PeriodRows, period_rows};
 use crate::rows::{NoRows, ObservedRow, ObservedRows};

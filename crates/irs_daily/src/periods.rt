@@ -1,17 +1,14 @@
 //! The rows of one calculation period.
 ghost use Rattle.std.specs.Prelude.{◌≡◌, ◌^◌, ◌<◌, ◌<ℤ◌, [], length, IfOk, IfSome};
-ghost use Rattle.irs_base.specs.Listed.{IsRising};
-ghost use Rattle.irs_base.specs.Members.{day_at};
+ghost use Rattle.irs_base.specs.Lists.{IsRising, day_at};
 ghost use Rattle.irs_base.specs.Outcomes.{Meets};
 ghost use Rattle.irs_terms.specs.Lawful.{IsLawfulStubs};
-ghost use Rattle.irs_resets.specs.ResetDates.{IsPeriod};
-ghost use Rattle.irs_observed.specs.DailyRates.{daily_rates, rates_by};
-ghost use Rattle.irs_observed.specs.ObservationPeriods.{observed_period};
-ghost use Rattle.irs_observed.specs.Observations.{HasWeights};
+ghost use Rattle.irs_resets.specs.Resets.{IsPeriod};
+ghost use Rattle.irs_observed.specs.ObservedRates.{daily_rates, rates_by};
+ghost use Rattle.irs_observed.specs.Observations.{observed_period, HasWeights};
 ghost use Rattle.irs_observed.specs.OvernightRates.{overnight_source};
-ghost use Rattle.irs_daily.specs.Private.FactorSteps.{IsGrowthOf};
+ghost use Rattle.irs_daily.specs.Private.FactorSteps.{IsGrowthOf, daily_rows_of, period_rows_of, rows_by_of};
 ghost use Rattle.irs_daily.specs.ObservedRows.{day_rows};
-ghost use Rattle.irs_daily.specs.Private.Outcomes.{daily_rows_of, period_rows_of, rows_by_of};
 ghost use Rattle.irs_daily.specs.declared.rows.ObservedRow.TheVariants.{Stub as OfStub};
 
 use crate::factors::{first_growth, grown};

@@ -5,10 +5,9 @@
 //! rates and a rate have 9. What is absent is `-`. A stub with a rate of its own is `c PERIOD stub -`.
 ghost use Rattle.std.specs.Prelude.{◌≡◌, ◌+◌, ◌≤◌, [], ◌∷◌, ◌++◌, length, IfOk, OnOk};
 ghost use Rattle.std.specs.List.{flat_map};
-ghost use Rattle.irs_daily.specs.RowTexts.{day_fields, number_or_dash, factor_decimals, observations_first_line};
-ghost use Rattle.irs_daily.specs.RowTexts.{method_name};
-ghost use Rattle.irs_daily.specs.RowTexts.{observations_text, period_row_text, rate_places, row_fields, row_line};
-ghost use Rattle.irs_daily.specs.RowTexts.{stub_fields};
+ghost use Rattle.irs_daily.specs.ObservedRows.{day_fields, number_or_dash, factor_decimals, observations_first_line};
+ghost use Rattle.irs_daily.specs.ObservedRows.{method_name, observations_text, period_row_text, rate_places};
+ghost use Rattle.irs_daily.specs.ObservedRows.{row_fields, row_line, stub_fields};
 ghost use Rattle.irs_base.specs.Texts.{factor_places};
 
 use crate::rows::{DayRow, ObservedRow, ObservedRows, PeriodRow};
@@ -138,7 +137,7 @@ fn put_row(line: &mut Line, row: &ObservedRow)
 }
 
 // Replaces what the line holds with the line of a row.
-#[tactic(auto, unfolding(crate::specs::RowTexts::row_line))]
+#[tactic(auto, unfolding(crate::specs::ObservedRows::row_line))]
 fn row_line(row: &ObservedRow, line: &mut Line)
     ensures { line.new ≡ row_line row.now }
 {

@@ -5,13 +5,12 @@ use Rattle.std.proofs.lemmas.Bool.{cases_lt}
 use Rattle.jiff_core.specs.Calendar.{days_in_year, is_leap_year}
 use Rattle.jiff_core.proofs.SignedLemmas.{signed_arith}
 use Rattle.jiff_core.proofs.CalendarLemmas.{day_count-next_year, days_in_year_bounds}
-use Rattle.irs_base.specs.Days.{IsDay}
-use Rattle.irs_base.specs.DateOf.{year_part}
+use Rattle.irs_base.specs.Days.{IsDay, year_part}
 use Rattle.irs_base.proofs.DateWalks.{IsPlaced, year_place, placed_once}
-use Rattle.irs_daycount.specs.Actual.{ActAct, act_act_denominator, act_act_parts, in_leap_year, in_common_year}
-use Rattle.irs_daycount.specs.Actual.{days_counted}
+use Rattle.irs_daycount.specs.Fractions.{ActAct, act_act_denominator, act_act_parts, in_leap_year, in_common_year}
+use Rattle.irs_daycount.specs.Fractions.{days_counted}
 use Rattle.irs_terms.specs.declared.results.Frac.{Frac}
-use Rattle.irs_daycount.specs.Private.Places.{weight_of, place_at, place_of_day}
+use Rattle.irs_daycount.specs.Private.FractionLaws.{weight_of, place_at, place_of_day}
 
 by_leap : (b : Bool) → (if b then 366 else 365) * (if b then 365 else 366) ≡ act_act_denominator
 by_leap true = refl

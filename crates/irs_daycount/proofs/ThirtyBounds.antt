@@ -4,15 +4,13 @@ use Rattle.std.proofs.Common.{◌==◌, ◌&&◌, ◌||◌, not, ℤ, pos, ◌+�
 use Rattle.std.proofs.lemmas.Bool.{cases_lt}
 use Rattle.std.proofs.lemmas.Bool.Decides.{nat_tests}
 use Rattle.jiff_core.proofs.SignedLemmas.{signed_arith}
-use Rattle.irs_base.specs.Months.{dim, month_start}
+use Rattle.irs_base.specs.Days.{dim, month_start, IsDay, HasDate, year_of, month_of, day_of_month}
 use Rattle.irs_base.proofs.MonthLemmas.{dim_bounds, month_start-next, month_start-later, days_from_civil-month}
 use Rattle.irs_base.proofs.MonthLemmas.{dim-civil}
 use Rattle.irs_base.proofs.DateWalks.{date_of_day}
-use Rattle.irs_base.specs.Days.{IsDay, HasDate}
-use Rattle.irs_base.specs.DateOf.{year_of, month_of, day_of_month}
 use Rattle.jiff_core.specs.Calendar.{days_in_month}
 use Rattle.jiff_core.proofs.CalendarLemmas.{days_in_month_bounds}
-use Rattle.irs_daycount.specs.Thirty.{date_of, bond_days, euro_days, isda_days}
+use Rattle.irs_daycount.specs.Fractions.{date_of, bond_days, euro_days, isda_days}
 
 -- k months later begins at least 28 days for each month later
 rises : (j k : ℕ) → (month_start (pos j) +ℤ pos (28 * k)) ≤ℤ month_start (pos (j + k))

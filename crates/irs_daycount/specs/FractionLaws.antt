@@ -5,8 +5,7 @@ use Rattle.irs_terms.specs.declared.results.Frac.{Frac}
 use Rattle.irs_terms.specs.declared.codes.DayCountCode.{DayCountCode}
 use Rattle.irs_terms.specs.declared.codes.DayCountCode.TheVariants.{OneOne, ActActIsda, Act365Fixed, Act360, Thirty360}
 use Rattle.irs_terms.specs.declared.codes.DayCountCode.TheVariants.{ThirtyE360, ThirtyE360Isda}
-use Rattle.irs_daycount.specs.Actual.{ActAct, act_act_parts}
-use Rattle.irs_daycount.specs.Fractions.{Fraction}
+use Rattle.irs_daycount.specs.Fractions.{ActAct, act_act_parts, Fraction}
 
 -- fractions with one numerator and one denominator are equal
 same_frac : (f g : Frac) → f.num ≡ g.num → f.den ≡ g.den → f ≡ g

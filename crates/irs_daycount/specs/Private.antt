@@ -1,2 +1,1 @@
 pub mod FractionLaws
-pub mod Places

@@ -8,8 +8,8 @@ ghost use Rattle.std.specs.Prelude.{◌≡◌, ◌≤◌, ◌+◌, ◌-◌, ◌<
 ghost use Rattle.std.specs.Int.{IsInRange};
 ghost use Rattle.jiff_core.specs.Calendar.{IsCivilDate, day_of_year, days_of_months};
 ghost use Rattle.irs_base.specs.Days.{IsDay, last_year};
-ghost use Rattle.irs_daycount.specs.Actual.{ActAct};
-ghost use Rattle.irs_daycount.specs.Private.Places.{most_place, place_at, place_of_day};
+ghost use Rattle.irs_daycount.specs.Fractions.{ActAct};
+ghost use Rattle.irs_daycount.specs.Private.FractionLaws.{most_place, place_at, place_of_day};
 
 use irs_base::{Civil, Day, civil_of};
 use irs_terms::Frac;

@@ -6,8 +6,8 @@
 ghost use Rattle.std.specs.Prelude.{◌≡◌, ◌≤◌, pos, ◌+ℤ◌, ◌*ℤ◌, ◌-ℤ◌, ◌-◌, negsuc};
 ghost use Rattle.jiff_core.specs.Calendar.{IsBetween};
 ghost use Rattle.irs_base.specs.Days.{first_year, last_year};
-ghost use Rattle.irs_daycount.specs.Thirty.{date_of, is_february_end, by_months, bond_d1, bond_d2, bond_days, euro_day};
-ghost use Rattle.irs_daycount.specs.Thirty.{euro_days, isda_d1, isda_d2, isda_days};
+ghost use Rattle.irs_daycount.specs.Fractions.{date_of, is_february_end, by_months, bond_d1, bond_d2, bond_days};
+ghost use Rattle.irs_daycount.specs.Fractions.{euro_day, euro_days, isda_d1, isda_d2, isda_days};
 
 use irs_base::{Civil, Day, civil_of};
 use jiff_core::civil::days_in_month;

@@ -4,8 +4,7 @@ use Rattle.std.proofs.Common.{refl, sym, ap, ◌∙◌}
 use Rattle.std.specs.Prelude.{codes}
 use Rattle.std.specs.List.{list_any, Contains}
 use Rattle.std.proofs.lemmas.List.Folds.{list_any_at}
-use Rattle.irs_json.specs.Carrier.{child_of}
-use Rattle.irs_json.specs.Leaves.{is_attribute_name}
+use Rattle.irs_json.specs.Leaves.{child_of, is_attribute_name}
 use Rattle.serde_json.specs.Data.{Data}
 use Rattle.irs_elements.specs.Elements.{has_odd, is_odd}
 

@@ -1,10 +1,9 @@
 -- The function of a date's text gives the day that the text names.
 use Rattle.irs_base.proofs.PlainDates.{is_plain, plain_is}
-use Rattle.irs_base.specs.Dates.{date_at}
+use Rattle.irs_base.specs.Texts.{date_at, IsDateText, IsPlainDate, date_text}
 use Rattle.irs_base.specs.Days.{HasDate, IsDay}
-use Rattle.irs_base.specs.Texts.{IsDateText, IsPlainDate, date_text}
 use Rattle.irs_elements.proofs.Exact.{both_true}
-use Rattle.irs_elements.specs.Dates.{leaf_date_at, without_z}
+use Rattle.irs_elements.specs.Leaves.{leaf_date_at, without_z}
 use Rattle.std.proofs.Common.{◌≡◌, inl, inr, ℕ, Bool, true, false, ◌&&◌, ◌==◌, List, [], ◌∷◌, ◌++◌, length, take, ℤ, pos}
 use Rattle.std.proofs.Common.{slice_index, Option, Some, None, IfSome, IfNone, refl, sym, ap, ◌∙◌, subst, arith}
 use Rattle.std.proofs.Common.{if◌then◌else◌}

@@ -1,11 +1,10 @@
 -- The function of a decimal's text gives the number that the text spells.
 use Rattle.irs_base.proofs.DecimalLemmas.{bare_none, digits_true, minus_none, not_parts, not_zeros, one_decimal}
 use Rattle.irs_base.proofs.DecimalLemmas.{plus_none, true_digits, unsigned_is}
-use Rattle.irs_base.specs.Dates.{is_digit}
-use Rattle.irs_base.specs.Decimals.{AreParts, DecText, bare, plus, minus, IsCutAtPoint, IsUnsigned, is_zero}
-use Rattle.irs_base.specs.Decimals.{number_after, number_of, padded}
+use Rattle.irs_base.specs.Texts.{is_digit, AreParts, DecText, bare, plus, minus, IsCutAtPoint, IsUnsigned, is_zero}
+use Rattle.irs_base.specs.Texts.{number_after, number_of, padded}
 use Rattle.irs_elements.proofs.Exact.{Exact, both_true, exact_of, exact_same, true_both}
-use Rattle.irs_elements.specs.Decimals.{are_parts, before_point, behind_point, dec_at, unsigned_at}
+use Rattle.irs_elements.specs.Numbers.{are_parts, before_point, behind_point, dec_at, unsigned_at}
 use Rattle.std.proofs.Common.{◌≡◌, inl, inr, ℕ, ◌+◌, ◌<◌, ◌≤◌, nat_lt, nat_le, Bool, true, false, ◌&&◌, ◌==◌, List, []}
 use Rattle.std.proofs.Common.{◌∷◌, length, drop, ℤ, pos, neg_ℤ, Option, Some, None, IfSome, IfNone, option_map, refl}
 use Rattle.std.proofs.Common.{sym, ap, ◌∙◌, subst, arith, true≢false, if◌then◌else◌}

@@ -1,13 +1,11 @@
 -- One to nine digits are a notional.
-use Rattle.irs_base.specs.Dates.{is_digit}
-use Rattle.irs_base.specs.Decimals.{AreDigits, IsUnsigned, bare, number_after, number_of}
+use Rattle.irs_base.specs.Texts.{is_digit, AreDigits, IsUnsigned, bare, number_after, number_of}
 use Rattle.irs_base.proofs.DecimalLemmas.{digits_true}
 use Rattle.irs_base.specs.Limits.{most_notional}
 use Rattle.irs_elements.proofs.DecimalsAt.{dec_is}
 use Rattle.irs_elements.proofs.FractionsAt.{below_power}
-use Rattle.irs_elements.specs.Decimals.{dec_at}
-use Rattle.irs_elements.specs.Private.Decimals.{digits_at, few_digits_at}
-use Rattle.irs_elements.specs.Numbers.{notional_at, within}
+use Rattle.irs_elements.specs.Numbers.{dec_at, notional_at, within}
+use Rattle.irs_elements.specs.Private.Walk.{digits_at, few_digits_at}
 use Rattle.std.proofs.Common.{◌≡◌, inl, ℕ, ◌+◌, ◌*◌, ◌^◌, ◌<◌, ◌≤◌, nat_le, nat_lt, Bool, true, false, List, []}
 use Rattle.std.proofs.Common.{length, pos, Some, None, if◌then◌else◌, refl, sym, arith, zero, suc, ◌&&◌}
 use Rattle.std.proofs.Math.Nat.{mul-le-mul_left, one-le-pow, pow-succ'}

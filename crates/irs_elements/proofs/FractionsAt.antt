@@ -2,15 +2,14 @@
 use Rattle.irs_base.proofs.DecimalLemmas.{apart, cut_once, no_point, not_parts, padded_whole}
 use Rattle.irs_base.proofs.RoundingLaws.{nearest_once}
 use Rattle.irs_base.proofs.VisibleTexts.{digits_behind}
-use Rattle.irs_base.specs.Decimals.{AreDigits, AreParts, IsCutAtPoint, number_after, number_of, padded}
-use Rattle.irs_base.specs.Rounding.{Rounded}
-use Rattle.irs_base.specs.Texts.{most_places}
+use Rattle.irs_base.specs.Texts.{AreDigits, AreParts, IsCutAtPoint, number_after, number_of, padded, most_places}
+use Rattle.irs_base.specs.Limits.{Rounded}
 use Rattle.irs_base.specs.declared.line.Dec.{Dec}
 use Rattle.irs_base.specs.declared.rounding.Direction.TheVariants.{Nearest}
 use Rattle.irs_elements.proofs.DecimalsAt.{cut_is, from_parts, to_parts}
 use Rattle.irs_elements.proofs.Exact.{Exact}
-use Rattle.irs_elements.specs.Decimals.{are_parts, before_point, behind_point}
-use Rattle.irs_elements.specs.Fractions.{IsFraction, carried, fraction_at, fraction_from_digits}
+use Rattle.irs_elements.specs.Numbers.{are_parts, before_point, behind_point, IsFraction, carried, fraction_at}
+use Rattle.irs_elements.specs.Numbers.{fraction_from_digits}
 use Rattle.jiff_core.proofs.SignedLemmas.{signed_arith}
 use Rattle.std.proofs.Common.{◌≡◌, ◌⊎◌, ℕ, zero, suc, ◌+◌, ◌-◌, ◌*◌, ◌^◌, ◌<◌, ◌≤◌, nat_le, Bool, true, false}
 use Rattle.std.proofs.Common.{true≢false, List, [], ◌∷◌, ◌++◌, length, take, drop, ℤ, pos, ◌<ℤ◌, Some, None}

@@ -2,7 +2,7 @@
 use Rattle.std.proofs.Common.{◌≡◌, ℕ, true, false, List, Some, None, is_some, refl}
 use Rattle.serde_json.specs.Data.{Data, null, boolean, number, string, array, object}
 use Rattle.serde_json.specs.Find.{as_object}
-use Rattle.irs_json.specs.Names.{member_names, element_names}
+use Rattle.irs_json.specs.Leaves.{member_names, element_names}
 
 -- what is no object has no names
 pub no_object : (d : Data) → is_some (as_object d) ≡ false → element_names d ≡ None

@@ -9,9 +9,7 @@ use Rattle.std.specs.List.{list_any}
 use Rattle.serde_json.specs.Data.{Data}
 use Rattle.serde_json.specs.View.{view}
 use Rattle.serde_json.specs.declared.value.Value.{Value}
-use Rattle.irs_json.specs.Carrier.{child_of}
-use Rattle.irs_json.specs.Values.{items_of}
-use Rattle.irs_json.specs.Names.{element_names}
+use Rattle.irs_json.specs.Leaves.{child_of, items_of, element_names}
 use Rattle.irs_base.specs.declared.places.Broken.{Broken}
 use Rattle.irs_elements.specs.declared.table.Row.{Row}
 use Rattle.irs_elements.specs.declared.table.Kind.{Kind}
@@ -20,18 +18,16 @@ use Rattle.irs_elements.specs.declared.table.Choice.{Choice}
 use Rattle.irs_elements.specs.declared.walk.Unmet.{Unmet}
 use Rattle.irs_base.specs.declared.places.Rule.{Rule}
 use Rattle.irs_base.specs.declared.places.Rule.TheVariants.{K2, K3, K4, K5, K7}
-use Rattle.irs_elements.specs.Elements.{place, unmet_place, choice_unmet, is_chosen, own_rule, name_at}
-use Rattle.irs_elements.specs.Private.Elements.{fault_if}
-use Rattle.irs_elements.specs.Elements.{is_unknown, is_element, is_refused, is_required, most, absent_index, index_in}
-use Rattle.irs_elements.specs.Elements.{IsMemberRow, ShapeFault, unknown, unmet, odd, no_href, has_odd, lacks_href}
-use Rattle.irs_elements.specs.Elements.{FaultAt, own, shape, under, FaultUnder, missing, refused, too_many, inside}
-use Rattle.irs_elements.specs.Private.Elements.{names_among}
-use Rattle.irs_elements.specs.Private.Walk.{EndsHold, FaultAmong, MemberFault, end_at}
-use Rattle.irs_elements.proofs.Exact.{both_true}
+use Rattle.irs_elements.specs.Elements.{place, unmet_place, choice_unmet, is_chosen, own_rule, name_at, is_unknown}
+use Rattle.irs_elements.specs.Elements.{is_element, is_refused, is_required, most, absent_index, index_in, IsMemberRow}
+use Rattle.irs_elements.specs.Elements.{ShapeFault, unknown, unmet, odd, no_href, has_odd, lacks_href, FaultAt, own}
+use Rattle.irs_elements.specs.Elements.{shape, under, FaultUnder, missing, refused, too_many, inside}
+use Rattle.irs_elements.specs.Private.Walk.{fault_if, names_among, EndsHold, FaultAmong, MemberFault, end_at}
 use Rattle.irs_elements.specs.Private.Walk.{are_one_right, is_right, is_right_leaf}
+use Rattle.irs_elements.proofs.Exact.{both_true}
 use Rattle.irs_elements.specs.declared.table.Leaf.{Leaf as LeafKind}
 use Rattle.irs_elements.proofs.First.{first_or, first_same, first_one, first_is, first_more, first_skip, Below}
-use Rattle.irs_base.specs.Order.{earlier_broken, IsFirstBroken}
+use Rattle.irs_base.specs.Outcomes.{earlier_broken, IsFirstBroken}
 
 -- the faults that an optional rule makes
 pub first_of_rule : {A : Type 0} (at : A → Broken) (o : Option A)

@@ -2,9 +2,9 @@
 use Rattle.irs_base.specs.declared.places.Broken.{Broken}
 use Rattle.irs_base.specs.declared.places.Rule.{Rule}
 use Rattle.irs_base.specs.declared.places.Rule.TheVariants.{K3, K5, K6}
-use Rattle.irs_elements.specs.Elements.{FaultAt, FaultUnder, ShapeFault, inside, missing, no_href, odd}
-use Rattle.irs_elements.specs.Private.Elements.{IsOfTables}
-use Rattle.irs_elements.specs.Elements.{own, own_rule, refused, shape, too_many, under, unknown, unmet}
+use Rattle.irs_elements.specs.Elements.{FaultAt, FaultUnder, ShapeFault, inside, missing, no_href, odd, own, own_rule}
+use Rattle.irs_elements.specs.Elements.{refused, shape, too_many, under, unknown, unmet}
+use Rattle.irs_elements.specs.Private.Walk.{IsOfTables}
 use Rattle.irs_elements.specs.Leaves.{has_value, leaf_rule, out_of_profile, text_of_leaf, text_rule}
 use Rattle.irs_elements.specs.declared.table.Choice.{Choice}
 use Rattle.irs_elements.specs.declared.table.Kind.{Kind}
@@ -12,8 +12,7 @@ use Rattle.irs_elements.specs.declared.table.Kind.TheVariants.{Object, Leaf, Pas
 use Rattle.irs_elements.specs.declared.table.Leaf.{Leaf as LeafKind}
 use Rattle.irs_elements.specs.declared.table.Row.{Row}
 use Rattle.irs_elements.specs.declared.walk.Unmet.TheVariants.{Both, Neither}
-use Rattle.irs_json.specs.Leaves.{Leaf as LeafSaid, leaf_of}
-use Rattle.irs_json.specs.Names.{element_names}
+use Rattle.irs_json.specs.Leaves.{Leaf as LeafSaid, leaf_of, element_names}
 use Rattle.serde_json.specs.Data.{Data}
 use Rattle.std.proofs.Common.{◌≡◌, ℕ, Bool, true, false, List, Option, Some, None, if◌then◌else◌, subst}
 use Rattle.std.specs.List.{list_any}

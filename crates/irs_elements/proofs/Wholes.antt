@@ -1,11 +1,9 @@
 -- How large a whole number of at most 9 digits is.
-use Rattle.irs_base.specs.Decimals.{AreDigits, DecText, IsUnsigned, bare, minus, number_of, plus}
+use Rattle.irs_base.specs.Texts.{AreDigits, DecText, IsUnsigned, bare, minus, number_of, plus, has_no_point}
 use Rattle.irs_elements.proofs.DecimalsAt.{dec_exact}
 use Rattle.irs_elements.proofs.Exact.{Exact, both_true}
 use Rattle.irs_elements.proofs.FractionsAt.{below_power}
-use Rattle.irs_elements.specs.Decimals.{dec_at}
-use Rattle.irs_base.specs.Decimals.{has_no_point}
-use Rattle.irs_elements.specs.Numbers.{digits_of, is_whole_number, whole_at}
+use Rattle.irs_elements.specs.Numbers.{dec_at, digits_of, is_whole_number, whole_at}
 use Rattle.jiff_core.proofs.SignedLemmas.{signed_arith}
 use Rattle.std.proofs.Common.{◌≡◌, ◌⊎◌, inl, inr, ℕ, ◌+◌, ◌*◌, ◌^◌, ◌<◌, ◌≤◌, nat_le, Bool, true, false, List, [], ◌∷◌}
 use Rattle.std.proofs.Common.{◌++◌, length, ℤ, Option, Some, None, if◌then◌else◌, refl, sym, ap, ◌∙◌, subst, arith}

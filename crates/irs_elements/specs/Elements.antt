@@ -1,9 +1,20 @@
--- A table of elements, and the rules that a value breaks by it.
-use Rattle.irs_base.specs.Elements.{count}
+-- A table of elements, the values in it, and the rules that a value breaks by it.
+use Rattle.serde_json.specs.Data.{Data}
+use Rattle.serde_json.specs.View.{view}
+use Rattle.serde_json.specs.declared.value.Value.{Value}
+use Rattle.std.specs.Borrow.{Bor}
+use Rattle.std.specs.Prelude.{ℕ, List, [], Option, Some, None, option_map, option_and_then, slice_get, map, ◌≡◌, Bool}
+use Rattle.std.specs.Prelude.{true, false, not, ◌&&◌, ◌||◌, ◌==◌, ◌<◌, ◌≤◌, ◌+◌, length, is_some, is_none, codes}
+use Rattle.std.specs.Prelude.{if◌then◌else◌, nat_lt}
+use Rattle.serde_json.specs.Find.{as_str}
+use Rattle.std.specs.List.{list_any, enumerate_from}
+use Rattle.std.specs.Str.{bytes_eq}
+use Rattle.irs_base.specs.Elements.{count, name_or_empty}
 use Rattle.irs_base.specs.declared.places.Broken.{Broken}
 use Rattle.irs_base.specs.declared.places.Rule.{Rule}
 use Rattle.irs_base.specs.declared.places.Rule.TheVariants.{K2, K3, K4, K5, K7}
-use Rattle.irs_elements.specs.Leaves.{leaf_rule}
+use Rattle.irs_json.specs.Leaves.{child_of, leaf_of, items_of, is_attribute_name, element_names}
+use Rattle.irs_elements.specs.Leaves.{text_of_leaf, leaf_rule}
 use Rattle.irs_elements.specs.declared.table.Choice.{Choice}
 use Rattle.irs_elements.specs.declared.table.Choice.TheVariants.{Free, AtMostOne, AtMostOneOfThree, ExactlyOne}
 use Rattle.irs_elements.specs.declared.table.Choice.TheVariants.{Reference}
@@ -14,18 +25,35 @@ use Rattle.irs_elements.specs.declared.table.Kind.TheVariants.{Object, Leaf, Pas
 use Rattle.irs_elements.specs.declared.table.Row.{Row}
 use Rattle.irs_elements.specs.declared.walk.Unmet.{Unmet}
 use Rattle.irs_elements.specs.declared.walk.Unmet.TheVariants.{Both, Neither}
-use Rattle.irs_json.specs.Carrier.{child_of}
-use Rattle.irs_json.specs.Leaves.{leaf_of, is_attribute_name}
-use Rattle.irs_json.specs.Names.{element_names}
-use Rattle.irs_json.specs.Values.{items_of}
-use Rattle.serde_json.specs.Data.{Data}
-use Rattle.serde_json.specs.Find.{as_str}
-use Rattle.std.specs.Borrow.{Bor}
-use Rattle.std.specs.List.{list_any, enumerate_from}
-use Rattle.std.specs.Prelude.{map, ◌≡◌, ℕ, Bool, true, false, not, ◌&&◌, ◌||◌, ◌==◌, ◌<◌, ◌≤◌, ◌+◌, List, length}
-use Rattle.std.specs.Prelude.{Option, Some, None, is_some, is_none, slice_get, codes, if◌then◌else◌, nat_lt}
-use Rattle.std.specs.Str.{bytes_eq}
-use Rattle.irs_base.specs.Elements.{name_or_empty}
+
+-- ---- finding a value by its name
+
+-- the value that the reference leads to, if there is one
+abbrev pub seen : Option (Bor Value) → Option Data
+seen o = option_map (λ v. view v.now) o
+
+-- an element that occurs once: a value, or the first of an array
+abbrev pub once : List ℕ → Data → Option Data
+once name d = option_and_then (λ m. slice_get (items_of m) 0) (child_of name d)
+
+-- the same below an element that may be absent
+abbrev pub member : List ℕ → Option Data → Option Data
+member name o = option_and_then (once name) o
+
+-- the values of a member: its items where it is an array
+abbrev pub values_of : Option Data → List Data
+values_of None = []
+values_of (Some m) = items_of m
+
+-- the values of a repeated element below an element that may be absent
+abbrev pub values_in : List ℕ → Option Data → List Data
+values_in name o = values_of (option_and_then (child_of name) o)
+
+-- the text of a leaf that may be absent
+abbrev pub leaf_text_in : Option Data → Option (List ℕ)
+leaf_text_in o = option_map text_of_leaf (option_and_then leaf_of o)
+
+-- ---- a table of elements, and the rules that a value breaks by it
 
 -- ---- counts
 

@@ -1,16 +1,20 @@
--- What the text of a leaf says, and the rule that it breaks where it says nothing.
+-- The leaves of the table of elements: what their texts say.
+use Rattle.std.specs.List.{list_all, list_any}
+use Rattle.std.specs.Prelude.{ℕ, nat_le, nat_lt, ◌==◌, Bool, not, ◌&&◌, List, length, Option, Some, None, if◌then◌else◌}
+use Rattle.std.specs.Prelude.{take, slice_index, ℤ, [], ◌∷◌, is_some, codes}
+use Rattle.std.specs.Fmt.{signed_decimal}
+use Rattle.std.specs.Str.{bytes_eq}
+use Rattle.irs_base.specs.Limits.{most_index, most_name}
+use Rattle.irs_base.specs.Texts.{date_at}
 use Rattle.irs_base.specs.declared.places.Rule.{Rule}
 use Rattle.irs_base.specs.declared.places.Rule.TheVariants.{K3, K5, K6}
+use Rattle.irs_terms.specs.declared.currency.Currency.{Currency}
+use Rattle.irs_json.specs.Leaves.{Leaf, word, whole, truth}
 use Rattle.irs_elements.specs.Codes.{calculation_method_at, compounding_at, convention_at, day_count_at, day_kind_at}
-use Rattle.irs_elements.specs.Codes.{direction_at}
-use Rattle.irs_elements.specs.Codes.{offset_unit_at, relative_at, roll_at, stub_kind_at, tenor_unit_at, treatment_at}
-use Rattle.irs_elements.specs.Codes.{truth_at, period_unit_at}
-use Rattle.irs_elements.specs.Dates.{leaf_date_at}
-use Rattle.irs_elements.specs.Fractions.{fraction_at}
-use Rattle.irs_elements.specs.Numbers.{amount_at, multiplier_at, notional_at, observation_days_at, offset_at}
-use Rattle.irs_elements.specs.Numbers.{precision_at, leaf_rate_at}
-use Rattle.irs_elements.specs.Numbers.{whole_at}
-use Rattle.irs_elements.specs.Words.{currency_at, is_center_name, is_index_name}
+use Rattle.irs_elements.specs.Codes.{direction_at, offset_unit_at, relative_at, roll_at, stub_kind_at, tenor_unit_at}
+use Rattle.irs_elements.specs.Codes.{treatment_at, truth_at, period_unit_at}
+use Rattle.irs_elements.specs.Numbers.{fraction_at, amount_at, multiplier_at, notional_at, observation_days_at}
+use Rattle.irs_elements.specs.Numbers.{offset_at, precision_at, leaf_rate_at, whole_at}
 use Rattle.irs_elements.specs.declared.table.Leaf.{Leaf as LeafKind}
 use Rattle.irs_elements.specs.declared.table.Leaf.TheVariants.{Date, Multiplier, OffsetDays, Precision, Whole, Notional}
 use Rattle.irs_elements.specs.declared.table.Leaf.TheVariants.{Rate, Amount, Fraction, Truth, CenterName, IndexName}
@@ -18,11 +22,48 @@ use Rattle.irs_elements.specs.declared.table.Leaf.TheVariants.{CurrencyName, Con
 use Rattle.irs_elements.specs.declared.table.Leaf.TheVariants.{OffsetUnit, DayType, StubType, Roll, PayRelative}
 use Rattle.irs_elements.specs.declared.table.Leaf.TheVariants.{ResetRelative, DayCount, Compounding, Treatment}
 use Rattle.irs_elements.specs.declared.table.Leaf.TheVariants.{Direction, ObservationDays, CalculationMethod}
-use Rattle.irs_json.specs.Leaves.{Leaf, word, whole, truth}
-use Rattle.std.specs.Fmt.{signed_decimal}
-use Rattle.std.specs.List.{list_any}
-use Rattle.std.specs.Prelude.{ℕ, Bool, List, [], ◌∷◌, Option, Some, None, is_some, codes, if◌then◌else◌}
-use Rattle.std.specs.Str.{bytes_eq}
+
+-- ---- texts that are kept as they are
+
+-- a byte from `!` to `~`
+abbrev pub is_visible : ℕ → Bool
+is_visible b = nat_le 33 b && nat_le b 126
+
+-- the name of a centre: 1 to 32 bytes from `!` to `~`
+abbrev pub is_center_name : List ℕ → Bool
+is_center_name s = nat_lt 0 (length s) && nat_le (length s) most_name && list_all is_visible s
+
+-- a byte that is no control byte
+abbrev pub is_no_control : ℕ → Bool
+is_no_control b = nat_le 32 b && not (b == 127)
+
+-- the index of a rate: 1 to 128 bytes, none of them a control byte
+abbrev pub is_index_name : List ℕ → Bool
+is_index_name s = nat_lt 0 (length s) && nat_le (length s) most_index && list_all is_no_control s
+
+-- a capital letter
+abbrev pub is_capital : ℕ → Bool
+is_capital b = nat_le 65 b && nat_le b 90
+
+-- a currency: three capital letters
+abbrev pub is_currency : List ℕ → Bool
+is_currency s = (length s == 3) && list_all is_capital s
+
+-- a currency: three capital letters
+abbrev pub currency_at : List ℕ → Option Currency
+currency_at s = if is_currency s then Some (record { letters = s }) else None
+
+-- ---- the day that the text of a date names, as a function of the text
+
+-- a last `Z` of a date is dropped
+abbrev pub without_z : List ℕ → List ℕ
+without_z s = if (length s == 11) && (slice_index s 10 == 90) then take 10 s else s
+
+-- `YYYY-MM-DD` of a day in range, with or without a last `Z`
+unfoldable pub leaf_date_at : List ℕ → Option ℤ
+leaf_date_at s = date_at (without_z s)
+
+-- ---- what the text of a leaf says, and the rule that it breaks where it says nothing
 
 -- the text of a leaf: a whole number's decimal digits, and `true` or `false`
 abbrev pub text_of_leaf : Leaf → List ℕ

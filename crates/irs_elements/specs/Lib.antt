@@ -1,11 +1,6 @@
 pub mod Lines
-pub mod Decimals
-pub mod Dates
 pub mod Numbers
-pub mod Fractions
-pub mod Codes
-pub mod Words
 pub mod Leaves
+pub mod Codes
 pub mod Elements
-pub mod Find
 pub mod Private

@@ -1,9 +1,49 @@
--- The numbers of leaves, with their ranges.
-use Rattle.irs_elements.specs.Decimals.{dec_at}
+-- The numbers of leaves: decimals, whole numbers with their ranges, and day count fractions.
+use Rattle.std.specs.List.{list_all}
+use Rattle.std.specs.Prelude.{ℕ, ◌+◌, nat_lt, nat_le, Bool, ◌&&◌, ◌==◌, List, [], ◌∷◌, length, drop, ℤ, pos, neg_ℤ}
+use Rattle.std.specs.Prelude.{Option, Some, None, option_map, if◌then◌else◌, ◌||◌, unsigned_abs, int_le, ◌≡◌, ◌⊎◌, ◌*◌}
+use Rattle.std.specs.Prelude.{◌^◌, ◌++◌, take}
+use Rattle.irs_base.specs.Texts.{is_digit, is_zero, number_after, number_of, padded, has_no_point, AreParts}
+use Rattle.irs_base.specs.Texts.{most_places}
 use Rattle.irs_base.specs.Limits.{most_multiplier, most_notional, most_observation_offset, most_offset, most_rate}
-use Rattle.std.specs.Prelude.{ℕ, nat_le, Bool, ◌&&◌, ◌||◌, ◌==◌, List, [], ◌∷◌, length, ℤ, pos, neg_ℤ}
-use Rattle.std.specs.Prelude.{unsigned_abs, int_le, Option, Some, None, option_map, if◌then◌else◌}
-use Rattle.irs_base.specs.Decimals.{has_no_point}
+use Rattle.irs_base.specs.Limits.{Rounded}
+use Rattle.irs_base.specs.declared.line.Dec.{Dec}
+use Rattle.irs_base.specs.declared.rounding.Direction.TheVariants.{Nearest}
+
+-- ---- the number that the text of a decimal spells, as a function of the text
+
+-- the text before the first point
+abbrev pub before_point : List ℕ → List ℕ
+before_point [] = []
+before_point (c ∷ cs) = if c == 46 then [] else c ∷ before_point cs
+
+-- the text after the first point
+abbrev pub behind_point : List ℕ → List ℕ
+behind_point [] = []
+behind_point (c ∷ cs) = if c == 46 then cs else behind_point cs
+
+-- digits before and after the point, some in all, and at most 18 before it
+abbrev pub are_parts : List ℕ → List ℕ → Bool
+are_parts before behind =
+    list_all is_digit before
+    && (list_all is_digit behind && (nat_lt 0 (length before + length behind) && nat_le (length before) 18))
+
+-- in units of 10^-places; past the places there are only zeros
+unfoldable pub unsigned_at : ℕ → List ℕ → Option ℕ
+unsigned_at places s =
+    if are_parts (before_point s) (behind_point s)
+    && list_all is_zero (drop places (behind_point s)) then Some
+    (number_after (number_of (before_point s)) (padded places (behind_point s))) else None
+
+-- the same after an optional sign
+unfoldable pub dec_at : ℕ → List ℕ → Option ℤ
+dec_at places [] = None
+dec_at places (c ∷ cs) =
+    if c == 43 then option_map pos (unsigned_at places cs) else
+    (if c == 45 then option_map (λ n. neg_ℤ (pos n)) (unsigned_at places cs) else option_map pos
+    (unsigned_at places (c ∷ cs)))
+
+-- ---- the numbers of leaves, with their ranges
 
 -- the number, where it lies from low to high
 abbrev pub within : ℤ → ℤ → Option ℤ → Option ℤ
@@ -50,3 +90,34 @@ observation_days_at s = option_map unsigned_abs (within (pos 1) (pos most_observ
 -- the decimals to which a rate is rounded: 0 to 9
 abbrev pub precision_at : List ℕ → Option ℕ
 precision_at s = option_map unsigned_abs (within (pos 0) (pos 9) (whole_at s))
+
+-- ---- the day count fraction that a text of cash flows states: a decimal without sign
+
+-- The text is digits with at most one point, at least one digit, and at most 18 before the point. Its value is v, with
+-- as many places as the text has decimals. Where it has more than 12, v has 12 and is rounded Nearest.
+pub record IsFraction (text : List ℕ) (v : Dec) : Type 0 where
+  pub whole : List ℕ
+  pub fraction : List ℕ
+  pub parts : AreParts whole fraction
+  pub is : ((text ≡ whole) × (fraction ≡ [])) ⊎ (text ≡ whole ++ 46 ∷ fraction)
+  pub places : v.places ≡ length (take most_places fraction)
+  pub value : Rounded Nearest (pos (number_of (whole ++ fraction) * 10 ^ v.places)) (pos (10 ^ length fraction)) v.units
+
+-- ---- as a function of the text
+
+-- 1 where the first of the digits is 5 or more
+abbrev pub carried : List ℕ → ℕ
+carried [] = 0
+carried (c ∷ cs) = if nat_le 53 c then 1 else 0
+
+-- the digits before the point and the decimals that are kept, and what is carried from those after them
+abbrev pub fraction_from_digits : List ℕ → List ℕ → Dec
+fraction_from_digits whole fraction = record {
+  units = pos (number_after (number_of whole) (take most_places fraction) + carried (drop most_places fraction));
+  places = length (take most_places fraction);
+}
+
+-- the fraction of a text, with its decimals
+unfoldable pub fraction_at : List ℕ → Option Dec
+fraction_at s =
+    if are_parts (before_point s) (behind_point s) then Some (fraction_from_digits (before_point s) (behind_point s)) else None

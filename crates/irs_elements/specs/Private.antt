@@ -1,3 +1,1 @@
-pub mod Decimals
-pub mod Elements
 pub mod Walk

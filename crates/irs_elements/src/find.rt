@@ -1,5 +1,5 @@
 //! Finding a value by its name, and the text of a leaf.
-ghost use Rattle.irs_elements.specs.Find.{member as member_of, once as once_of, seen, leaf_text_in, values_in};
+ghost use Rattle.irs_elements.specs.Elements.{member as member_of, once as once_of, seen, leaf_text_in, values_in};
 ghost use Rattle.serde_json.specs.View.{view};
 ghost use Rattle.std.specs.Prelude.{◌≡◌, Some, map, option_map};
 

@@ -1,11 +1,9 @@
 //! Day count fractions as cash flows state them (FpML `dayCountYearFraction`). Each is a decimal
 //! without sign, with at most 18 digits before its point and any number after it. The limits are
 //! ours.
-ghost use Rattle.irs_base.specs.Decimals.{AreDigits, number_after};
-ghost use Rattle.irs_base.specs.Texts.{most_places};
+ghost use Rattle.irs_base.specs.Texts.{AreDigits, number_after, most_places};
 ghost use Rattle.irs_base.specs.declared.line.Dec.{Dec as DecRecord};
-ghost use Rattle.irs_elements.specs.Fractions.{IsFraction, carried, fraction_at};
-ghost use Rattle.irs_elements.specs.Fractions.{fraction_from_digits as fraction_by};
+ghost use Rattle.irs_elements.specs.Numbers.{IsFraction, carried, fraction_at, fraction_from_digits as fraction_by};
 ghost use Rattle.std.specs.Prelude.{◌≡◌, ◌+◌, ◌^◌, ◌≤◌, [], IfNone, IfSome, drop, length, take};
 
 use irs_base::{Dec, decimal_parts, number_of_parts};

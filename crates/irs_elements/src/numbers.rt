@@ -1,13 +1,11 @@
 //! Dates and numbers: the value of a text. `None` comes exactly where the text is outside the
 //! grammar or the range of its kind.
-ghost use Rattle.irs_elements.specs.Dates.{leaf_date_at};
-ghost use Rattle.irs_elements.specs.Decimals.{dec_at};
-ghost use Rattle.irs_elements.specs.Private.Decimals.{digits_at, few_digits_at};
-ghost use Rattle.irs_base.specs.Decimals.{has_no_point as no_point_of};
-ghost use Rattle.irs_elements.specs.Numbers.{amount_at, digits_of, is_whole_number as is_whole_of, multiplier_at};
-ghost use Rattle.irs_elements.specs.Numbers.{notional_at};
-ghost use Rattle.irs_elements.specs.Numbers.{observation_days_at, offset_at};
-ghost use Rattle.irs_elements.specs.Numbers.{precision_at, leaf_rate_at, whole_at, within as within_of};
+ghost use Rattle.irs_elements.specs.Leaves.{leaf_date_at};
+ghost use Rattle.irs_elements.specs.Numbers.{dec_at, amount_at, digits_of, is_whole_number as is_whole_of};
+ghost use Rattle.irs_elements.specs.Numbers.{multiplier_at, notional_at, observation_days_at, offset_at, precision_at};
+ghost use Rattle.irs_elements.specs.Numbers.{leaf_rate_at, whole_at, within as within_of};
+ghost use Rattle.irs_elements.specs.Private.Walk.{digits_at, few_digits_at};
+ghost use Rattle.irs_base.specs.Texts.{has_no_point as no_point_of};
 ghost use Rattle.std.specs.Prelude.{◌≡◌, ◌+◌, ◌*◌, ◌^◌, ◌<◌, ◌≤◌, length, unsigned_abs};
 
 use irs_base::{Day, MOST_RATE, read_date, read_dec};

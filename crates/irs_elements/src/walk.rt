@@ -2,31 +2,24 @@
 //!
 //! The walk goes down the table and not down the value: each row's members come after it. It keeps
 //! nothing on the way; each step returns the first broken rule of its part.
-ghost use Rattle.irs_elements.specs.Elements.{FaultAt, FaultUnder, ShapeFault};
-ghost use Rattle.irs_elements.specs.Private.Walk.{EndsHold, FaultAmong, MemberFault};
-ghost use Rattle.irs_elements.specs.Elements.{absent_index as absent_index_of, are_two as are_two_of};
-ghost use Rattle.irs_elements.specs.Elements.{choice_unmet as choice_unmet_of, elem_at, elem_of, has_odd as has_odd_of};
-ghost use Rattle.irs_elements.specs.Private.Elements.{fault_if};
-ghost use Rattle.irs_elements.specs.Private.Walk.{end_at};
-ghost use Rattle.irs_elements.specs.Elements.{index_in as index_in_of, is_element as is_element_of};
-ghost use Rattle.irs_elements.specs.Private.Walk.{is_apart};
-ghost use Rattle.irs_elements.specs.Elements.{is_known as is_known_in};
-ghost use Rattle.irs_elements.specs.Private.Walk.{is_one_right, is_right_leaf as is_right_leaf_of};
+ghost use Rattle.irs_elements.specs.Elements.{FaultAt, FaultUnder, ShapeFault, absent_index as absent_index_of};
+ghost use Rattle.irs_elements.specs.Elements.{are_two as are_two_of, choice_unmet as choice_unmet_of, elem_at, elem_of};
+ghost use Rattle.irs_elements.specs.Elements.{has_odd as has_odd_of, index_in as index_in_of};
+ghost use Rattle.irs_elements.specs.Elements.{is_element as is_element_of, is_known as is_known_in};
 ghost use Rattle.irs_elements.specs.Elements.{is_odd as is_odd_of, is_refused as is_refused_of};
 ghost use Rattle.irs_elements.specs.Elements.{is_required as is_required_of, is_unknown, lacks_href as lacks_href_of};
-ghost use Rattle.irs_elements.specs.Elements.{most as most_of, name_at, place};
-ghost use Rattle.irs_elements.specs.Private.Elements.{names_among};
-ghost use Rattle.irs_elements.specs.Elements.{stands as stands_of, referenced_texts, unmet_place};
-ghost use Rattle.irs_json.specs.Carrier.{child_of};
-ghost use Rattle.irs_json.specs.Leaves.{leaf_of};
-ghost use Rattle.irs_json.specs.Names.{element_names};
+ghost use Rattle.irs_elements.specs.Elements.{most as most_of, name_at, place, stands as stands_of, referenced_texts};
+ghost use Rattle.irs_elements.specs.Elements.{unmet_place};
+ghost use Rattle.irs_elements.specs.Private.Walk.{EndsHold, FaultAmong, MemberFault, fault_if, end_at, is_apart};
+ghost use Rattle.irs_elements.specs.Private.Walk.{is_one_right, is_right_leaf as is_right_leaf_of, names_among};
+ghost use Rattle.irs_json.specs.Leaves.{child_of, leaf_of, element_names};
 ghost use Rattle.serde_json.specs.View.{view};
 ghost use Rattle.std.specs.List.{list_any};
 ghost use Rattle.std.specs.Prelude.{◌≡◌, ◌↔◌, ◌+◌, ◌<◌, ◌≤◌, ◌&&◌, ◌==◌, IsTrue, false, true, nat_lt, length, map};
 ghost use Rattle.std.specs.Prelude.{option_map};
 ghost use Rattle.std.specs.Str.{bytes_eq};
 ghost use Rattle.irs_elements.specs.Leaves.{leaf_rule as leaf_rule_of};
-ghost use Rattle.irs_base.specs.Order.{IsFirstBroken, earlier_broken};
+ghost use Rattle.irs_base.specs.Outcomes.{IsFirstBroken, earlier_broken};
 
 use crate::leaves::leaf_rule;
 use crate::order::earlier;

@@ -1,7 +1,7 @@
 //! Texts that are kept as they are: the name of a centre, the index of a rate, a currency.
-ghost use Rattle.irs_elements.specs.Words.{currency_at, is_capital, is_center_name as is_center_name_of};
-ghost use Rattle.irs_elements.specs.Words.{is_currency as is_currency_of, is_index_name as is_index_name_of};
-ghost use Rattle.irs_elements.specs.Words.{is_no_control, is_visible};
+ghost use Rattle.irs_elements.specs.Leaves.{currency_at, is_capital, is_center_name as is_center_name_of};
+ghost use Rattle.irs_elements.specs.Leaves.{is_currency as is_currency_of, is_index_name as is_index_name_of};
+ghost use Rattle.irs_elements.specs.Leaves.{is_no_control, is_visible};
 ghost use Rattle.std.specs.List.{list_all};
 ghost use Rattle.std.specs.Prelude.{◌≡◌};
 

@@ -1,12 +1,12 @@
 -- What each row of a schedule keeps.
 use Rattle.irs_base.proofs.MemberLemmas.{every_get}
-use Rattle.irs_base.specs.Members.{Every}
+use Rattle.irs_base.specs.Lists.{Every}
 use Rattle.irs_base.specs.declared.line.Dec.{Dec}
 use Rattle.irs_daycount.specs.Fractions.{denominator_of}
-use Rattle.irs_emit.specs.Private.Paid.{IsPaid}
+use Rattle.irs_emit.specs.Private.Texts.{IsPaid}
 use Rattle.irs_schedule.proofs.PlaceLemmas.{decimals_few}
 use Rattle.irs_schedule.specs.Parts.{Part, EntriesCover, KeepsBounds, IsAmount, HasAmount, IsEntry}
-use Rattle.irs_schedule.specs.PeriodViews.{period_at, dated_period}
+use Rattle.irs_schedule.specs.RowsOf.{period_at, dated_period}
 use Rattle.irs_schedule.specs.declared.entries.PaymentEntry.{PaymentEntry}
 use Rattle.irs_schedule.specs.declared.entries.PeriodEntry.{PeriodEntry}
 use Rattle.irs_schedule.specs.declared.views.CalculationPeriod.{CalculationPeriod}

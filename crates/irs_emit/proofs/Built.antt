@@ -6,11 +6,11 @@ use Rattle.irs_emit.proofs.Utf8Texts.{clear_utf8, emit_clear}
 use Rattle.irs_emit.specs.Emitted.{array_of, cashflows_value, definition_value, emit_text, emit_value, exchange_value}
 use Rattle.irs_emit.specs.Emitted.{fixed_value, floating_value, forecast_value, known_exchanges, listed_period}
 use Rattle.irs_emit.specs.Emitted.{observation_value, one_period, payment_value, period_members, period_value}
-use Rattle.irs_emit.specs.Emitted.{period_values, put_known, stream_value}
-use Rattle.irs_emit.specs.Leaves.{amount_leaf, currency_leaf, day_leaf, rate_leaf}
+use Rattle.irs_emit.specs.Emitted.{period_values, put_known, stream_value, amount_leaf, currency_leaf, day_leaf}
+use Rattle.irs_emit.specs.Emitted.{rate_leaf}
 use Rattle.irs_json.specs.Reading.{Reads}
 use Rattle.irs_schedule.specs.Parts.{IsWithin, Part}
-use Rattle.irs_schedule.specs.PeriodViews.{period_at}
+use Rattle.irs_schedule.specs.RowsOf.{period_at}
 use Rattle.irs_schedule.specs.declared.entries.PaymentEntry.{PaymentEntry}
 use Rattle.irs_schedule.specs.declared.views.CalculationPeriod.{CalculationPeriod}
 use Rattle.irs_terms.specs.declared.currency.Currency.{Currency}

@@ -11,10 +11,7 @@ use Rattle.irs_elements.specs.declared.table.Kind.{Kind}
 use Rattle.irs_elements.specs.declared.table.Kind.TheVariants.{Object, Leaf}
 use Rattle.irs_elements.specs.declared.table.Leaf.{Leaf as LeafKind}
 use Rattle.irs_elements.specs.declared.table.Row.{Row}
-use Rattle.irs_json.specs.Carrier.{child_of}
-use Rattle.irs_json.specs.Leaves.{leaf_of}
-use Rattle.irs_json.specs.Names.{element_names}
-use Rattle.irs_json.specs.Values.{items_of}
+use Rattle.irs_json.specs.Leaves.{child_of, leaf_of, element_names, items_of}
 use Rattle.serde_json.specs.Data.{Data}
 use Rattle.std.proofs.Common.{◌≡◌, ℕ, zero, suc, ◌+◌, ◌<◌, ◌≤◌, nat_lt, ◌==◌, ◌&&◌, if◌then◌else◌, Bool, true, false}
 use Rattle.std.proofs.Common.{List, [], ◌∷◌, length, Option, Some, None, refl, sym, ap, ◌∙◌, subst, arith, true≢false}

@@ -4,18 +4,17 @@ use Rattle.irs_flows.proofs.FlowLaws.{flow_code_names, flow_names_are, flow_rows
 use Rattle.irs_flows.proofs.FlowLaws.{period_names_are, period_rows_are}
 use Rattle.irs_flows.specs.FlowFaults.{CashflowsFault, FlowFault, OnceFault, PeriodFault, PeriodsFault, FlowStreamFault}
 use Rattle.irs_flows.specs.FlowFaults.{FlowStreamsFault, FlowSwapFault, below, ended, has_both_rates, in_period}
-use Rattle.irs_flows.specs.FlowFaults.{in_stream}
-use Rattle.irs_flows.specs.FlowFaults.{is_sound, many_periods, many_streams, no_stream}
-use Rattle.irs_flows.specs.FlowLines.{flow_names, flow_rows, period_names, period_table_rows}
+use Rattle.irs_flows.specs.FlowFaults.{in_stream, is_sound, many_periods, many_streams, no_stream, flow_names}
+use Rattle.irs_flows.specs.FlowFaults.{flow_rows, period_names, period_table_rows}
 use Rattle.irs_base.specs.Limits.{most_rows, most_streams}
 use Rattle.irs_base.proofs.MemberLemmas.{every_get}
-use Rattle.irs_base.specs.Members.{Every}
+use Rattle.irs_base.specs.Lists.{Every}
 use Rattle.irs_base.specs.Texts.{day_text, dec_text}
 use Rattle.irs_base.specs.declared.line.Dec.{Dec}
 use Rattle.irs_base.specs.declared.places.Broken.{Broken}
 use Rattle.irs_base.specs.Days.{IsDay}
-use Rattle.irs_elements.specs.Elements.{index_in}
-use Rattle.irs_elements.specs.Words.{is_currency}
+use Rattle.irs_elements.specs.Elements.{index_in, values_in}
+use Rattle.irs_elements.specs.Leaves.{is_currency}
 use Rattle.irs_elements.specs.declared.table.Choice.TheVariants.{Free}
 use Rattle.irs_elements.specs.declared.table.Kind.{Kind}
 use Rattle.irs_elements.specs.declared.table.Kind.TheVariants.{Object}
@@ -25,23 +24,22 @@ use Rattle.irs_emit.proofs.Clean.{NoFault, ValuesFree, absent_free, object_free,
 use Rattle.irs_emit.proofs.CleanRows.{currency_kept, day_kept, exchange_free, leaf_member, no_row, number_kept}
 use Rattle.irs_emit.proofs.CleanRows.{period_free}
 use Rattle.irs_audit.proofs.BoundLemmas.{payments_few}
-use Rattle.irs_elements.specs.Find.{values_in}
 use Rattle.irs_emit.proofs.PartsRead.{its_swap, mapped_length, periods_are, swap_reads}
 use Rattle.irs_emit.proofs.RowsRead.{all_listed, array_values, from_items}
 use Rattle.irs_read.proofs.TableLaws.{by_tables}
 use Rattle.irs_read.specs.Documents.{the_swap}
-use Rattle.irs_schedule.specs.PeriodViews.{period_at}
+use Rattle.irs_schedule.specs.RowsOf.{period_at}
 use Rattle.irs_schedule.specs.declared.views.CalculationPeriod.{CalculationPeriod}
 use Rattle.irs_terms.specs.declared.results.Reset.{Reset}
 use Rattle.irs_emit.specs.Emitted.{array_of, cashflows_value, emit_value, exchange_value, fixed_value, floating_value}
 use Rattle.irs_emit.specs.Emitted.{forecast_value, known_exchanges, listed_period, object_with, one_period}
 use Rattle.irs_emit.specs.Emitted.{payment_value, period_members, period_value, period_values, put_known, stream_value}
-use Rattle.irs_emit.specs.Leaves.{amount_leaf, currency_leaf, day_leaf, rate_leaf, utf8_or_empty}
+use Rattle.irs_emit.specs.Emitted.{amount_leaf, currency_leaf, day_leaf, rate_leaf, utf8_or_empty}
 use Rattle.irs_audit.proofs.StatedLemmas.{flows_agree}
 use Rattle.irs_emit.proofs.Short.{parts_short}
-use Rattle.irs_emit.specs.PartLaws.{IsPartShort, StatesFlows}
-use Rattle.irs_emit.specs.RowLaws.{IsExchangeShort, IsPaymentShort, IsPeriodShort, IsResetShort, IsShortAmount}
-use Rattle.irs_json.specs.Values.{list_of}
+use Rattle.irs_emit.specs.RowLaws.{IsPartShort, StatesFlows, IsExchangeShort, IsPaymentShort, IsPeriodShort}
+use Rattle.irs_emit.specs.RowLaws.{IsResetShort, IsShortAmount}
+use Rattle.irs_json.specs.Leaves.{list_of}
 use Rattle.irs_json.specs.Reading.{Reads}
 use Rattle.irs_schedule.specs.Parts.{IsWithin, Part}
 use Rattle.irs_schedule.specs.declared.entries.PaymentEntry.{PaymentEntry}

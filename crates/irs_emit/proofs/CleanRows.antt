@@ -4,7 +4,7 @@ use Rattle.irs_flows.proofs.FlowLaws.{flow_code_names, period_code_names}
 use Rattle.irs_base.specs.Days.{IsDay}
 use Rattle.irs_base.specs.Texts.{day_text, dec_text}
 use Rattle.irs_elements.specs.Elements.{has_odd, is_refused, is_required, is_unknown, most, name_at}
-use Rattle.irs_elements.specs.Leaves.{has_value, leaf_rule, text_rule}
+use Rattle.irs_elements.specs.Leaves.{has_value, leaf_rule, text_rule, is_currency}
 use Rattle.irs_elements.specs.declared.table.Choice.TheVariants.{Free}
 use Rattle.irs_elements.specs.declared.table.Count.TheVariants.{Maybe}
 use Rattle.irs_elements.specs.declared.table.Kind.TheVariants.{Object, Leaf, Passed}
@@ -13,7 +13,6 @@ use Rattle.irs_elements.specs.declared.table.Leaf.TheVariants.{Amount, CurrencyN
 use Rattle.irs_elements.specs.declared.table.Row.{Row}
 use Rattle.irs_emit.proofs.Clean.{MemberFree, NoFault, absent_free, leaf_free, object_free, one_value, passed_free}
 use Rattle.irs_emit.proofs.Clean.{present_free}
-use Rattle.irs_elements.specs.Words.{is_currency}
 use Rattle.irs_emit.proofs.PlainTexts.{text_kept}
 use Rattle.irs_emit.proofs.LeavesRead.{currency_ascii}
 use Rattle.irs_terms.specs.declared.currency.Currency.{Currency}
@@ -22,12 +21,10 @@ use Rattle.irs_emit.proofs.LeafTextsRead.{count_back, count_visible, currency_ba
 use Rattle.irs_emit.proofs.LeafTextsRead.{fraction_back, number_back, number_visible, trimmed}
 use Rattle.irs_audit.specs.StatedFlows.{stated_fraction}
 use Rattle.irs_emit.specs.Emitted.{definition_value, exchange_value, fixed_value, floating_value, observation_value}
-use Rattle.irs_emit.specs.Emitted.{period_members, period_value, put_known}
-use Rattle.irs_emit.specs.Leaves.{count_leaf, currency_leaf, day_leaf, fraction_leaf, notional_leaf, rate_leaf}
+use Rattle.irs_emit.specs.Emitted.{period_members, period_value, put_known, count_leaf, currency_leaf, day_leaf}
+use Rattle.irs_emit.specs.Emitted.{fraction_leaf, notional_leaf, rate_leaf}
 use Rattle.irs_emit.specs.RowLaws.{IsExchangeShort, IsPeriodShort, IsResetShort, IsShortNumber, IsShortRate}
-use Rattle.irs_json.specs.Carrier.{child_of}
-use Rattle.irs_json.specs.Leaves.{leaf_of}
-use Rattle.irs_json.specs.Names.{element_names}
+use Rattle.irs_json.specs.Leaves.{child_of, leaf_of, element_names}
 use Rattle.irs_schedule.specs.declared.views.CalculationPeriod.{CalculationPeriod}
 use Rattle.jiff_core.proofs.SignedLemmas.{signed_arith}
 use Rattle.std.specs.Fmt.{signed_decimal}

@@ -4,10 +4,9 @@ use Rattle.irs_emit.proofs.ReadBack.{Built, ItemsBuilt, MembersBuilt, built_dept
 use Rattle.irs_emit.specs.Emitted.{array_of, cashflows_value, definition_value, emit_value, exchange_value, fixed_value}
 use Rattle.irs_emit.specs.Emitted.{floating_value, forecast_value, known_exchanges, listed_period, observation_value}
 use Rattle.irs_emit.specs.Emitted.{object_with, one_period, payment_value, period_members, period_value, period_values}
-use Rattle.irs_emit.specs.Emitted.{put_known, stream_value}
-use Rattle.irs_emit.specs.Leaves.{amount_leaf, currency_leaf, day_leaf, rate_leaf}
+use Rattle.irs_emit.specs.Emitted.{put_known, stream_value, amount_leaf, currency_leaf, day_leaf, rate_leaf}
 use Rattle.irs_schedule.specs.Parts.{Part}
-use Rattle.irs_schedule.specs.PeriodViews.{period_at}
+use Rattle.irs_schedule.specs.RowsOf.{period_at}
 use Rattle.irs_schedule.specs.declared.entries.PaymentEntry.{PaymentEntry}
 use Rattle.irs_schedule.specs.declared.views.CalculationPeriod.{CalculationPeriod}
 use Rattle.irs_terms.specs.declared.currency.Currency.{Currency}

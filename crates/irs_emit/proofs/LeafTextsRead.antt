@@ -4,24 +4,21 @@ use Rattle.irs_base.proofs.TextLemmas.{length_digit_row, with_point}
 use Rattle.irs_base.proofs.VisibleTexts.{Visible, digits_behind, digits_visible, not_none, places_visible, plain}
 use Rattle.irs_base.proofs.VisibleTexts.{row_digits, row_spells, spells_decimal}
 use Rattle.irs_base.specs.Days.{IsDay}
-use Rattle.irs_base.specs.Decimals.{DecText, bare, minus, IsUnsigned, number_after, number_of}
-use Rattle.irs_base.specs.Texts.{day_text, dec_text, digit_row, unsigned_dec}
+use Rattle.irs_base.specs.Texts.{DecText, bare, minus, IsUnsigned, number_after, number_of, day_text, dec_text}
+use Rattle.irs_base.specs.Texts.{digit_row, unsigned_dec, has_no_point}
 use Rattle.irs_elements.proofs.DatesAt.{day_is}
 use Rattle.irs_elements.proofs.DecimalsAt.{dec_is}
 use Rattle.irs_elements.proofs.Exact.{both_true, exact_same, true_both}
 use Rattle.irs_elements.proofs.FractionsAt.{fraction_exact, one_fraction}
-use Rattle.irs_elements.specs.Fractions.{IsFraction, fraction_at}
-use Rattle.irs_elements.specs.Words.{currency_at, is_capital, is_currency}
-use Rattle.irs_base.specs.Rounding.{Rounded}
+use Rattle.irs_elements.specs.Numbers.{IsFraction, fraction_at, amount_at, digits_of, is_whole_number, whole_at}
+use Rattle.irs_elements.specs.Leaves.{currency_at, is_capital, is_currency, leaf_date_at}
+use Rattle.irs_base.specs.Limits.{Rounded}
 use Rattle.irs_base.specs.declared.rounding.Direction.TheVariants.{Nearest}
 use Rattle.std.specs.List.{list_all}
 use Rattle.std.proofs.lemmas.List.{take_all}
-use Rattle.irs_elements.specs.Dates.{leaf_date_at}
-use Rattle.irs_elements.specs.Find.{leaf_text_in}
-use Rattle.irs_base.specs.Decimals.{has_no_point}
-use Rattle.irs_elements.specs.Numbers.{amount_at, digits_of, is_whole_number, whole_at}
+use Rattle.irs_elements.specs.Elements.{leaf_text_in}
 use Rattle.irs_json.proofs.Trims.{front_stays, back_stays}
-use Rattle.irs_json.specs.Trim.{is_white_space, trim, trim_back}
+use Rattle.irs_json.specs.Leaves.{is_white_space, trim, trim_back}
 use Rattle.irs_json.specs.Private.Trim.{NoSpaceFirst, NoSpaceLast}
 use Rattle.jiff_core.proofs.SignedLemmas.{signed_arith}
 use Rattle.serde_json.specs.Data.{string}

@@ -1,18 +1,16 @@
 -- Each leaf reads back as its value.
-use Rattle.irs_flows.specs.FlowMeaning.{stated}
-use Rattle.irs_elements.specs.Dates.{leaf_date_at}
-use Rattle.irs_elements.specs.Fractions.{fraction_at}
-use Rattle.irs_elements.specs.Numbers.{amount_at, whole_at}
-use Rattle.irs_elements.specs.Words.{currency_at, is_currency}
+use Rattle.irs_flows.specs.FlowReading.{stated}
+use Rattle.irs_elements.specs.Leaves.{leaf_date_at, currency_at, is_currency, is_capital}
+use Rattle.irs_elements.specs.Numbers.{fraction_at, amount_at, whole_at}
 use Rattle.irs_base.specs.Texts.{day_text, dec_text}
-use Rattle.irs_base.specs.Rounding.{rounded}
+use Rattle.irs_base.specs.Limits.{rounded}
 use Rattle.irs_base.specs.declared.rounding.Direction.TheVariants.{Nearest}
 use Rattle.irs_emit.proofs.PlainTexts.{text_kept}
 use Rattle.irs_base.proofs.VisibleTexts.{Visible, day_visible}
 use Rattle.irs_emit.proofs.LeafTextsRead.{count_back, count_visible, currency_back, currency_visible, day_back}
 use Rattle.irs_emit.proofs.LeafTextsRead.{fraction_back, number_back, number_visible, visible_text}
-use Rattle.irs_emit.specs.LeafLaws.{DayReadsBack, AmountReadsBack, NotionalReadsBack, RateReadsBack, CountReadsBack}
-use Rattle.irs_emit.specs.LeafLaws.{FractionReadsBack, CurrencyReadsBack}
+use Rattle.irs_emit.specs.RowLaws.{DayReadsBack, AmountReadsBack, NotionalReadsBack, RateReadsBack, CountReadsBack}
+use Rattle.irs_emit.specs.RowLaws.{FractionReadsBack, CurrencyReadsBack}
 use Rattle.jiff_core.proofs.SignedLemmas.{signed_arith}
 use Rattle.serde_json.specs.Data.{string}
 use Rattle.std.proofs.Common.{◌≡◌, ℕ, ◌/◌, ◌^◌, ◌<◌, ◌≤◌, ◌-◌, ◌==◌, List, [], ◌∷◌, length, ℤ, pos, negsuc, ◌*ℤ◌, ◌≤ℤ◌}
@@ -23,7 +21,6 @@ use Rattle.std.specs.Fmt.{signed_decimal}
 use Rattle.std.specs.List.{list_all}
 use Rattle.std.specs.Str.{IsAscii}
 use Rattle.irs_elements.proofs.Exact.{both_true}
-use Rattle.irs_elements.specs.Words.{is_capital}
 use Rattle.irs_read.specs.Readings.{said}
 
 said_text : {A : Type 0} (f : List ℕ → Option A) (s : List ℕ) → Visible s → said f (Some (string s)) ≡ f s

@@ -1,7 +1,7 @@
 -- The value of a schedule states its flows.
 use Rattle.irs_flows.specs.FlowFaults.{few, payments_in, periods_in, flow_periods_of}
-use Rattle.irs_flows.specs.FlowMeaning.{exchange_in, flows_in, payment_in, period_in, flow_part_in, flow_parts_in}
-use Rattle.irs_flows.specs.FlowParts.{FlowPart}
+use Rattle.irs_flows.specs.FlowReading.{exchange_in, flows_in, payment_in, period_in, flow_part_in, flow_parts_in}
+use Rattle.irs_flows.specs.FlowReading.{FlowPart}
 use Rattle.irs_audit.specs.StatedFlows.{stated_exchange, stated_flows, stated_part, stated_payment, stated_period}
 use Rattle.irs_audit.specs.StatedFlows.{stated_periods_from}
 use Rattle.irs_flows.specs.declared.flows.FlowExchange.{FlowExchange}
@@ -9,19 +9,18 @@ use Rattle.irs_flows.specs.declared.flows.FlowPayment.{FlowPayment}
 use Rattle.irs_flows.specs.declared.flows.FlowPeriod.{FlowPeriod}
 use Rattle.irs_audit.proofs.BoundLemmas.{payments_few}
 use Rattle.irs_base.specs.Limits.{most_rows}
-use Rattle.irs_base.specs.Members.{Every}
-use Rattle.irs_elements.specs.Find.{once, values_in, values_of}
+use Rattle.irs_base.specs.Lists.{Every}
+use Rattle.irs_elements.specs.Elements.{once, values_in, values_of}
 use Rattle.irs_emit.proofs.RowsRead.{array_values, exchange_reads, payment_reads, period_reads}
 use Rattle.irs_emit.specs.Emitted.{array_of, cashflows_value, emit_value, exchange_value, known_exchanges}
 use Rattle.irs_emit.specs.Emitted.{listed_period, object_with, one_period, payment_value, period_values, put_known}
 use Rattle.irs_emit.specs.Emitted.{stream_value}
-use Rattle.irs_emit.specs.PartLaws.{IsPartShort, StreamReadsBack}
-use Rattle.irs_emit.specs.RowLaws.{IsExchangeShort, IsPaymentShort, IsPeriodShort}
-use Rattle.irs_json.specs.Carrier.{present}
+use Rattle.irs_emit.specs.RowLaws.{IsPartShort, StreamReadsBack, IsExchangeShort, IsPaymentShort, IsPeriodShort}
+use Rattle.irs_json.specs.Leaves.{present}
 use Rattle.irs_read.specs.Documents.{the_swap}
 use Rattle.irs_schedule.proofs.WalkLemmas.{covers_within}
 use Rattle.irs_schedule.specs.Parts.{Part, EntriesCover, KeepsBounds}
-use Rattle.irs_schedule.specs.PeriodViews.{dated_period, period_at}
+use Rattle.irs_schedule.specs.RowsOf.{dated_period, period_at}
 use Rattle.irs_schedule.specs.declared.entries.PaymentEntry.{PaymentEntry}
 use Rattle.irs_schedule.specs.declared.entries.PeriodEntry.{PeriodEntry}
 use Rattle.irs_schedule.specs.declared.views.CalculationPeriod.{CalculationPeriod}

@@ -5,10 +5,9 @@ use Rattle.std.proofs.Common.{Some, None, refl, sym, ap, ap₂, ◌∙◌, subst
 use Rattle.std.specs.Prelude.{slice_get}
 use Rattle.std.proofs.lemmas.List.{map-append, take_all, take_more}
 use Rattle.irs_emit.specs.Emitted.{forecast_value, listed_period, one_period, period_value, period_values}
-use Rattle.irs_emit.specs.Private.Paid.{IsPaid}
-use Rattle.irs_emit.specs.Private.Texts.{is_later, listed_text}
+use Rattle.irs_emit.specs.Private.Texts.{IsPaid, is_later, listed_text}
 use Rattle.irs_schedule.specs.Parts.{Part}
-use Rattle.irs_schedule.specs.PeriodViews.{period_at}
+use Rattle.irs_schedule.specs.RowsOf.{period_at}
 use Rattle.irs_schedule.specs.declared.entries.PaymentEntry.{PaymentEntry}
 use Rattle.irs_schedule.specs.declared.views.CalculationPeriod.{CalculationPeriod}
 use Rattle.irs_terms.specs.declared.currency.Currency.{Currency}

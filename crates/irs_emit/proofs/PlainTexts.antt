@@ -18,11 +18,10 @@ use Rattle.irs_base.proofs.Dates.{year_range}
 use Rattle.irs_base.proofs.TextLemmas.{with_point}
 use Rattle.irs_base.proofs.TextLengths.{small_abs}
 use Rattle.irs_base.proofs.VisibleTexts.{not_none}
-use Rattle.irs_base.specs.DateOf.{year_of, month_of, day_of_month}
-use Rattle.irs_base.specs.Days.{IsDay}
+use Rattle.irs_base.specs.Days.{year_of, month_of, day_of_month, IsDay}
 use Rattle.irs_base.specs.Texts.{date_text, day_text, dec_text, digit_row, two_digits, unsigned_dec}
 use Rattle.irs_elements.proofs.Exact.{both_true, true_both}
-use Rattle.irs_emit.specs.Leaves.{utf8_or_empty}
+use Rattle.irs_emit.specs.Emitted.{utf8_or_empty}
 use Rattle.irs_emit.specs.Private.Texts.{AreLeafChars, is_leaf_char}
 use Rattle.irs_schedule.specs.Parts.{IsCode}
 use Rattle.irs_terms.specs.declared.currency.Currency.{Currency}

@@ -4,7 +4,7 @@ use Rattle.irs_emit.proofs.Pieces.{items_listed}
 use Rattle.irs_emit.specs.Emitted.{array_of, cashflows_value, definition_value, emit_text, emit_value, exchange_value}
 use Rattle.irs_emit.specs.Emitted.{forecast_value, known_exchanges, observation_value, payment_value, period_members}
 use Rattle.irs_emit.specs.Emitted.{period_value, period_values, fixed_value, floating_value, put_known, stream_value}
-use Rattle.irs_emit.specs.Leaves.{amount_leaf, count_leaf, currency_leaf, day_leaf, fraction_leaf, rate_leaf}
+use Rattle.irs_emit.specs.Emitted.{amount_leaf, count_leaf, currency_leaf, day_leaf, fraction_leaf, rate_leaf}
 use Rattle.irs_emit.specs.Private.Texts.{exchanges_text, known_text, listed_text, period_back, period_front, rate_text}
 use Rattle.irs_schedule.specs.Parts.{Part}
 use Rattle.irs_schedule.specs.declared.entries.PaymentEntry.{PaymentEntry}

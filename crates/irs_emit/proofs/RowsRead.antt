@@ -1,5 +1,5 @@
 -- Each row reads back as the flow that states it.
-use Rattle.irs_flows.specs.FlowMeaning.{payment_in, period_in, flow_reset_in, stated}
+use Rattle.irs_flows.specs.FlowReading.{payment_in, period_in, flow_reset_in, stated}
 use Rattle.irs_audit.specs.StatedFlows.{stated_amount, stated_exchange, stated_number, stated_payment, stated_period}
 use Rattle.irs_audit.specs.StatedFlows.{stated_reset}
 use Rattle.irs_flows.specs.declared.flows.FlowExchange.{FlowExchange}
@@ -9,25 +9,21 @@ use Rattle.irs_flows.specs.declared.flows.FlowReset.{FlowReset}
 use Rattle.irs_flows.specs.declared.flows.StatedFraction.{StatedFraction}
 use Rattle.irs_base.specs.declared.line.Dec.{Dec}
 use Rattle.irs_elements.specs.Codes.{first_there}
-use Rattle.irs_elements.specs.Dates.{leaf_date_at}
-use Rattle.irs_elements.specs.Find.{once, values_of}
-use Rattle.irs_elements.specs.Fractions.{fraction_at}
-use Rattle.irs_elements.specs.Numbers.{amount_at, whole_at}
-use Rattle.irs_elements.specs.Words.{currency_at}
+use Rattle.irs_elements.specs.Leaves.{leaf_date_at, currency_at}
+use Rattle.irs_elements.specs.Elements.{once, values_of}
+use Rattle.irs_elements.specs.Numbers.{fraction_at, amount_at, whole_at}
 use Rattle.irs_emit.proofs.LeavesRead.{amount_reads, count_reads, currency_reads, day_reads, fraction_reads}
 use Rattle.irs_emit.proofs.LeavesRead.{notional_reads, rate_reads}
 use Rattle.irs_emit.specs.Emitted.{array_of, definition_value, exchange_value, fixed_value, floating_value}
 use Rattle.irs_emit.specs.Emitted.{forecast_value, listed_period, observation_value, one_period, payment_value}
-use Rattle.irs_emit.specs.Emitted.{period_members, period_values, put_known}
-use Rattle.irs_emit.specs.Leaves.{amount_leaf, count_leaf, currency_leaf, day_leaf, fraction_leaf, notional_leaf}
-use Rattle.irs_emit.specs.Leaves.{rate_leaf}
+use Rattle.irs_emit.specs.Emitted.{period_members, period_values, put_known, amount_leaf, count_leaf, currency_leaf}
+use Rattle.irs_emit.specs.Emitted.{day_leaf, fraction_leaf, notional_leaf, rate_leaf}
 use Rattle.irs_emit.specs.RowLaws.{ExchangeReadsBack, IsPeriodShort, IsShortAmount, IsShortRate, PaymentReadsBack}
 use Rattle.irs_emit.specs.RowLaws.{PeriodReadsBack, ResetReadsBack}
-use Rattle.irs_json.specs.Carrier.{present}
-use Rattle.irs_json.specs.Values.{list_of}
+use Rattle.irs_json.specs.Leaves.{present, list_of}
 use Rattle.irs_read.specs.Readings.{said}
 use Rattle.irs_schedule.specs.Parts.{Part}
-use Rattle.irs_schedule.specs.PeriodViews.{dated_period}
+use Rattle.irs_schedule.specs.RowsOf.{dated_period}
 use Rattle.irs_schedule.specs.declared.views.CalculationPeriod.{CalculationPeriod}
 use Rattle.irs_terms.specs.declared.currency.Currency.{Currency}
 use Rattle.irs_terms.specs.declared.results.Reset.{Reset}

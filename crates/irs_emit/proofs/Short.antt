@@ -12,9 +12,8 @@ use Rattle.std.proofs.lemmas.Option.{IfSome_then}
 use Rattle.jiff_core.proofs.SignedLemmas.{signed_arith}
 use Rattle.irs_base.proofs.DayListLemmas.{day_at_day}
 use Rattle.irs_base.proofs.RoundingLaws.{rounded_is}
-use Rattle.irs_base.specs.Limits.{most_numerator}
-use Rattle.irs_base.specs.Members.{Every}
-use Rattle.irs_base.specs.Rounding.{Rounded, rounded}
+use Rattle.irs_base.specs.Limits.{most_numerator, Rounded, rounded}
+use Rattle.irs_base.specs.Lists.{Every}
 use Rattle.irs_base.specs.declared.line.Dec.{Dec}
 use Rattle.irs_base.specs.declared.rounding.Direction.TheVariants.{Nearest}
 use Rattle.irs_terms.specs.Lawful.{IsNotional}
@@ -25,19 +24,16 @@ use Rattle.irs_terms.specs.declared.currency.Currency.{Currency}
 use Rattle.irs_terms.specs.declared.results.Exchange.{Exchange}
 use Rattle.irs_daycount.specs.Fractions.{denominator_of}
 use Rattle.irs_elements.proofs.Exact.{true_both}
-use Rattle.irs_elements.specs.Words.{is_capital, is_currency}
+use Rattle.irs_elements.specs.Leaves.{is_capital, is_currency}
 use Rattle.irs_audit.specs.StatedFlows.{stated_fraction}
 use Rattle.irs_emit.proofs.Bounds.{above_zero, few}
-use Rattle.irs_emit.specs.PartLaws.{IsPartShort}
-use Rattle.irs_emit.specs.RowLaws.{IsExchangeShort, IsPaymentShort, IsPeriodShort, IsResetShort, IsShortNumber}
-use Rattle.irs_emit.specs.RowLaws.{IsShortAmount}
-use Rattle.irs_emit.specs.RowLaws.{IsShortRate}
+use Rattle.irs_emit.specs.RowLaws.{IsPartShort, IsExchangeShort, IsPaymentShort, IsPeriodShort, IsResetShort}
+use Rattle.irs_emit.specs.RowLaws.{IsShortNumber, IsShortAmount, IsShortRate}
 use Rattle.irs_schedule.proofs.WalkLemmas.{covers_within}
 use Rattle.irs_schedule.specs.Parts.{EntriesCover, HasAmount, HasDays, IsAmount, IsCode, IsDatedExchange}
-use Rattle.irs_schedule.specs.Parts.{IsDatedPayment}
-use Rattle.irs_schedule.specs.Parts.{IsDatedReset, IsEntry, KeepsBounds, Part, most_entry_rate}
-use Rattle.irs_schedule.specs.StreamResets.{HasObserved, most_observed_rate}
-use Rattle.irs_schedule.specs.PeriodViews.{dated_period, period_at}
+use Rattle.irs_schedule.specs.Parts.{IsDatedPayment, IsDatedReset, IsEntry, KeepsBounds, Part, most_entry_rate}
+use Rattle.irs_schedule.specs.Parts.{HasObserved, most_observed_rate}
+use Rattle.irs_schedule.specs.RowsOf.{dated_period, period_at}
 use Rattle.irs_schedule.specs.declared.entries.PaymentEntry.{PaymentEntry}
 use Rattle.irs_schedule.specs.declared.entries.PeriodEntry.{PeriodEntry}
 

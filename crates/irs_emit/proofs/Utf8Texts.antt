@@ -1,23 +1,20 @@
 -- The compact text of the emitted value is UTF-8, since its names and its leaves are ASCII.
 use Rattle.irs_base.specs.Days.{IsDay}
-use Rattle.irs_base.specs.Members.{Every}
+use Rattle.irs_base.specs.Lists.{Every}
 use Rattle.irs_base.specs.Texts.{day_text, dec_text}
 use Rattle.irs_base.specs.declared.line.Dec.{Dec}
-use Rattle.irs_elements.specs.Words.{is_currency}
+use Rattle.irs_elements.specs.Leaves.{is_currency}
 use Rattle.irs_emit.proofs.LeavesRead.{currency_ascii}
 use Rattle.irs_emit.specs.Private.Texts.{AreLeafChars}
 use Rattle.irs_emit.proofs.PlainTexts.{day_plain, plain_ascii, short_plain, text_kept, whole_plain}
 use Rattle.irs_emit.specs.Emitted.{array_of, cashflows_value, definition_value, emit_value, exchange_value, fixed_value}
-use Rattle.irs_emit.specs.Emitted.{floating_value, forecast_value, known_exchanges, listed_period}
-use Rattle.irs_emit.specs.Emitted.{observation_value, one_period, payment_value, period_members, period_value}
-use Rattle.irs_emit.specs.Emitted.{period_values, put_known, stream_value}
-use Rattle.irs_emit.specs.Leaves.{amount_leaf, count_leaf, currency_leaf, day_leaf, rate_leaf}
-use Rattle.irs_emit.specs.PartLaws.{IsPartShort}
-use Rattle.irs_emit.specs.RowLaws.{IsExchangeShort, IsPaymentShort, IsPeriodShort, IsResetShort, IsShortNumber}
-use Rattle.irs_emit.specs.RowLaws.{IsShortAmount}
-use Rattle.irs_emit.specs.RowLaws.{IsShortRate}
+use Rattle.irs_emit.specs.Emitted.{floating_value, forecast_value, known_exchanges, listed_period, observation_value}
+use Rattle.irs_emit.specs.Emitted.{one_period, payment_value, period_members, period_value, period_values, put_known}
+use Rattle.irs_emit.specs.Emitted.{stream_value, amount_leaf, count_leaf, currency_leaf, day_leaf, rate_leaf}
+use Rattle.irs_emit.specs.RowLaws.{IsPartShort, IsExchangeShort, IsPaymentShort, IsPeriodShort, IsResetShort}
+use Rattle.irs_emit.specs.RowLaws.{IsShortNumber, IsShortAmount, IsShortRate}
 use Rattle.irs_schedule.specs.Parts.{Part}
-use Rattle.irs_schedule.specs.PeriodViews.{period_at}
+use Rattle.irs_schedule.specs.RowsOf.{period_at}
 use Rattle.irs_schedule.specs.declared.entries.PaymentEntry.{PaymentEntry}
 use Rattle.irs_schedule.specs.declared.views.CalculationPeriod.{CalculationPeriod}
 use Rattle.irs_terms.specs.declared.currency.Currency.{Currency}

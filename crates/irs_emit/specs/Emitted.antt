@@ -1,19 +1,65 @@
--- The cash flows of a schedule as a JSON value, in FpML's elements. There is a row for each row of the schedule, with
--- each field of it that is known, and no other. Members are in the byte order of their names.
-use Rattle.std.specs.Prelude.{ℕ, zero, suc, ◌+◌, ◌-◌, List, [], ◌∷◌, ◌++◌, map, Option, Some, None, option_map}
-use Rattle.std.specs.Prelude.{slice_get, codes}
-use Rattle.irs_terms.specs.declared.currency.Currency.{Currency}
-use Rattle.irs_terms.specs.declared.results.Exchange.{Exchange}
-use Rattle.irs_terms.specs.declared.results.Reset.{Reset}
-use Rattle.irs_schedule.specs.Parts.{Part}
-use Rattle.irs_schedule.specs.PeriodViews.{period_at}
-use Rattle.irs_schedule.specs.declared.entries.PaymentEntry.{PaymentEntry}
-use Rattle.irs_schedule.specs.declared.views.CalculationPeriod.{CalculationPeriod}
-use Rattle.irs_emit.specs.Leaves.{amount_leaf, count_leaf, currency_leaf, day_leaf, fraction_leaf, notional_leaf}
-use Rattle.irs_emit.specs.Leaves.{rate_leaf}
+-- The cash flows of a schedule as a JSON value, in FpML's elements.
+use Rattle.std.specs.Fmt.{signed_decimal}
+use Rattle.std.specs.Prelude.{ℕ, ℤ, ◌^◌, ◌*ℤ◌, List, [], pos, if◌then◌else◌, zero, suc, ◌+◌, ◌-◌, ◌∷◌, ◌++◌, map}
+use Rattle.std.specs.Prelude.{Option, Some, None, option_map, slice_get, codes}
+use Rattle.std.specs.Str.{is_utf8}
 use Rattle.serde_json.specs.Data.{Data, string, array, object, Members, no_members, put}
 use Rattle.serde_json.specs.View.{items_of}
 use Rattle.serde_json.specs.Written.{compact_text}
+use Rattle.irs_base.specs.Limits.{rounded}
+use Rattle.irs_base.specs.Texts.{day_text, dec_text}
+use Rattle.irs_base.specs.declared.line.Dec.{Dec}
+use Rattle.irs_base.specs.declared.rounding.Direction.TheVariants.{Nearest}
+use Rattle.irs_terms.specs.declared.currency.Currency.{Currency}
+use Rattle.irs_terms.specs.declared.results.Frac.{Frac}
+use Rattle.irs_terms.specs.declared.results.Exchange.{Exchange}
+use Rattle.irs_terms.specs.declared.results.Reset.{Reset}
+use Rattle.irs_schedule.specs.Parts.{Part}
+use Rattle.irs_schedule.specs.RowsOf.{period_at}
+use Rattle.irs_schedule.specs.declared.entries.PaymentEntry.{PaymentEntry}
+use Rattle.irs_schedule.specs.declared.views.CalculationPeriod.{CalculationPeriod}
+
+-- ---- the leaves of emitted cash flows: each is a JSON string
+
+-- a date: `YYYY-MM-DD`
+abbrev pub day_leaf : ℤ → Data
+day_leaf d = string (day_text d)
+
+-- a number of units of 10^-places, with that many decimals
+abbrev pub number_leaf : ℤ → ℕ → Data
+number_leaf units places = string (dec_text units places)
+
+-- an amount, with its own decimals
+abbrev pub amount_leaf : Dec → Data
+amount_leaf v = number_leaf v.units v.places
+
+-- a notional, with 4 decimals
+abbrev pub notional_leaf : ℤ → Data
+notional_leaf units = number_leaf units 4
+
+-- a rate, with 9 decimals
+abbrev pub rate_leaf : ℤ → Data
+rate_leaf units = number_leaf units 9
+
+-- a fraction with 10 decimals, rounded to the nearest
+abbrev pub fraction_leaf : Frac → Data
+fraction_leaf f = number_leaf (rounded Nearest (f.num *ℤ pos (10 ^ 10)) f.den) 10
+
+-- a number of days
+abbrev pub count_leaf : ℤ → Data
+count_leaf n = string (signed_decimal n)
+
+-- bytes as a text; bytes that aren't UTF-8 give the empty text, which no lawful currency has
+abbrev pub utf8_or_empty : List ℕ → List ℕ
+utf8_or_empty bytes = if is_utf8 bytes then bytes else []
+
+-- a currency: its letters
+abbrev pub currency_leaf : Currency → Data
+currency_leaf c = string (utf8_or_empty c.letters)
+
+-- ---- the cash flows of a schedule as a JSON value, in FpML's elements
+-- There is a row for each row of the schedule, with each field of it that is known, and no other. Members are in the
+-- byte order of their names.
 
 -- the members, with one more of that name where its value is known
 abbrev pub put_known : List ℕ → Option Data → Members → Members

@@ -1,16 +1,71 @@
--- Each row reads back as the flow that states it.
-use Rattle.irs_flows.specs.FlowMeaning.{exchange_in, payment_in, period_in, flow_reset_in}
-use Rattle.irs_audit.specs.StatedFlows.{stated_exchange, stated_fraction, stated_payment, stated_period, stated_reset}
+-- Emitted cash flows read back as the flows that state the schedule.
+use Rattle.std.specs.Prelude.{◌≡◌, ◌/◌, ◌^◌, ◌<◌, ◌≤◌, ℤ, pos, ◌≤ℤ◌, unsigned_abs, Some, option_map, true, ℕ, length}
+use Rattle.std.specs.Prelude.{Option, IfSome, List, slice_get}
+use Rattle.serde_json.specs.Data.{Data}
 use Rattle.irs_base.specs.Days.{IsDay}
 use Rattle.irs_base.specs.declared.line.Dec.{Dec}
-use Rattle.irs_elements.specs.Words.{is_currency}
-use Rattle.irs_emit.specs.Emitted.{exchange_value, observation_value, payment_value, period_value}
-use Rattle.irs_schedule.specs.Parts.{Part}
-use Rattle.irs_schedule.specs.declared.entries.PaymentEntry.{PaymentEntry}
-use Rattle.irs_schedule.specs.declared.views.CalculationPeriod.{CalculationPeriod}
+use Rattle.irs_base.specs.Lists.{Every}
+use Rattle.irs_terms.specs.declared.currency.Currency.{Currency}
+use Rattle.irs_terms.specs.declared.results.Frac.{Frac}
 use Rattle.irs_terms.specs.declared.results.Exchange.{Exchange}
 use Rattle.irs_terms.specs.declared.results.Reset.{Reset}
-use Rattle.std.specs.Prelude.{◌≡◌, ℕ, ◌/◌, ◌^◌, ◌<◌, ◌≤◌, length, ℤ, pos, ◌≤ℤ◌, unsigned_abs, Option, IfSome, true}
+use Rattle.irs_json.specs.Reading.{Reads}
+use Rattle.irs_elements.specs.Leaves.{leaf_date_at, currency_at, is_currency}
+use Rattle.irs_elements.specs.Numbers.{fraction_at, amount_at, whole_at}
+use Rattle.irs_read.specs.Readings.{said}
+use Rattle.irs_flows.specs.FlowReading.{stated, exchange_in, payment_in, period_in, flow_reset_in, flow_part_in}
+use Rattle.irs_flows.specs.FlowReading.{FlowsOf}
+use Rattle.irs_schedule.specs.Parts.{Part, KeepsBounds}
+use Rattle.irs_schedule.specs.declared.entries.PaymentEntry.{PaymentEntry}
+use Rattle.irs_schedule.specs.declared.views.CalculationPeriod.{CalculationPeriod}
+use Rattle.irs_schedule.specs.RowsOf.{period_at}
+use Rattle.irs_audit.specs.StatedFlows.{stated_amount, stated_fraction, stated_number, stated_exchange, stated_payment}
+use Rattle.irs_audit.specs.StatedFlows.{stated_period, stated_reset, stated_flows, stated_part}
+use Rattle.irs_audit.specs.Verdicts.{IsVerdict, row_count, unfixed_count}
+use Rattle.irs_audit.specs.declared.departures.Verdict.TheVariants.{Yes}
+use Rattle.irs_emit.specs.Emitted.{amount_leaf, count_leaf, currency_leaf, day_leaf, fraction_leaf, notional_leaf}
+use Rattle.irs_emit.specs.Emitted.{rate_leaf, exchange_value, observation_value, payment_value, period_value}
+use Rattle.irs_emit.specs.Emitted.{stream_value}
+
+-- ---- each leaf reads back as its value, by the rules of cash flows
+
+-- a date reads back as its day number
+abbrev pub DayReadsBack : Type 0
+DayReadsBack = (d : ℤ) → IsDay d → said leaf_date_at (Some (day_leaf d)) ≡ Some d
+
+-- an amount with at most 18 digits before the point reads back
+abbrev pub AmountReadsBack : Type 0
+AmountReadsBack =
+    (v : Dec) → v.places ≤ 12 → unsigned_abs v.units / 10 ^ v.places < 10 ^ 18
+    → said amount_at (Some (amount_leaf v)) ≡ Some (stated_amount v)
+
+-- a notional with at most 18 digits before the point reads back
+abbrev pub NotionalReadsBack : Type 0
+NotionalReadsBack =
+    (units : ℤ) → unsigned_abs units / 10 ^ 4 < 10 ^ 18
+    → said amount_at (Some (notional_leaf units)) ≡ Some (stated_number units 4)
+
+-- a rate with at most 18 digits before the point reads back
+abbrev pub RateReadsBack : Type 0
+RateReadsBack =
+    (units : ℤ) → unsigned_abs units / 10 ^ 9 < 10 ^ 18
+    → said amount_at (Some (rate_leaf units)) ≡ Some (stated_number units 9)
+
+-- a number of days below 10^9 in size reads back
+abbrev pub CountReadsBack : Type 0
+CountReadsBack = (n : ℤ) → unsigned_abs n < 10 ^ 9 → said whole_at (Some (count_leaf n)) ≡ Some n
+
+-- a fraction that isn't negative and is below 10^18 reads back, with 10 decimals
+abbrev pub FractionReadsBack : Type 0
+FractionReadsBack =
+    (f : Frac) → pos 0 ≤ℤ (stated_fraction f).units → unsigned_abs (stated_fraction f).units / 10 ^ 10 < 10 ^ 18
+    → option_map stated (said fraction_at (Some (fraction_leaf f))) ≡ Some (stated_fraction f)
+
+-- a currency of three capital letters reads back
+abbrev pub CurrencyReadsBack : Type 0
+CurrencyReadsBack = (c : Currency) → is_currency c.letters ≡ true → said currency_at (Some (currency_leaf c)) ≡ Some c
+
+-- ---- each row reads back as the flow that states it
 
 -- a number has at most 18 digits before its point
 abbrev pub IsShortNumber : ℤ → ℕ → Type 0
@@ -76,3 +131,25 @@ PeriodReadsBack =
 abbrev pub PaymentReadsBack : Type 0
 PaymentReadsBack =
     (p : Part) (y : PaymentEntry) → IsPaymentShort p y → payment_in (payment_value p y) ≡ stated_payment p.currency y
+
+-- ---- the value of a stream, and that of a schedule, states the flows of the schedule
+
+-- a part whose rows are short
+pub record IsPartShort (p : Part) : Type 0 where
+  pub bounds : KeepsBounds p
+  pub exchanges : Every IsExchangeShort p.exchanges
+  pub payments : Every (IsPaymentShort p) p.payments
+  pub periods : (j : ℕ) → IfSome (period_at p j) IsPeriodShort
+  pub resets : (j : ℕ) → IfSome (slice_get p.resets j) IsResetShort
+
+-- the object of a stream states the flows of its part
+abbrev pub StreamReadsBack : Type 0
+StreamReadsBack = (p : Part) → IsPartShort p → flow_part_in (stream_value p) ≡ stated_part p
+
+-- The bytes read as a value that has no fault of the tables of cash flows. It states exactly the flows that
+-- state the schedule, and the audit of these flows is yes.
+pub record StatesFlows (bytes : List ℕ) (s : List Part) : Type 0 where
+  pub value : Data
+  pub reads : Reads bytes value
+  pub flows : FlowsOf value (stated_flows s)
+  pub audit : IsVerdict (stated_flows s) s (Yes (row_count s) (unfixed_count s))

@@ -3,11 +3,10 @@ ghost use Rattle.std.specs.Prelude.{◌≡◌, ◌-◌, ◌≤◌, ◌++◌, IfO
 ghost use Rattle.serde_json.specs.Written.{compact_text};
 ghost use Rattle.irs_json.specs.Reading.{Reads};
 ghost use Rattle.irs_schedule.specs.Parts.{IsCode};
-ghost use Rattle.irs_emit.specs.Private.Paid.{IsPaid};
-ghost use Rattle.irs_emit.specs.PartLaws.{StatesFlows};
+ghost use Rattle.irs_emit.specs.Private.Texts.{IsPaid, exchanges_text, is_later, listed_text};
+ghost use Rattle.irs_emit.specs.RowLaws.{StatesFlows};
 ghost use Rattle.irs_emit.specs.Emitted.{cashflows_value, emit_text, emit_value, exchange_value, one_period};
 ghost use Rattle.irs_emit.specs.Emitted.{payment_value, period_values, stream_value};
-ghost use Rattle.irs_emit.specs.Private.Texts.{exchanges_text, is_later, listed_text};
 
 use crate::leaves::day;
 use crate::rows::{exchange, forecast, period};

@@ -1,6 +1,6 @@
 //! Laws: each leaf reads back as its value, and each row as its flow.
-ghost use Rattle.irs_emit.specs.LeafLaws.{AmountReadsBack, CountReadsBack, CurrencyReadsBack, DayReadsBack};
-ghost use Rattle.irs_emit.specs.LeafLaws.{FractionReadsBack, NotionalReadsBack, RateReadsBack};
+ghost use Rattle.irs_emit.specs.RowLaws.{AmountReadsBack, CountReadsBack, CurrencyReadsBack, DayReadsBack};
+ghost use Rattle.irs_emit.specs.RowLaws.{FractionReadsBack, NotionalReadsBack, RateReadsBack};
 
 /// By the rules of cash flows each leaf reads back as the value that it was written for. Leaves are
 /// a date, an amount, a notional, a rate, a number of days, a fraction and a currency. The function
@@ -16,8 +16,8 @@ pub fn leaves_read_back()
     ensures currencies { CurrencyReadsBack }
 {}
 
-ghost use Rattle.irs_emit.specs.PartLaws.{StreamReadsBack};
-ghost use Rattle.irs_emit.specs.RowLaws.{ExchangeReadsBack, PaymentReadsBack, PeriodReadsBack, ResetReadsBack};
+ghost use Rattle.irs_emit.specs.RowLaws.{StreamReadsBack, ExchangeReadsBack, PaymentReadsBack, PeriodReadsBack};
+ghost use Rattle.irs_emit.specs.RowLaws.{ResetReadsBack};
 
 /// By the meaning of cash flows each object reads back as the flow that states its row. Its dates
 /// have to be days, and its numbers to have few digits. Objects are an exchange, a reset, a

@@ -4,9 +4,9 @@
 ghost use Rattle.std.specs.Prelude.{◌≡◌, ◌≤◌, ◌++◌, IfSome, OnOk, option_map, pos, ◌^◌, ◌<◌, ◌<ℤ◌, ◌*ℤ◌, unsigned_abs};
 ghost use Rattle.serde_json.specs.Written.{compact_text};
 ghost use Rattle.irs_schedule.specs.Parts.{IsCode};
-ghost use Rattle.irs_schedule.specs.RowTexts.{IsFew};
-ghost use Rattle.irs_emit.specs.Leaves.{amount_leaf, count_leaf, currency_leaf, day_leaf, fraction_leaf, notional_leaf};
-ghost use Rattle.irs_emit.specs.Leaves.{number_leaf, rate_leaf};
+ghost use Rattle.irs_schedule.specs.RowsOf.{IsFew};
+ghost use Rattle.irs_emit.specs.Emitted.{amount_leaf, count_leaf, currency_leaf, day_leaf, fraction_leaf};
+ghost use Rattle.irs_emit.specs.Emitted.{notional_leaf, number_leaf, rate_leaf};
 ghost use Rattle.irs_emit.specs.Private.Texts.{known_text};
 
 use crate::writer::plain;

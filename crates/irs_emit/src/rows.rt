@@ -4,7 +4,7 @@
 ghost use Rattle.std.specs.Prelude.{◌≡◌, ◌++◌, ◌≤◌, IfSome, OnOk, pos, ◌<ℤ◌, option_map};
 ghost use Rattle.serde_json.specs.Written.{compact_text};
 ghost use Rattle.irs_schedule.specs.Parts.{IsCode};
-ghost use Rattle.irs_schedule.specs.RowTexts.{IsFew};
+ghost use Rattle.irs_schedule.specs.RowsOf.{IsFew};
 ghost use Rattle.irs_emit.specs.Emitted.{definition_value, exchange_value, forecast_value, observation_value};
 ghost use Rattle.irs_emit.specs.Emitted.{period_value};
 ghost use Rattle.irs_emit.specs.Private.Texts.{period_back, period_front, rate_text};

@@ -8,18 +8,17 @@ use Rattle.irs_terms.specs.declared.currency.Currency.{Currency}
 use Rattle.irs_terms.specs.declared.results.Exchange.{Exchange}
 use Rattle.irs_terms.specs.declared.results.Reset.{Reset}
 use Rattle.irs_schedule.specs.Parts.{Part}
-use Rattle.irs_schedule.specs.PeriodViews.{period_at}
+use Rattle.irs_schedule.specs.RowsOf.{period_at}
 use Rattle.irs_schedule.specs.declared.entries.PaymentEntry.{PaymentEntry}
 use Rattle.irs_schedule.specs.declared.views.CalculationPeriod.{CalculationPeriod}
 use Rattle.irs_emit.specs.Emitted.{array_of, cashflows_value, definition_value, emit_value, exchange_value, fixed_value}
-use Rattle.irs_emit.specs.Emitted.{floating_value}
-use Rattle.irs_emit.specs.Emitted.{forecast_value, known_exchanges, listed_period, object_with, observation_value}
-use Rattle.irs_emit.specs.Emitted.{one_period}
-use Rattle.irs_emit.specs.Emitted.{payment_value, period_members, period_value, period_values, put_known, stream_value}
-use Rattle.irs_emit.specs.Leaves.{amount_leaf, currency_leaf, day_leaf, rate_leaf}
+use Rattle.irs_emit.specs.Emitted.{floating_value, forecast_value, known_exchanges, listed_period, object_with}
+use Rattle.irs_emit.specs.Emitted.{observation_value, one_period, payment_value, period_members, period_value}
+use Rattle.irs_emit.specs.Emitted.{period_values, put_known, stream_value, amount_leaf, currency_leaf, day_leaf}
+use Rattle.irs_emit.specs.Emitted.{rate_leaf}
 use Rattle.serde_json.specs.Data.{Data, string, object, no_members, put}
 use Rattle.serde_json.specs.View.{items_of}
-use Rattle.irs_emit_xml.specs.Ones.{value_alone, ones}
+use Rattle.irs_emit_xml.specs.Trees.{value_alone, ones}
 use Rattle.irs_emit_xml.proofs.Joining.{ones_listed}
 
 -- an array as XML carries it

@@ -5,8 +5,7 @@ use Rattle.irs_emit.specs.Emitted.{emit_value}
 use Rattle.irs_xml.specs.Document.{XmlReads}
 use Rattle.irs_emit_xml.specs.Flows.{flows_text, stream_node, stream_nodes}
 use Rattle.irs_emit_xml.specs.Private.Flows.{lines}
-use Rattle.irs_emit_xml.specs.Ones.{ones}
-use Rattle.irs_emit_xml.specs.Trees.{close_text, declared_text, root_open_text, written_text, written_value}
+use Rattle.irs_emit_xml.specs.Trees.{ones, close_text, declared_text, root_open_text, written_text, written_value}
 use Rattle.irs_emit_xml.proofs.FlowRules.{root_is}
 use Rattle.irs_emit_xml.proofs.FlowValues.{value_is}
 use Rattle.irs_emit.proofs.Pieces.{twice}

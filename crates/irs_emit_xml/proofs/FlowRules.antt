@@ -5,26 +5,23 @@ use Rattle.std.proofs.Math.Nat.{div-lt_iff_lt-mul, one-le-pow, pow-le-pow_right}
 use Rattle.std.specs.List.{list_all}
 use Rattle.std.specs.Prelude.{slice_get}
 use Rattle.irs_audit.specs.StatedFlows.{stated_fraction}
-use Rattle.irs_base.specs.Members.{Every}
+use Rattle.irs_base.specs.Lists.{Every}
 use Rattle.irs_base.specs.declared.line.Dec.{Dec}
 use Rattle.irs_terms.specs.declared.currency.Currency.{Currency}
 use Rattle.irs_terms.specs.declared.results.Exchange.{Exchange}
 use Rattle.irs_terms.specs.declared.results.Reset.{Reset}
 use Rattle.irs_schedule.specs.Parts.{Part, IsCode, IsWithin}
-use Rattle.irs_schedule.specs.PeriodViews.{period_at}
+use Rattle.irs_schedule.specs.RowsOf.{period_at}
 use Rattle.irs_schedule.specs.declared.entries.PaymentEntry.{PaymentEntry}
 use Rattle.irs_schedule.specs.declared.views.CalculationPeriod.{CalculationPeriod}
 use Rattle.irs_emit.proofs.Short.{parts_short}
-use Rattle.irs_emit.specs.PartLaws.{IsPartShort}
-use Rattle.irs_emit.specs.RowLaws.{IsExchangeShort, IsPaymentShort, IsPeriodShort, IsResetShort, IsShortNumber}
-use Rattle.irs_emit.specs.RowLaws.{IsShortAmount}
-use Rattle.irs_emit.specs.RowLaws.{IsShortRate}
+use Rattle.irs_emit.specs.RowLaws.{IsPartShort, IsExchangeShort, IsPaymentShort, IsPeriodShort, IsResetShort}
+use Rattle.irs_emit.specs.RowLaws.{IsShortNumber, IsShortAmount, IsShortRate}
 use Rattle.irs_emit_xml.specs.Trees.{Node, is_letter, is_tag_name, is_unescaped, IsFilled, IsNode, IsNodes, IsRoot}
 use Rattle.irs_emit_xml.specs.Flows.{listed_nodes, known, amount_node, rate_node, exchange_node, forecast_node}
 use Rattle.irs_emit_xml.specs.Flows.{observation_node, definition_node, fraction_node, rate_content, period_node}
 use Rattle.irs_emit_xml.specs.Flows.{listed_period_nodes, one_period_nodes, period_nodes, payment_node, cashflows_node}
-use Rattle.irs_emit_xml.specs.Flows.{stream_node}
-use Rattle.irs_emit_xml.specs.Flows.{stream_nodes}
+use Rattle.irs_emit_xml.specs.Flows.{stream_node, stream_nodes}
 use Rattle.irs_emit_xml.proofs.Currencies.{letters_plain}
 use Rattle.irs_emit_xml.proofs.PlainTexts.{day_plain, dec_plain, whole_plain}
 

@@ -5,34 +5,30 @@ use Rattle.std.proofs.lemmas.List.{map-append}
 use Rattle.std.proofs.lemmas.Option.{slice_get_cases}
 use Rattle.std.specs.Prelude.{slice_get}
 use Rattle.irs_base.specs.Texts.{day_text}
-use Rattle.irs_base.specs.Members.{Every}
+use Rattle.irs_base.specs.Lists.{Every}
 use Rattle.irs_base.specs.declared.line.Dec.{Dec}
 use Rattle.irs_terms.specs.declared.currency.Currency.{Currency}
 use Rattle.irs_terms.specs.declared.results.Exchange.{Exchange}
 use Rattle.irs_terms.specs.declared.results.Reset.{Reset}
 use Rattle.irs_schedule.specs.Parts.{Part, EntriesCover, IsWithin}
-use Rattle.irs_schedule.specs.PeriodViews.{period_at, dated_period}
+use Rattle.irs_schedule.specs.RowsOf.{period_at, dated_period}
 use Rattle.irs_schedule.specs.declared.entries.PaymentEntry.{PaymentEntry}
 use Rattle.irs_schedule.specs.declared.views.CalculationPeriod.{CalculationPeriod}
 use Rattle.irs_emit.specs.Emitted.{array_of, cashflows_value, definition_value, emit_value, exchange_value, fixed_value}
-use Rattle.irs_emit.specs.Emitted.{floating_value}
-use Rattle.irs_emit.specs.Emitted.{forecast_value, known_exchanges, listed_period as listed_value, observation_value}
-use Rattle.irs_emit.specs.Emitted.{one_period as one_value}
-use Rattle.irs_emit.specs.Emitted.{payment_value, period_members, period_value, period_values, put_known, stream_value}
-use Rattle.irs_emit.specs.PartLaws.{IsPartShort}
-use Rattle.irs_emit.specs.RowLaws.{IsPaymentShort}
+use Rattle.irs_emit.specs.Emitted.{floating_value, forecast_value, known_exchanges, listed_period as listed_value}
+use Rattle.irs_emit.specs.Emitted.{observation_value, one_period as one_value, payment_value, period_members}
+use Rattle.irs_emit.specs.Emitted.{period_value, period_values, put_known, stream_value, amount_leaf, rate_leaf}
+use Rattle.irs_emit.specs.Emitted.{utf8_or_empty}
+use Rattle.irs_emit.specs.RowLaws.{IsPartShort, IsPaymentShort}
 use Rattle.irs_emit.proofs.Short.{parts_short}
-use Rattle.irs_emit.specs.Leaves.{amount_leaf, rate_leaf, utf8_or_empty}
-use Rattle.irs_xml.specs.Values.{Child, with_children}
+use Rattle.irs_xml.specs.Content.{Child, with_children}
 use Rattle.serde_json.specs.Data.{Data, string, object, Members, no_members, member, put}
 use Rattle.serde_json.specs.View.{items_of}
-use Rattle.irs_emit_xml.specs.Trees.{Node, leaf, node_name, node_value, children_of, written_value}
-use Rattle.irs_emit_xml.specs.Ones.{value_alone, ones}
+use Rattle.irs_emit_xml.specs.Trees.{Node, leaf, node_name, node_value, children_of, written_value, value_alone, ones}
 use Rattle.irs_emit_xml.specs.Flows.{element, listed_nodes, known, amount_node, rate_node, currency_node, exchange_node}
 use Rattle.irs_emit_xml.specs.Flows.{forecast_node, observation_node, definition_node, rate_content, front_content}
 use Rattle.irs_emit_xml.specs.Flows.{period_node, listed_period_nodes, one_period_nodes, period_nodes, payment_node}
-use Rattle.irs_emit_xml.specs.Flows.{cashflows_node}
-use Rattle.irs_emit_xml.specs.Flows.{stream_node, stream_nodes, day_node, fraction_node}
+use Rattle.irs_emit_xml.specs.Flows.{cashflows_node, stream_node, stream_nodes, day_node, fraction_node}
 use Rattle.irs_emit.proofs.PlainTexts.{code_kept}
 use Rattle.irs_emit_xml.proofs.Joining.{all_named, all_children, children_append, Begins, begins_append, ones_listed}
 

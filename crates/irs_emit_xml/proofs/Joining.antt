@@ -11,8 +11,8 @@ use Rattle.serde_json.specs.Data.{Data, null, boolean, number, string, array, ob
 use Rattle.serde_json.specs.Data.{put}
 use Rattle.serde_json.specs.Find.{get_member}
 use Rattle.serde_json.specs.View.{items_of}
-use Rattle.irs_xml.specs.Values.{Child, item_last, joined_values, without, with_child, with_children}
-use Rattle.irs_emit_xml.specs.Ones.{value_alone, ones, ones_items}
+use Rattle.irs_xml.specs.Content.{Child, item_last, joined_values, without, with_child, with_children}
+use Rattle.irs_emit_xml.specs.Trees.{value_alone, ones, ones_items}
 
 -- ---- a member that isn't there yet
 

@@ -9,18 +9,16 @@ use Rattle.std.specs.Char.{encode_utf8}
 use Rattle.std.specs.List.{list_all}
 use Rattle.std.specs.Str.{bytes_eq, encode_utf8_all}
 use Rattle.irs_xml.specs.Characters.{is_white_space, is_white}
-use Rattle.irs_xml.specs.Content.{Element, Content, nothing, character, child}
+use Rattle.irs_xml.specs.Content.{Element, Content, nothing, character, child, Child, is_ours, key_of, named_child}
+use Rattle.irs_xml.specs.Content.{both, element_data, value_from, with_settings, with_children, element_child}
+use Rattle.irs_xml.specs.Content.{children_in, text_inside}
 use Rattle.irs_xml.specs.Document.{document_value, root_key, root_namespace, rooted, root_value}
-use Rattle.irs_xml.specs.Namespaces.{Scope, Setting, first_scope, opening_of, is_declaration, declared_prefix}
-use Rattle.irs_xml.specs.Namespaces.{is_same_namespace}
-use Rattle.irs_xml.specs.Namespaces.{settings_of}
-use Rattle.irs_xml.specs.Values.{Child, is_ours, key_of, named_child, both, element_data, value_from, with_settings}
-use Rattle.irs_xml.specs.Values.{with_children, element_child, children_in, text_inside}
+use Rattle.irs_xml.specs.Tags.{Scope, Setting, first_scope, opening_of, is_declaration, declared_prefix}
+use Rattle.irs_xml.specs.Tags.{is_same_namespace, settings_of}
 use Rattle.serde_json.specs.Data.{Data, string, object, no_members, member}
 use Rattle.irs_emit_xml.specs.Trees.{Node, leaf, branch, Nodes, no_nodes, node, indent, fpml_namespace, is_letter}
 use Rattle.irs_emit_xml.specs.Trees.{is_tag_name, is_unescaped, IsFilled, IsNode, IsNodes, IsRoot, node_name}
-use Rattle.irs_emit_xml.specs.Trees.{node_value}
-use Rattle.irs_emit_xml.specs.Trees.{children_of, written_value}
+use Rattle.irs_emit_xml.specs.Trees.{node_value, children_of, written_value}
 use Rattle.irs_emit_xml.proofs.Rules.{IsHome, home, at_home, home_stays, root_at, both_true}
 use Rattle.irs_emit_xml.proofs.Spelling.{plain_tag, characters, element_of, content_of, namespace_attribute, root_tag}
 use Rattle.irs_emit_xml.proofs.Spelling.{root_of, document_of}

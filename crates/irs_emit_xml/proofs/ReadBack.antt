@@ -8,10 +8,8 @@ use Rattle.std.specs.List.{list_all}
 use Rattle.irs_xml.specs.Characters.{is_char, ends_after, line_ends, without_mark}
 use Rattle.irs_xml.specs.Document.{XmlReads}
 use Rattle.irs_emit_xml.specs.Trees.{Node, leaf, branch, Nodes, no_nodes, node, indent, end_tag_text, node_text}
-use Rattle.irs_emit_xml.specs.Trees.{nodes_text}
-use Rattle.irs_emit_xml.specs.Trees.{declared_text, namespace_text, written_text, is_letter, is_tag_name, is_unescaped}
-use Rattle.irs_emit_xml.specs.Trees.{IsNode}
-use Rattle.irs_emit_xml.specs.Trees.{IsNodes, IsRoot, written_value}
+use Rattle.irs_emit_xml.specs.Trees.{nodes_text, declared_text, namespace_text, written_text, is_letter, is_tag_name}
+use Rattle.irs_emit_xml.specs.Trees.{is_unescaped, IsNode, IsNodes, IsRoot, written_value}
 use Rattle.irs_emit_xml.proofs.Means.{encodes_low, document_means}
 use Rattle.irs_emit_xml.proofs.Rules.{all_then, both_true, true_both, document_is}
 use Rattle.irs_emit_xml.proofs.Spelling.{document_of, document_spelt}

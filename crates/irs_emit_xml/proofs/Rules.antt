@@ -5,14 +5,12 @@ use Rattle.std.proofs.lemmas.Bool.Decides.{nat_tests}
 use Rattle.std.proofs.lemmas.List.{append-nil}
 use Rattle.std.specs.Prelude.{codes}
 use Rattle.std.specs.List.{list_all}
-use Rattle.irs_xml.specs.Characters.{is_white_space}
-use Rattle.irs_xml.specs.Comments.{rest_after}
+use Rattle.irs_xml.specs.Characters.{is_white_space, rest_after, is_name_start, is_name_char, is_nc_name}
 use Rattle.irs_xml.specs.Content.{Content, nothing, character, content_text, is_char_data, IsTagIn, IsElement}
 use Rattle.irs_xml.specs.Content.{IsContent}
 use Rattle.irs_xml.specs.Document.{IsDocument, root_namespace, is_fpml}
-use Rattle.irs_xml.specs.Names.{is_name_start, is_name_char, is_nc_name}
-use Rattle.irs_xml.specs.Namespaces.{Scope, first_scope, opening_of, is_opened, is_declaration, declared_prefix}
-use Rattle.irs_xml.specs.Namespaces.{may_declare, is_lawful, namespace_of, scope_in, settings_of}
+use Rattle.irs_xml.specs.Tags.{Scope, first_scope, opening_of, is_opened, is_declaration, declared_prefix, may_declare}
+use Rattle.irs_xml.specs.Tags.{is_lawful, namespace_of, scope_in, settings_of}
 use Rattle.std.specs.Char.{encode_utf8}
 use Rattle.irs_emit_xml.specs.Trees.{Node, leaf, branch, Nodes, no_nodes, node, indent, fpml_namespace, is_letter}
 use Rattle.irs_emit_xml.specs.Trees.{is_tag_name, is_unescaped, IsNode, IsNodes, IsRoot}

@@ -7,21 +7,19 @@ use Rattle.std.specs.List.{flat_map}
 use Rattle.std.specs.Prelude.{slice_get, unwrap_or, Result}
 use Rattle.irs_base.specs.Days.{IsDay}
 use Rattle.irs_base.specs.Limits.{most_rows}
-use Rattle.irs_base.specs.Members.{Every}
+use Rattle.irs_base.specs.Lists.{Every}
 use Rattle.irs_base.specs.Texts.{day_text, dec_text}
 use Rattle.irs_base.specs.declared.line.Dec.{Dec}
 use Rattle.irs_base.specs.declared.places.Broken.{Broken}
 use Rattle.irs_terms.specs.declared.currency.Currency.{Currency}
 use Rattle.irs_terms.specs.declared.results.Exchange.{Exchange}
-use Rattle.irs_elements.specs.Find.{once, values_in, values_of}
-use Rattle.irs_elements.specs.Words.{is_currency}
+use Rattle.irs_elements.specs.Elements.{once, values_in, values_of}
+use Rattle.irs_elements.specs.Leaves.{is_currency}
 use Rattle.irs_elements.specs.declared.table.Choice.TheVariants.{Free}
 use Rattle.irs_elements.specs.declared.table.Kind.TheVariants.{Object}
 use Rattle.irs_elements.specs.declared.table.Leaf.TheVariants.{Amount, CurrencyName, Date}
 use Rattle.irs_elements.specs.declared.table.Row.{Row}
-use Rattle.irs_json.specs.Carrier.{present}
-use Rattle.irs_json.specs.Names.{element_names}
-use Rattle.irs_json.specs.Values.{items_of as held}
+use Rattle.irs_json.specs.Leaves.{present, element_names, items_of as held}
 use Rattle.irs_read.proofs.TableLaws.{by_tables}
 use Rattle.irs_read.specs.Documents.{the_swap}
 use Rattle.irs_schedule.specs.Parts.{EntriesCover, IsWithin, Part}
@@ -30,12 +28,11 @@ use Rattle.irs_audit.proofs.BoundLemmas.{payments_few}
 use Rattle.irs_flows.proofs.FlowLaws.{flow_code_names, flow_names_are, flow_rows_are}
 use Rattle.irs_audit.proofs.StatedLemmas.{flows_agree}
 use Rattle.irs_flows.specs.FlowFaults.{CashflowsFault, FlowFault, OnceFault, PeriodsFault, FlowStreamFault}
-use Rattle.irs_flows.specs.FlowFaults.{FlowStreamsFault}
-use Rattle.irs_flows.specs.FlowFaults.{FlowSwapFault, below, ended, few, in_stream}
-use Rattle.irs_flows.specs.FlowFaults.{is_sound, many_streams, no_stream, payments_in, periods_in, flow_periods_of}
-use Rattle.irs_flows.specs.FlowLines.{flow_names, flow_rows}
-use Rattle.irs_flows.specs.FlowMeaning.{exchange_in, flows_in, payment_in, period_in, flow_part_in, flow_parts_in}
-use Rattle.irs_flows.specs.FlowParts.{FlowPart}
+use Rattle.irs_flows.specs.FlowFaults.{FlowStreamsFault, FlowSwapFault, below, ended, few, in_stream, is_sound}
+use Rattle.irs_flows.specs.FlowFaults.{many_streams, no_stream, payments_in, periods_in, flow_periods_of, flow_names}
+use Rattle.irs_flows.specs.FlowFaults.{flow_rows}
+use Rattle.irs_flows.specs.FlowReading.{exchange_in, flows_in, payment_in, period_in, flow_part_in, flow_parts_in}
+use Rattle.irs_flows.specs.FlowReading.{FlowPart}
 use Rattle.irs_flows.specs.declared.flow_table.TheConstants.{FLOW_ROWS}
 use Rattle.irs_flows.specs.declared.flows.FlowExchange.{FlowExchange}
 use Rattle.irs_flows.specs.declared.flows.FlowPayment.{FlowPayment}
@@ -47,16 +44,15 @@ use Rattle.irs_emit.proofs.PartsRead.{its_swap, mapped_length, swap_reads}
 use Rattle.irs_emit.proofs.RowsRead.{array_values, from_items}
 use Rattle.irs_emit.proofs.Short.{parts_short}
 use Rattle.irs_emit.specs.Emitted.{array_of, cashflows_value, emit_value, exchange_value, forecast_value}
-use Rattle.irs_emit.specs.Emitted.{known_exchanges, object_with, payment_value, put_known, stream_value}
-use Rattle.irs_emit.specs.Leaves.{amount_leaf, currency_leaf, utf8_or_empty}
-use Rattle.irs_emit.specs.PartLaws.{IsPartShort}
-use Rattle.irs_emit.specs.RowLaws.{IsExchangeShort, IsPaymentShort, IsShortAmount}
+use Rattle.irs_emit.specs.Emitted.{known_exchanges, object_with, payment_value, put_known, stream_value, amount_leaf}
+use Rattle.irs_emit.specs.Emitted.{currency_leaf, utf8_or_empty}
+use Rattle.irs_emit.specs.RowLaws.{IsPartShort, IsExchangeShort, IsPaymentShort, IsShortAmount}
 use Rattle.irs_xml.specs.Document.{XmlReads}
 use Rattle.serde_json.specs.Data.{Data, null, boolean, number, string, array, object, item, no_items, Members}
 use Rattle.serde_json.specs.Data.{no_members, member, put}
 use Rattle.serde_json.specs.View.{items_of}
-use Rattle.irs_emit_xml.specs.Ones.{value_alone, ones}
-use Rattle.irs_emit_xml.specs.StatedInXml.{StatesInXml}
+use Rattle.irs_emit_xml.specs.Trees.{value_alone, ones}
+use Rattle.irs_emit_xml.specs.Flows.{StatesInXml}
 use Rattle.irs_emit_xml.proofs.Carried.{carried_cash, carried_payment, carried_stream, carried_swap, cash}
 use Rattle.irs_emit_xml.proofs.Carried.{emitted_carried, known_alone, paid, periods_paid, periods_same}
 use Rattle.irs_emit_xml.proofs.FlowValues.{paid_begin}

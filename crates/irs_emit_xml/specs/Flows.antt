@@ -1,10 +1,9 @@
--- The cash flows of a schedule as elements of FpML, in the order that FpML's schema has for them. There is an element
--- for
--- each field that is known, and no other.
+-- The cash flows of a schedule as elements of FpML, and what their document states.
 use Rattle.std.specs.Fmt.{signed_decimal}
 use Rattle.std.specs.Prelude.{ℕ, zero, suc, ◌+◌, ◌-◌, ◌^◌, List, [], ◌∷◌, ◌++◌, map, Option, Some, None, ℤ, pos, ◌*ℤ◌}
 use Rattle.std.specs.Prelude.{slice_get, codes}
-use Rattle.irs_base.specs.Rounding.{rounded}
+use Rattle.serde_json.specs.Data.{Data}
+use Rattle.irs_base.specs.Limits.{rounded}
 use Rattle.irs_base.specs.Texts.{day_text, dec_text}
 use Rattle.irs_base.specs.declared.line.Dec.{Dec}
 use Rattle.irs_base.specs.declared.rounding.Direction.TheVariants.{Nearest}
@@ -12,11 +11,19 @@ use Rattle.irs_terms.specs.declared.currency.Currency.{Currency}
 use Rattle.irs_terms.specs.declared.results.Exchange.{Exchange}
 use Rattle.irs_terms.specs.declared.results.Frac.{Frac}
 use Rattle.irs_terms.specs.declared.results.Reset.{Reset}
+use Rattle.irs_xml.specs.Document.{XmlReads}
+use Rattle.irs_flows.specs.FlowReading.{FlowsOf}
 use Rattle.irs_schedule.specs.Parts.{Part}
-use Rattle.irs_schedule.specs.PeriodViews.{period_at}
+use Rattle.irs_schedule.specs.RowsOf.{period_at}
 use Rattle.irs_schedule.specs.declared.entries.PaymentEntry.{PaymentEntry}
 use Rattle.irs_schedule.specs.declared.views.CalculationPeriod.{CalculationPeriod}
+use Rattle.irs_audit.specs.StatedFlows.{stated_flows}
+use Rattle.irs_audit.specs.Verdicts.{IsVerdict, row_count, unfixed_count}
+use Rattle.irs_audit.specs.declared.departures.Verdict.TheVariants.{Yes}
 use Rattle.irs_emit_xml.specs.Trees.{Node, leaf, branch, Nodes, no_nodes, node, written_text}
+
+-- ---- the cash flows of a schedule as elements of FpML, in the order that FpML's schema has for them
+-- There is an element for each field that is known, and no other.
 
 -- elements in this order
 abbrev pub listed_nodes : List Node → Nodes
@@ -177,3 +184,13 @@ stream_nodes s = listed_nodes (map stream_node s)
 -- the document of a schedule: `swap` with its streams
 unfoldable pub flows_text : List Part → List ℕ
 flows_text s = written_text (codes "swap") (stream_nodes s)
+
+-- ---- what the document of a schedule states
+
+-- The bytes mean a value that has no fault of the tables of cash flows. It states exactly the flows that state the
+-- schedule, and the audit of these flows is yes.
+pub record StatesInXml (bytes : List ℕ) (s : List Part) : Type 0 where
+  pub value : Data
+  pub reads : XmlReads bytes value
+  pub flows : FlowsOf value (stated_flows s)
+  pub audit : IsVerdict (stated_flows s) s (Yes (row_count s) (unfixed_count s))

@@ -1,5 +1,3 @@
 pub mod Trees
-pub mod Ones
 pub mod Flows
-pub mod StatedInXml
 pub mod Private

@@ -1,13 +1,11 @@
 //! The document: the streams of a schedule with their cash flows, in FpML's elements.
 ghost use Rattle.std.specs.Prelude.{◌≡◌, ◌++◌, ◌-◌, ◌≤◌, IfOk, OnOk, map};
 ghost use Rattle.irs_emit.specs.Emitted.{emit_value};
-ghost use Rattle.irs_emit.specs.Private.Paid.{IsPaid};
+ghost use Rattle.irs_emit.specs.Private.Texts.{IsPaid};
 ghost use Rattle.irs_emit_xml.specs.Flows.{cashflows_node, exchange_node, flows_text, one_period_nodes, payment_node};
+ghost use Rattle.irs_emit_xml.specs.Flows.{period_nodes, stream_node, StatesInXml};
 ghost use Rattle.irs_emit_xml.specs.Private.Flows.{lines};
-ghost use Rattle.irs_emit_xml.specs.Flows.{period_nodes, stream_node};
-ghost use Rattle.irs_emit_xml.specs.Ones.{ones};
-ghost use Rattle.irs_emit_xml.specs.StatedInXml.{StatesInXml};
-ghost use Rattle.irs_emit_xml.specs.Trees.{node_text};
+ghost use Rattle.irs_emit_xml.specs.Trees.{ones, node_text};
 ghost use Rattle.irs_xml.specs.Document.{XmlReads};
 
 use crate::leaves::day;

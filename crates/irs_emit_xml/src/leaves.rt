@@ -6,7 +6,7 @@ ghost use Rattle.irs_emit_xml.specs.Flows.{amount_node, count_node, currency_nod
 ghost use Rattle.irs_emit_xml.specs.Flows.{notional_node, number_node, rate_node};
 ghost use Rattle.irs_emit_xml.specs.Private.Flows.{lines};
 ghost use Rattle.irs_emit_xml.specs.Trees.{node_text};
-ghost use Rattle.irs_schedule.specs.RowTexts.{IsFew};
+ghost use Rattle.irs_schedule.specs.RowsOf.{IsFew};
 
 use crate::writer::leaf;
 use irs_base::{Day, Dec, Direction, Line, Memory, day_digits, round};

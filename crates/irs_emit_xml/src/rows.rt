@@ -3,10 +3,10 @@
 ghost use Rattle.std.specs.Prelude.{◌≡◌, ◌++◌, ◌≤◌, ◌<ℤ◌, IfSome, OnOk, option_map, pos};
 ghost use Rattle.irs_base.specs.Texts.{most_places};
 ghost use Rattle.irs_emit_xml.specs.Flows.{definition_node, exchange_node, forecast_node, observation_node};
-ghost use Rattle.irs_emit_xml.specs.Private.Flows.{lines};
 ghost use Rattle.irs_emit_xml.specs.Flows.{front_content, period_node, rate_content};
+ghost use Rattle.irs_emit_xml.specs.Private.Flows.{lines};
 ghost use Rattle.irs_emit_xml.specs.Trees.{node_text};
-ghost use Rattle.irs_schedule.specs.RowTexts.{IsFew};
+ghost use Rattle.irs_schedule.specs.RowsOf.{IsFew};
 
 use crate::leaves::{amount, count, currency, day, fraction, known_amount, known_rate, notional};
 use crate::writer::{close_tag, open_tag};

@@ -3,7 +3,7 @@
 //! page docs/LIBRARY.md goes through it step by step.
 #![tactic(auto)]
 
-ghost use Rattle.irs_schedule.specs.RowTexts.{RowHasPlaces};
+ghost use Rattle.irs_schedule.specs.RowsOf.{RowHasPlaces};
 
 use anyhow::{Context, Result, bail};
 use irs_audit::{Verdict, audit};

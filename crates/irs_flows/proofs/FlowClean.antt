@@ -1,19 +1,16 @@
 -- In a document without faults no stream has too many calculation periods.
 use Rattle.irs_flows.proofs.FlowRules.{of_flows, told}
 use Rattle.irs_flows.specs.FlowFaults.{FlowFault, OnceFault, FlowStreamFault, FlowStreamsFault, FlowSwapFault}
-use Rattle.irs_flows.specs.FlowFaults.{flow_broken_at}
-use Rattle.irs_flows.specs.FlowFaults.{below, in_stream}
-use Rattle.irs_flows.specs.FlowFaults.{many_periods, many_streams, payments_in, flow_periods_of}
+use Rattle.irs_flows.specs.FlowFaults.{flow_broken_at, below, in_stream, many_periods, many_streams, payments_in}
+use Rattle.irs_flows.specs.FlowFaults.{flow_periods_of}
 use Rattle.irs_flows.specs.Private.FlowMeaning.{AllHaveFewPeriods, HasFewPeriods}
 use Rattle.irs_flows.specs.FlowReading.{IsFirstFlowFault, shape_kind_of}
 use Rattle.irs_flows.specs.declared.error.FlowErr.TheVariants.{Shape}
 use Rattle.irs_base.specs.Elements.{cashflows, flow_period, swap_stream}
 use Rattle.irs_base.specs.declared.places.Broken.{Broken}
 use Rattle.irs_base.specs.declared.places.Rule.TheVariants.{K7}
-use Rattle.irs_elements.specs.Find.{once, values_in, values_of}
-use Rattle.irs_json.specs.Carrier.{child_of}
-use Rattle.irs_json.specs.Names.{element_names}
-use Rattle.irs_json.specs.Values.{items_of}
+use Rattle.irs_elements.specs.Elements.{once, values_in, values_of}
+use Rattle.irs_json.specs.Leaves.{child_of, element_names, items_of}
 use Rattle.irs_read.proofs.Clean.{le_or_lt}
 use Rattle.irs_read.specs.Documents.{the_swap}
 use Rattle.irs_base.specs.Limits.{most_rows, most_streams}
@@ -24,7 +21,7 @@ use Rattle.std.proofs.Common.{◌≡◌, inl, inr, ℕ, ◌+◌, ◌<◌, ◌≤
 use Rattle.std.proofs.Common.{option_and_then, option_map, map, slice_get, is_some, codes, refl, sym, ap, ◌∙◌, subst}
 use Rattle.std.proofs.Common.{arith}
 use Rattle.std.proofs.lemmas.Option.{slice_get_within, slice_get-map}
-use Rattle.irs_base.specs.Order.{IsFirstBroken}
+use Rattle.irs_base.specs.Outcomes.{IsFirstBroken}
 
 -- only an object has elements
 object_alone : (name : List ℕ) (d : Data) → 0 < length (values_in name (Some d)) → is_some (element_names d) ≡ true

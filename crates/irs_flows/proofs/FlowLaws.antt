@@ -1,8 +1,8 @@
 -- The code's tables of cash flows are those of the specification.
-use Rattle.irs_flows.specs.FlowLines.{flow_elements, flow_names, flow_rows, flow_table, period_elements, period_names}
-use Rattle.irs_flows.specs.FlowLines.{period_table_rows, period_table}
+use Rattle.irs_flows.specs.FlowFaults.{flow_elements, flow_names, flow_rows, flow_table, period_elements, period_names}
+use Rattle.irs_flows.specs.FlowFaults.{period_table_rows, period_table}
 use Rattle.irs_flows.specs.declared.flow_table.TheConstants.{FLOW_NAMES, FLOW_ROWS, PERIOD_NAMES, PERIOD_ROWS}
-use Rattle.irs_base.specs.PathList.{paths, printed_paths}
+use Rattle.irs_base.specs.Paths.{paths, printed_paths}
 use Rattle.irs_base.specs.declared.places.Broken.{Broken}
 use Rattle.irs_elements.specs.Elements.{FaultAt}
 use Rattle.irs_elements.specs.Lines.{Line}
@@ -10,7 +10,7 @@ use Rattle.irs_elements.specs.declared.table.Kind.{Kind}
 use Rattle.irs_read.proofs.TableLaws.{by_tables}
 use Rattle.serde_json.specs.Data.{Data}
 use Rattle.std.proofs.Common.{◌≡◌, ℕ, List, map, Option, refl}
-use Rattle.irs_base.specs.Order.{IsFirstBroken}
+use Rattle.irs_base.specs.Outcomes.{IsFirstBroken}
 
 -- the names as the code has them
 abbrev pub flow_code_names : List (List ℕ)

@@ -1,14 +1,10 @@
 -- Reading cash flows has one outcome: a document states one list of flows, or one fault is its first.
 use Rattle.std.proofs.Common.{◌≡◌, List, Option, Some, None, Ok, Err, refl, sym, ap, ◌∙◌}
 use Rattle.irs_flows.specs.FlowFaults.{FlowFault, ended}
-use Rattle.irs_flows.specs.FlowMeaning.{flow_parts_in}
-use Rattle.irs_flows.specs.FlowOutcomes.{flows_of_document}
-use Rattle.irs_flows.specs.FlowParts.{FlowPart}
-use Rattle.irs_flows.specs.FlowReading.{FlowsOf}
+use Rattle.irs_flows.specs.FlowReading.{flow_parts_in, flows_of_document, FlowPart, FlowsOf}
 use Rattle.irs_base.proofs.FaultOrder.{broken_ties}
 use Rattle.irs_base.proofs.Firsts.{one_first}
-use Rattle.irs_base.specs.Order.{IsFirstBroken, is_before}
-use Rattle.irs_base.specs.Outcomes.{Determined, answered, refused}
+use Rattle.irs_base.specs.Outcomes.{IsFirstBroken, is_before, Determined, answered, refused}
 use Rattle.irs_base.specs.declared.places.Broken.{Broken}
 use Rattle.irs_read.specs.Documents.{Way, the_swap}
 use Rattle.serde_json.specs.Data.{Data}

@@ -1,10 +1,8 @@
 -- Every fault of cash flows is a rule of the tables of elements.
 use Rattle.irs_flows.specs.FlowFaults.{CashflowsFault, FlowFault, OnceFault, OwnFault, PeriodFault, PeriodsFault}
 use Rattle.irs_flows.specs.FlowFaults.{FlowStreamFault, FlowStreamsFault, FlowSwapFault, flow_broken_at, below, ended}
-use Rattle.irs_flows.specs.FlowFaults.{in_period}
-use Rattle.irs_flows.specs.FlowFaults.{in_stream}
-use Rattle.irs_flows.specs.FlowFaults.{many_periods, many_streams, no_stream, payments_in, flow_periods_of}
-use Rattle.irs_flows.specs.FlowLines.{flow_names, flow_rows, period_names, period_table_rows}
+use Rattle.irs_flows.specs.FlowFaults.{in_period, in_stream, many_periods, many_streams, no_stream, payments_in}
+use Rattle.irs_flows.specs.FlowFaults.{flow_periods_of, flow_names, flow_rows, period_names, period_table_rows}
 use Rattle.irs_flows.specs.FlowReading.{shape_kind_of}
 use Rattle.irs_flows.specs.declared.flow_table.TheConstants.{FLOWS, PERIOD}
 use Rattle.irs_flows.specs.declared.error.ShapeKind.TheVariants.{Count, NotJson}
@@ -13,12 +11,11 @@ use Rattle.irs_base.specs.declared.places.Broken.{Broken}
 use Rattle.irs_base.specs.declared.places.Rule.{Rule}
 use Rattle.irs_base.specs.declared.places.Rule.TheVariants.{K2, K3, K4, K5, K6, K7}
 use Rattle.irs_elements.proofs.TableRules.{of_table}
-use Rattle.irs_elements.specs.Private.Elements.{IsOfTables}
-use Rattle.irs_elements.specs.Find.{values_in}
-use Rattle.irs_json.specs.Names.{element_names}
+use Rattle.irs_elements.specs.Private.Walk.{IsOfTables}
+use Rattle.irs_elements.specs.Elements.{values_in}
+use Rattle.irs_json.specs.Leaves.{element_names}
 use Rattle.irs_read.specs.Documents.{Way, by_root, document_below, has, one_object, one_swap, onward, swap_below}
-use Rattle.irs_read.specs.Documents.{the_swap, trade_below}
-use Rattle.irs_read.specs.Swaps.{outside}
+use Rattle.irs_read.specs.Documents.{the_swap, trade_below, outside}
 use Rattle.serde_json.specs.Data.{Data}
 use Rattle.std.proofs.Common.{◌≡◌, ◌≢◌, inl, inr, ℕ, ◌+◌, codes, Bool, true, false, List, [], ◌∷◌, Some, Ok, Err}
 use Rattle.std.proofs.Common.{is_some, if◌then◌else◌, refl, sym, subst}

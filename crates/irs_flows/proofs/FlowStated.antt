@@ -1,20 +1,18 @@
 -- In a document of cash flows without faults nothing is passed over.
 use Rattle.irs_flows.proofs.FlowClean.{once_is}
 use Rattle.irs_flows.specs.FlowFaults.{FlowFault, OnceFault, OwnFault, FlowStreamFault, FlowSwapFault, flow_broken_at}
-use Rattle.irs_flows.specs.FlowFaults.{below}
-use Rattle.irs_flows.specs.FlowFaults.{in_period}
-use Rattle.irs_flows.specs.FlowFaults.{in_stream, many_periods, many_streams, payments_in, flow_periods_of}
-use Rattle.irs_flows.specs.FlowLines.{flow_names, flow_rows, period_names, period_table_rows}
-use Rattle.irs_flows.specs.FlowsStated.{AreStated, EachFlowStated}
+use Rattle.irs_flows.specs.FlowFaults.{below, in_period, in_stream, many_periods, many_streams, payments_in}
+use Rattle.irs_flows.specs.FlowFaults.{flow_periods_of, flow_names, flow_rows, period_names, period_table_rows}
+use Rattle.irs_flows.specs.FlowFaults.{AreStated, EachFlowStated}
 use Rattle.irs_base.specs.Elements.{cashflows, flow_period, swap, swap_stream}
 use Rattle.irs_base.specs.Limits.{most_rows, most_streams}
 use Rattle.irs_base.specs.declared.places.Broken.{Broken}
 use Rattle.irs_base.specs.declared.places.Rule.TheVariants.{K2, K3, K7}
-use Rattle.irs_elements.specs.Find.{once, values_in}
-use Rattle.irs_json.specs.Names.{element_names}
+use Rattle.irs_elements.specs.Elements.{once, values_in}
+use Rattle.irs_json.specs.Leaves.{element_names}
 use Rattle.irs_read.proofs.Clean.{le_or_lt}
 use Rattle.irs_read.proofs.StatedTables.{stated}
-use Rattle.irs_read.specs.Stated.{IsStated}
+use Rattle.irs_read.specs.Documents.{IsStated}
 use Rattle.serde_json.specs.Data.{Data}
 use Rattle.std.proofs.Common.{◌≡◌, inl, inr, ℕ, ◌+◌, ◌≤◌, Bool, true, false, List, [], ◌∷◌, length, Some, slice_get}
 use Rattle.std.proofs.Common.{is_some, codes, refl, ◌∙◌, arith}

@@ -1,19 +1,16 @@
 -- The first fault at each step of the reading of cash flows.
 use Rattle.irs_flows.specs.FlowFaults.{FaultIf, FlowFault, OnceFault, OwnFault, PeriodFault, PeriodsFault, PeriodsFrom}
 use Rattle.irs_flows.specs.FlowFaults.{FlowStreamFault, FlowStreamsFault, FlowSwapFault, flow_broken_at, below, ended}
-use Rattle.irs_flows.specs.FlowFaults.{few}
-use Rattle.irs_flows.specs.FlowFaults.{in_period}
-use Rattle.irs_flows.specs.FlowFaults.{in_stream, is_sound, many_periods, many_streams, no_stream, periods_in}
-use Rattle.irs_flows.specs.FlowFaults.{flow_periods_of}
+use Rattle.irs_flows.specs.FlowFaults.{few, in_period, in_stream, is_sound, many_periods, many_streams, no_stream}
+use Rattle.irs_flows.specs.FlowFaults.{periods_in, flow_periods_of}
 use Rattle.irs_base.specs.Elements.{cashflows, flow_period, swap_stream}
 use Rattle.irs_base.specs.declared.places.Broken.{Broken}
 use Rattle.irs_base.specs.declared.places.Rule.TheVariants.{K2, K3, K7}
 use Rattle.irs_elements.proofs.First.{first_is, first_one, first_or, first_same}
 use Rattle.irs_elements.proofs.Steps.{first_if}
-use Rattle.irs_elements.specs.Private.Elements.{fault_if}
-use Rattle.irs_json.specs.Names.{element_names}
-use Rattle.irs_read.specs.Documents.{the_swap}
-use Rattle.irs_read.specs.Swaps.{Among}
+use Rattle.irs_elements.specs.Private.Walk.{fault_if}
+use Rattle.irs_json.specs.Leaves.{element_names}
+use Rattle.irs_read.specs.Documents.{the_swap, Among}
 use Rattle.irs_base.specs.Limits.{most_rows, most_streams}
 use Rattle.serde_json.specs.Data.{Data}
 use Rattle.serde_json.specs.View.{view}
@@ -27,7 +24,7 @@ use Rattle.std.proofs.lemmas.Grind.{flat_map-append}
 use Rattle.std.proofs.lemmas.List.{append-nil, length-append, length-map, map-append, take-append-drop, take_more}
 use Rattle.std.proofs.lemmas.Option.{slice_get_within}
 use Rattle.std.specs.Prelude.{slice_get, is_some, not}
-use Rattle.irs_base.specs.Order.{IsFirstBroken, earlier_broken}
+use Rattle.irs_base.specs.Outcomes.{IsFirstBroken, earlier_broken}
 
 -- ---- one fault, where a test is true
 

@@ -5,16 +5,14 @@ use Rattle.std.specs.Prelude.{ℕ, option_and_then, sum_by, codes}
 use Rattle.std.proofs.lemmas.List.{length-append, length-map}
 use Rattle.std.proofs.lemmas.List.Sums.{sum_by-cons}
 use Rattle.irs_base.specs.Days.{IsDay}
-use Rattle.irs_base.specs.Members.{Every}
+use Rattle.irs_base.specs.Lists.{Every}
 use Rattle.irs_elements.proofs.DatesAt.{day_range}
-use Rattle.irs_elements.specs.Dates.{leaf_date_at}
-use Rattle.irs_elements.specs.Find.{once, leaf_text_in, values_in}
+use Rattle.irs_elements.specs.Leaves.{leaf_date_at}
+use Rattle.irs_elements.specs.Elements.{once, leaf_text_in, values_in}
 use Rattle.irs_read.specs.Readings.{said}
-use Rattle.irs_flows.specs.FlowBounds.{FlowsAreWithin, KeepsFlowBounds}
+use Rattle.irs_flows.specs.FlowReading.{FlowsAreWithin, KeepsFlowBounds, exchange_in, flows_in, payment_in, period_in}
+use Rattle.irs_flows.specs.FlowReading.{flow_part_in, flow_parts_in, FlowPart, FlowsOf}
 use Rattle.irs_flows.specs.FlowFaults.{payments_in, periods_in, flow_periods_of}
-use Rattle.irs_flows.specs.FlowMeaning.{exchange_in, flows_in, payment_in, period_in, flow_part_in, flow_parts_in}
-use Rattle.irs_flows.specs.FlowParts.{FlowPart}
-use Rattle.irs_flows.specs.FlowReading.{FlowsOf}
 use Rattle.irs_flows.specs.declared.flows.FlowExchange.{FlowExchange}
 use Rattle.irs_flows.specs.declared.flows.FlowPayment.{FlowPayment}
 use Rattle.irs_flows.specs.declared.flows.FlowPeriod.{FlowPeriod}

@@ -1,22 +1,112 @@
--- The faults of a document of cash flows.
-use Rattle.irs_flows.specs.FlowLines.{flow_names, flow_rows, period_names, period_table_rows}
+-- The elements of cash flows, and the faults of a document of them.
+use Rattle.std.specs.Prelude.{ℕ, ◌+◌, ◌-◌, List, [], ◌∷◌, drop, take, ◌≡◌, ◌⊎◌, ◌<◌, ◌≤◌, nat_le, Bool, true, not, ◌&&◌}
+use Rattle.std.specs.Prelude.{length, Option, Some, None, is_some, option_and_then, codes, Ok, Err, if◌then◌else◌}
+use Rattle.std.specs.Prelude.{slice_get}
+use Rattle.serde_json.specs.Data.{Data}
+use Rattle.std.specs.List.{flat_map}
 use Rattle.irs_base.specs.Elements.{cashflows, flow_period, swap, swap_stream}
+use Rattle.irs_base.specs.Limits.{most_rows, most_streams}
+use Rattle.irs_base.specs.Paths.{printed_paths}
 use Rattle.irs_base.specs.declared.places.Broken.{Broken}
 use Rattle.irs_base.specs.declared.places.Rule.{Rule}
 use Rattle.irs_base.specs.declared.places.Rule.TheVariants.{K2, K3, K7}
-use Rattle.irs_elements.specs.Elements.{FaultAt, has_odd}
-use Rattle.irs_elements.specs.Find.{values_in}
+use Rattle.irs_json.specs.Leaves.{child_of, element_names}
+use Rattle.irs_elements.specs.Lines.{Table, others_at, leaf, line, line_below, table_names, object, table_rows}
+use Rattle.irs_elements.specs.declared.table.Count.TheVariants.{Maybe, UpTo}
+use Rattle.irs_elements.specs.declared.table.Leaf.TheVariants.{Amount, CurrencyName, Date, Fraction, Whole}
+use Rattle.irs_elements.specs.declared.table.Row.{Row}
+use Rattle.irs_elements.specs.Elements.{FaultAt, has_odd, values_in, once}
 use Rattle.irs_elements.specs.declared.table.Choice.TheVariants.{Free}
 use Rattle.irs_elements.specs.declared.table.Kind.TheVariants.{Object}
-use Rattle.irs_json.specs.Carrier.{child_of}
-use Rattle.irs_json.specs.Names.{element_names}
-use Rattle.irs_read.specs.Documents.{the_swap}
-use Rattle.irs_read.specs.Swaps.{Among}
-use Rattle.irs_base.specs.Limits.{most_rows, most_streams}
-use Rattle.serde_json.specs.Data.{Data}
-use Rattle.std.specs.List.{flat_map}
-use Rattle.std.specs.Prelude.{◌≡◌, ◌⊎◌, ℕ, ◌+◌, ◌<◌, ◌≤◌, nat_le, Bool, true, not, ◌&&◌, List, [], ◌∷◌, length, Option}
-use Rattle.std.specs.Prelude.{Some, None, is_some, option_and_then, codes, Ok, Err, if◌then◌else◌}
+use Rattle.irs_read.specs.Documents.{the_swap, Among, IsStated}
+
+-- ---- the elements of cash flows (FpML's `cashflows` of an InterestRateStream), line by line: the path, what is there,
+-- and how often
+-- Which elements are in the profile, their counts and their order are our rule.
+
+-- the table of `cashflows`; its calculation periods are passed over here, each is looked into with its
+-- number in the stream
+unfoldable pub flow_table : Table
+flow_table = record {
+  whole = "cashflows";
+  top = "";
+  lines =
+      line "principalExchange" object (UpTo most_rows)
+      ∷ line "principalExchange/unadjustedPrincipalExchangeDate" (leaf Date) Maybe
+      ∷ line "principalExchange/adjustedPrincipalExchangeDate" (leaf Date) Maybe
+      ∷ line "principalExchange/principalExchangeAmount" (leaf Amount) Maybe
+      ∷ line "paymentCalculationPeriod" object (UpTo most_rows)
+      ∷ line "paymentCalculationPeriod/unadjustedPaymentDate" (leaf Date) Maybe
+      ∷ line "paymentCalculationPeriod/adjustedPaymentDate" (leaf Date) Maybe
+      ∷ line "paymentCalculationPeriod/forecastPaymentAmount" object Maybe
+      ∷ line "paymentCalculationPeriod/forecastPaymentAmount/currency" (leaf CurrencyName) Maybe
+      ∷ line "paymentCalculationPeriod/forecastPaymentAmount/amount" (leaf Amount) Maybe
+      ∷ [];
+  passed =
+      others_at "" ("cashflowsMatchParameters" ∷ [])
+      ∷ others_at "principalExchange" ("discountFactor" ∷ "presentValuePrincipalExchangeAmount" ∷ [])
+      ∷ others_at "paymentCalculationPeriod" ("discountFactor" ∷ "presentValueAmount" ∷ "calculationPeriod" ∷ [])
+      ∷ [];
+  refused = others_at "paymentCalculationPeriod" ("fixedPaymentAmount" ∷ []) ∷ [];
+}
+
+-- the table of a calculation period
+unfoldable pub period_table : Table
+period_table = record {
+  whole = "calculationPeriod";
+  top = "calculationPeriod";
+  lines =
+      line "calculationPeriod/unadjustedStartDate" (leaf Date) Maybe
+      ∷ line "calculationPeriod/unadjustedEndDate" (leaf Date) Maybe
+      ∷ line "calculationPeriod/adjustedStartDate" (leaf Date) Maybe
+      ∷ line "calculationPeriod/adjustedEndDate" (leaf Date) Maybe
+      ∷ line "calculationPeriod/calculationPeriodNumberOfDays" (leaf Whole) Maybe
+      ∷ line "calculationPeriod/notionalAmount" (leaf Amount) Maybe
+      ∷ line "calculationPeriod/fixedRate" (leaf Amount) Maybe
+      ∷ line "calculationPeriod/dayCountYearFraction" (leaf Fraction) Maybe
+      ∷ line "calculationPeriod/floatingRateDefinition" object Maybe
+      ∷ line "calculationPeriod/floatingRateDefinition/calculatedRate" (leaf Amount) Maybe
+      ∷ line_below "calculationPeriod/floatingRateDefinition" "rateObservation" object Maybe
+      ∷ line "rateObservation/resetDate" (leaf Date) Maybe
+      ∷ line "rateObservation/adjustedFixingDate" (leaf Date) Maybe
+      ∷ line "rateObservation/observedRate" (leaf Amount) Maybe
+      ∷ [];
+  passed =
+      others_at "calculationPeriod" ("forecastAmount" ∷ "forecastRate" ∷ [])
+      ∷ others_at "calculationPeriod/floatingRateDefinition" ("floatingRateMultiplier" ∷ "spread" ∷ [])
+      ∷ others_at "rateObservation" ("treatedRate" ∷ "observationWeight" ∷ "forecastRate" ∷ [])
+      ∷ [];
+  refused =
+      others_at "calculationPeriod" ("fxLinkedNotionalAmount" ∷ [])
+      ∷ others_at "calculationPeriod/floatingRateDefinition" ("capRate" ∷ "floorRate" ∷ [])
+      ∷ [];
+}
+
+-- the elements of `cashflows` in the table of paths, and those of a calculation period after them
+unfoldable pub flow_elements : List (List ℕ)
+flow_elements = take (flow_period - (cashflows + 1)) (drop (cashflows + 1) printed_paths)
+
+-- the elements below a calculation period
+unfoldable pub period_elements : List (List ℕ)
+period_elements = drop (flow_period + 1) printed_paths
+
+-- the rows that the lines of `cashflows` give
+unfoldable pub flow_rows : List Row
+flow_rows = table_rows printed_paths flow_table
+
+-- the names that the lines of `cashflows` give
+unfoldable pub flow_names : List (List ℕ)
+flow_names = table_names flow_table
+
+-- the rows that the lines of a calculation period give
+unfoldable pub period_table_rows : List Row
+period_table_rows = table_rows printed_paths period_table
+
+-- the names that the lines of a calculation period give
+unfoldable pub period_names : List (List ℕ)
+period_names = table_names period_table
+
+-- ---- the faults of a document of cash flows
 
 -- a rule that is broken in a stream, or outside the streams, at an element without index
 abbrev pub flow_broken_at : ℕ → Rule → ℕ → Broken
@@ -129,3 +219,19 @@ pub data FlowFault (d : Data) : Broken → Type 0 where
   ended : (f : Broken) → the_swap d ≡ Err f → FlowFault d f
   -- the swap has the fault
   below : (s : Data) (f : Broken) → the_swap d ≡ Ok s → FlowSwapFault s f → FlowFault d f
+
+-- ---- nothing is passed over in the cash flows of a document
+-- What must occur does, and each leaf that occurs has a value of its kind. So a field of what is read is absent exactly
+-- where its leaf is.
+
+-- nothing is passed over in a `cashflows`, nor in any calculation period of its payments
+pub record AreStated (flows : Data) : Type 0 where
+  pub rows : IsStated flow_rows flow_names flows
+  pub periods : (j : ℕ) (period : Data) → slice_get (flow_periods_of (payments_in (Some flows))) j ≡ Some period
+      → IsStated period_table_rows period_names period
+
+-- each stream of a document has one `cashflows`, in which nothing is passed over
+abbrev pub EachFlowStated : Data → Type 0
+EachFlowStated d = (swap : Data) → the_swap d ≡ Ok swap → (j : ℕ) (stream : Data)
+    → slice_get (values_in (codes "swapStream") (Some swap)) j ≡ Some stream
+    → (flows : Data) × (once (codes "cashflows") stream ≡ Some flows) × AreStated flows

@@ -1,9 +1,3 @@
-pub mod FlowParts
-pub mod FlowBounds
-pub mod FlowLines
-pub mod FlowFaults
-pub mod FlowMeaning
 pub mod FlowReading
-pub mod FlowOutcomes
-pub mod FlowsStated
+pub mod FlowFaults
 pub mod Private

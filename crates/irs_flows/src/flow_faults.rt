@@ -5,20 +5,18 @@
 //! The carrier, the table and the order of faults are our rule.
 ghost use Rattle.irs_flows.specs.FlowFaults.{CashflowsFault, FlowFault, OnceFault, OwnFault, PeriodFault, PeriodsFault};
 ghost use Rattle.irs_flows.specs.FlowFaults.{PeriodsFrom, FlowStreamFault, FlowStreamsFault, FlowSwapFault};
-ghost use Rattle.irs_flows.specs.FlowFaults.{flow_broken_at as at_of};
-ghost use Rattle.irs_flows.specs.FlowFaults.{has_both_rates as has_both_rates_of};
+ghost use Rattle.irs_flows.specs.FlowFaults.{flow_broken_at as at_of, has_both_rates as has_both_rates_of};
 ghost use Rattle.irs_flows.specs.FlowFaults.{has_calculated_rate as has_calculated_rate_of, is_sound as is_sound_of};
 ghost use Rattle.irs_flows.specs.FlowFaults.{payments_in, flow_periods_of, sole as sole_of};
 ghost use Rattle.irs_base.specs.Elements.{flow_period};
-ghost use Rattle.irs_elements.specs.Elements.{is_odd as is_odd_of};
-ghost use Rattle.irs_elements.specs.Private.Elements.{fault_if};
-ghost use Rattle.irs_elements.specs.Find.{seen};
-ghost use Rattle.irs_json.specs.Carrier.{child_of};
-ghost use Rattle.irs_read.specs.Swaps.{Among};
+ghost use Rattle.irs_elements.specs.Elements.{is_odd as is_odd_of, seen};
+ghost use Rattle.irs_elements.specs.Private.Walk.{fault_if};
+ghost use Rattle.irs_json.specs.Leaves.{child_of};
+ghost use Rattle.irs_read.specs.Documents.{Among};
 ghost use Rattle.irs_base.specs.Limits.{most_rows, most_streams};
 ghost use Rattle.serde_json.specs.View.{view};
 ghost use Rattle.std.specs.Prelude.{◌≡◌, ◌+◌, ◌<◌, ◌^◌, ◌≤◌, length, map, nat_le};
-ghost use Rattle.irs_base.specs.Order.{IsFirstBroken};
+ghost use Rattle.irs_base.specs.Outcomes.{IsFirstBroken};
 
 use crate::flow_table::{
     FLOW_ENDS, FLOW_NAMES, FLOW_ROWS, FLOWS, PERIOD, PERIOD_ENDS, PERIOD_NAMES, PERIOD_ROWS,

@@ -1,10 +1,8 @@
 //! The values of the leaves of cash flows; `None` where a leaf is absent or has no value.
-ghost use Rattle.irs_flows.specs.FlowMeaning.{stated};
-ghost use Rattle.irs_elements.specs.Dates.{leaf_date_at};
-ghost use Rattle.irs_elements.specs.Find.{seen};
-ghost use Rattle.irs_elements.specs.Fractions.{fraction_at};
-ghost use Rattle.irs_elements.specs.Numbers.{amount_at, whole_at};
-ghost use Rattle.irs_elements.specs.Words.{currency_at};
+ghost use Rattle.irs_flows.specs.FlowReading.{stated};
+ghost use Rattle.irs_elements.specs.Leaves.{leaf_date_at, currency_at};
+ghost use Rattle.irs_elements.specs.Elements.{seen};
+ghost use Rattle.irs_elements.specs.Numbers.{fraction_at, amount_at, whole_at};
 ghost use Rattle.irs_read.specs.Readings.{said};
 ghost use Rattle.std.specs.Prelude.{◌≡◌, option_map};
 

@@ -1,14 +1,12 @@
 //! Reading cash flows: the flows that a document states, or its first fault.
-ghost use Rattle.irs_elements.specs.Private.Elements.{IsOfTables};
-ghost use Rattle.irs_elements.specs.Find.{values_in};
-ghost use Rattle.irs_flows.specs.FlowBounds.{FlowsAreWithin};
-ghost use Rattle.irs_flows.specs.FlowOutcomes.{HidesNone, flows_of_document};
+ghost use Rattle.irs_elements.specs.Private.Walk.{IsOfTables};
+ghost use Rattle.irs_elements.specs.Elements.{values_in};
+ghost use Rattle.irs_flows.specs.FlowReading.{FlowsAreWithin, HidesNone, flows_of_document, flow_part_in};
+ghost use Rattle.irs_flows.specs.FlowReading.{flow_parts_in, FlowPart, FlowsOf, IsFirstFlowFault};
+ghost use Rattle.irs_flows.specs.FlowReading.{shape_kind_of as kind_by};
 ghost use Rattle.irs_base.specs.Outcomes.{Determined};
-ghost use Rattle.irs_flows.specs.FlowMeaning.{flow_part_in, flow_parts_in};
 ghost use Rattle.irs_flows.specs.Private.FlowMeaning.{AllHaveFewPeriods};
-ghost use Rattle.irs_flows.specs.FlowParts.{FlowPart};
-ghost use Rattle.irs_flows.specs.FlowReading.{FlowsOf, IsFirstFlowFault, shape_kind_of as kind_by};
-ghost use Rattle.irs_flows.specs.FlowsStated.{EachFlowStated};
+ghost use Rattle.irs_flows.specs.FlowFaults.{EachFlowStated};
 ghost use Rattle.irs_flows.specs.declared.error.FlowErr.TheVariants.{Shape};
 ghost use Rattle.serde_json.specs.Data.{Data};
 ghost use Rattle.serde_json.specs.View.{view};

@@ -1,11 +1,11 @@
 //! The rows of cash flows: exchanges, payments with their calculation periods, and resets.
 ghost use Rattle.irs_flows.specs.FlowFaults.{payments_in, periods_in, flow_periods_of};
 ghost use Rattle.irs_base.specs.Limits.{most_rows};
-ghost use Rattle.irs_flows.specs.FlowMeaning.{exchange_in, flows_in, payment_in, period_in, period_from};
+ghost use Rattle.irs_flows.specs.FlowReading.{exchange_in, flows_in, payment_in, period_in, period_from, reset_at};
+ghost use Rattle.irs_flows.specs.FlowReading.{flow_reset_in, flow_part_in};
 ghost use Rattle.irs_flows.specs.Private.FlowMeaning.{HasFewPeriods};
-ghost use Rattle.irs_flows.specs.FlowMeaning.{reset_at, flow_reset_in, flow_part_in};
 ghost use Rattle.irs_elements.specs.Codes.{first_there};
-ghost use Rattle.irs_elements.specs.Find.{seen};
+ghost use Rattle.irs_elements.specs.Elements.{seen};
 ghost use Rattle.serde_json.specs.View.{view};
 ghost use Rattle.std.specs.Prelude.{◌≡◌, ◌≤◌, IfOk, length, map};
 

@@ -4,10 +4,10 @@
 //! the calculation periods are passed over. They are counted through all payments of the stream,
 //! and each is looked into with that number. The order of the rows, the counts, and which elements
 //! are in the profile, are our rule.
-ghost use Rattle.irs_flows.specs.FlowLines.{flow_elements, flow_names, flow_rows, flow_table, period_elements};
-ghost use Rattle.irs_flows.specs.FlowLines.{period_names, period_table_rows, period_table};
+ghost use Rattle.irs_flows.specs.FlowFaults.{flow_elements, flow_names, flow_rows, flow_table, period_elements};
+ghost use Rattle.irs_flows.specs.FlowFaults.{period_names, period_table_rows, period_table};
 ghost use Rattle.irs_elements.specs.Lines.{Line};
-ghost use Rattle.irs_read.specs.Tables.{is_whole_table};
+ghost use Rattle.irs_read.specs.Documents.{is_whole_table};
 ghost use Rattle.std.specs.Prelude.{◌≡◌, drop, map, true};
 
 use irs_base::MOST_ROWS;

@@ -1,6 +1,6 @@
 //! Cash flows as a document states them (FpML 5, `cashflows` of an InterestRateStream). Each field is
 //! there where it is stated.
-ghost use Rattle.irs_flows.specs.FlowParts.{FlowPart};
+ghost use Rattle.irs_flows.specs.FlowReading.{FlowPart};
 ghost use Rattle.std.specs.Prelude.{◌≡◌, List};
 
 use irs_base::Day;

@@ -13,8 +13,7 @@ use Rattle.serde_json.specs.Data.{Data, null, boolean, number, string, array, ob
 use Rattle.serde_json.specs.Find.{get_member}
 use Rattle.serde_json.specs.View.{view, members_view}
 use Rattle.serde_json.proofs.Views.{Entry, member_here, member_later}
-use Rattle.irs_json.specs.Carrier.{present}
-use Rattle.irs_json.specs.Names.{member_names}
+use Rattle.irs_json.specs.Leaves.{present, member_names}
 
 -- a first member counts as absent and has no name there, or it is present and has the first name
 abbrev Stands : List ℕ → Data → Members → Type 0

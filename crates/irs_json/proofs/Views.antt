@@ -4,8 +4,7 @@ use Rattle.serde_json.specs.Data.{Data, array}
 use Rattle.serde_json.specs.View.{view, items_view, items_of as items_from}
 use Rattle.serde_json.specs.declared.value.Value.{Value, Array}
 use Rattle.serde_json.proofs.Views.{view-Array}
-use Rattle.irs_json.specs.Carrier.{present}
-use Rattle.irs_json.specs.Values.{list_of, items_of}
+use Rattle.irs_json.specs.Leaves.{present, list_of, items_of}
 
 list_of-items_from : (ds : List Data) → list_of (items_from ds) ≡ ds
 list_of-items_from [] = refl

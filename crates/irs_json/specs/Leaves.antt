@@ -1,12 +1,90 @@
--- What a leaf says.
-use Rattle.irs_json.specs.Carrier.{child_of}
-use Rattle.irs_json.specs.Names.{element_names}
-use Rattle.irs_json.specs.Trim.{trim}
-use Rattle.serde_json.specs.Data.{Num, unsigned, negative, float, Data, null, boolean, number, string, array, object}
+-- Elements in JSON: how an object carries them, and what a leaf says.
+use Rattle.std.specs.Prelude.{ℕ, Bool, ◌||◌, ◌==◌, List, [], ◌∷◌, reverse, if◌then◌else◌, Option, Some, None}
+use Rattle.std.specs.Prelude.{option_and_then, ℤ, pos, false, codes}
+use Rattle.serde_json.specs.Data.{Data, null, boolean, number, string, array, object, no_items, item, Members}
+use Rattle.serde_json.specs.Data.{no_members, member, Items, Num, unsigned, negative, float}
+use Rattle.serde_json.specs.Find.{get}
 use Rattle.std.specs.List.{list_all}
-use Rattle.std.specs.Prelude.{ℕ, ℤ, pos, Bool, false, ◌||◌, ◌==◌, List, [], ◌∷◌, Option, Some, None, option_and_then}
-use Rattle.std.specs.Prelude.{if◌then◌else◌, codes}
 use Rattle.std.specs.Str.{bytes_eq}
+use Rattle.serde_json.specs.declared.value.Value.{Value}
+use Rattle.irs_json.specs.declared.leaves.LeafValue.{LeafValue}
+use Rattle.irs_json.specs.declared.leaves.LeafValue.TheVariants.{Word, Whole, Truth}
+use Rattle.irs_json.specs.declared.values.ItemIter.{ItemIter}
+
+-- ---- text without the white space at its ends: space, tab, LF, CR
+
+-- space, tab, LF or CR
+abbrev pub is_white_space : ℕ → Bool
+is_white_space x = x == 32 || x == 9 || x == 10 || x == 13
+
+-- the text after the white space at its front
+abbrev pub trim_front : List ℕ → List ℕ
+trim_front [] = []
+trim_front (x ∷ xs) = if is_white_space x then trim_front xs else x ∷ xs
+
+-- the text before the white space at its end
+abbrev pub trim_back : List ℕ → List ℕ
+trim_back xs = reverse (trim_front (reverse xs))
+
+-- the text without white space at its ends
+abbrev pub trim : List ℕ → List ℕ
+trim xs = trim_back (trim_front xs)
+
+-- ---- the names of the elements that an object holds
+
+-- the names of the members that don't count as absent, in their order in the object
+abbrev pub member_names : Members → List (List ℕ)
+member_names no_members = []
+member_names (member k null ms) = member_names ms
+member_names (member k (array no_items) ms) = member_names ms
+member_names (member k (array (item d ds)) ms) = k ∷ member_names ms
+member_names (member k (boolean b) ms) = k ∷ member_names ms
+member_names (member k (number n) ms) = k ∷ member_names ms
+member_names (member k (string s) ms) = k ∷ member_names ms
+member_names (member k (object ds) ms) = k ∷ member_names ms
+
+-- the names of an object's elements; no other value has elements
+abbrev pub element_names : Data → Option (List (List ℕ))
+element_names null = None
+element_names (boolean b) = None
+element_names (number n) = None
+element_names (string s) = None
+element_names (array ds) = None
+element_names (object ms) = Some (member_names ms)
+
+-- ---- an element as it appears in a JSON object
+
+-- null and the empty array count as absent, and every other value is itself
+abbrev pub present : Data → Option Data
+present null = None
+present (array no_items) = None
+present (array (item d ds)) = Some (array (item d ds))
+present (boolean b) = Some (boolean b)
+present (number n) = Some (number n)
+present (string s) = Some (string s)
+present (object ms) = Some (object ms)
+
+-- the element of that name: the member, unless it counts as absent; only an object has any
+abbrev pub child_of : List ℕ → Data → Option Data
+child_of name d = option_and_then present (get name d)
+
+-- ---- the values of a repeated element
+
+-- an array's items, in order
+abbrev pub list_of : Items → List Data
+list_of no_items = []
+list_of (item d ds) = d ∷ list_of ds
+
+-- the values of a repeated element: an array's items, or the value itself if it is not an array
+abbrev pub items_of : Data → List Data
+items_of null = null ∷ []
+items_of (boolean b) = boolean b ∷ []
+items_of (number n) = number n ∷ []
+items_of (string s) = string s ∷ []
+items_of (array ds) = list_of ds
+items_of (object ms) = object ms ∷ []
+
+-- ---- what a leaf says
 
 -- a text, a whole number or a truth value
 pub data Leaf : Type 0 where
@@ -48,3 +126,15 @@ leaf_among (Some names) d =
 -- `#text` says
 abbrev pub leaf_of : Data → Option Leaf
 leaf_of d = leaf_among (element_names d) d
+
+-- ---- the mathematical values that the types of this crate have
+
+-- the leaf that a `LeafValue` is
+abbrev pub leaf_seen : LeafValue → Leaf
+leaf_seen (Word s) = word s.now
+leaf_seen (Whole z) = whole z
+leaf_seen (Truth b) = truth b
+
+-- the remaining values of an `ItemIter`
+abbrev pub items_left : ItemIter → List Value
+items_left s = s.left.now

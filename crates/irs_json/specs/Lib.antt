@@ -1,9 +1,3 @@
 pub mod Reading
-pub mod Places
-pub mod Carrier
-pub mod Values
-pub mod Names
-pub mod Trim
 pub mod Leaves
-pub mod Seen
 pub mod Private

@@ -1,6 +1,6 @@
 //! An element is a member of a JSON object. A member that is null or an empty array counts as
 //! absent.
-ghost use Rattle.irs_json.specs.Carrier.{child_of, present as present_of};
+ghost use Rattle.irs_json.specs.Leaves.{child_of, present as present_of};
 ghost use Rattle.serde_json.specs.View.{view};
 ghost use Rattle.std.specs.Prelude.{◌≡◌, option_map};
 

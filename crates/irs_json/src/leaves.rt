@@ -1,8 +1,7 @@
 //! A leaf is a string, a whole number or a truth value. An object whose member `#text` is one of
 //! these, and whose other members are attributes, is a leaf too. White space at both ends of a leaf
 //! is dropped.
-ghost use Rattle.irs_json.specs.Leaves.{bare_leaf, is_attribute_name, is_beside, leaf_of};
-ghost use Rattle.irs_json.specs.Seen.{leaf_seen};
+ghost use Rattle.irs_json.specs.Leaves.{bare_leaf, is_attribute_name, is_beside, leaf_of, leaf_seen};
 ghost use Rattle.serde_json.specs.View.{view};
 ghost use Rattle.std.specs.List.{list_all};
 ghost use Rattle.std.specs.Prelude.{◌≡◌, option_map};

@@ -1,6 +1,5 @@
 //! The names of the elements that an object holds.
-ghost use Rattle.irs_json.specs.Carrier.{child_of};
-ghost use Rattle.irs_json.specs.Names.{member_names, element_names};
+ghost use Rattle.irs_json.specs.Leaves.{child_of, member_names, element_names};
 ghost use Rattle.serde_json.specs.View.{members_view, view};
 ghost use Rattle.std.specs.Cmp.Lexicographic.{slice_cmp};
 ghost use Rattle.std.specs.Iterator.{YieldsFirstRef, item_count};

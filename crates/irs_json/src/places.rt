@@ -1,5 +1,5 @@
 //! Lines and columns of a text, from 1.
-ghost use Rattle.irs_json.specs.Places.{LiesIn, place_after};
+ghost use Rattle.irs_json.specs.Reading.{LiesIn, place_after};
 ghost use Rattle.std.specs.Prelude.{◌≡◌, ◌^◌, ◌-◌, ◌<◌, length};
 
 /// The line and the column of what comes after the first `at` bytes of the text, or of its end.

@@ -1,6 +1,5 @@
 //! The value that a JSON text spells (RFC 8259, as `serde_json` reads it).
-ghost use Rattle.irs_json.specs.Places.{LiesIn, PlaceIn, ReadsNone};
-ghost use Rattle.irs_json.specs.Reading.{Reads};
+ghost use Rattle.irs_json.specs.Reading.{LiesIn, PlaceIn, ReadsNone, Reads};
 ghost use Rattle.serde_json.specs.View.{view};
 ghost use Rattle.std.specs.Prelude.{◌^◌, ◌-◌, ◌<◌, IfErr, IfOk, length};
 

@@ -1,8 +1,7 @@
 //! Text without the white space at its ends: space, tab, LF and CR, and no other byte.
 ghost use Rattle.std.specs.Prelude.{◌≡◌, ◌++◌, ◌∷◌, [], ℕ, true, MatchOption, option_map};
-ghost use Rattle.irs_json.specs.Trim.{is_white_space};
+ghost use Rattle.irs_json.specs.Leaves.{is_white_space, trim_front, trim_back, trim as trim_of};
 ghost use Rattle.irs_json.specs.Private.Trim.{NoSpaceFirst, NoSpaceLast, is_past_space as is_past_space_of};
-ghost use Rattle.irs_json.specs.Trim.{trim_front, trim_back, trim as trim_of};
 
 // The text after a first byte of white space.
 fn after_space(text: &str) -> Option<&str>

@@ -1,6 +1,5 @@
 //! A repeated element is an array of values, or a single value.
-ghost use Rattle.irs_json.specs.Seen.{items_left};
-ghost use Rattle.irs_json.specs.Values.{items_of};
+ghost use Rattle.irs_json.specs.Leaves.{items_left, items_of};
 ghost use Rattle.serde_json.specs.View.{view};
 ghost use Rattle.std.specs.Iterator.{YieldsFirstRef, item_count};
 ghost use Rattle.std.specs.Prelude.{◌≡◌, map};

@@ -3,9 +3,8 @@ use Rattle.std.proofs.Common.{◌≡◌, ℕ, zero, suc, ◌+◌, ◌-◌, List,
 use Rattle.std.proofs.Common.{Some, None, refl, sym, ap, subst, arith, ◌∙◌}
 use Rattle.std.specs.Prelude.{slice_get}
 use Rattle.std.proofs.lemmas.Option.{same_Some}
-use Rattle.irs_elements.specs.Find.{values_in}
-use Rattle.irs_locate.specs.Members.{LiesAt, below, here}
-use Rattle.irs_locate.specs.Ways.{WayStep}
+use Rattle.irs_elements.specs.Elements.{values_in}
+use Rattle.irs_locate.specs.Ways.{LiesAt, below, here, WayStep}
 use Rattle.serde_json.specs.Data.{Data}
 
 -- what is left of a list begins with its next item

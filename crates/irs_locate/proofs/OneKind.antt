@@ -4,8 +4,7 @@ use Rattle.std.specs.Prelude.{option_and_then, slice_get}
 use Rattle.irs_elements.specs.declared.table.Leaf.{Leaf as LeafKind}
 use Rattle.irs_elements.specs.declared.table.Row.{Row}
 use Rattle.irs_locate.proofs.OneRow.{one_row}
-use Rattle.irs_locate.specs.Kinds.{IsLeafKindOf, leaf_in}
-use Rattle.irs_locate.specs.Members.{IsRowOf, table_of}
+use Rattle.irs_locate.specs.Ways.{IsLeafKindOf, leaf_in, IsRowOf, table_of}
 
 -- the kind of leaf at a row
 abbrev pub leaf_at : List Row → ℕ → Option LeafKind

@@ -1,13 +1,12 @@
 -- The member that K4 or K5 means is one.
 use Rattle.std.proofs.Common.{◌≡◌, ℕ, List, Some, sym, ap, ◌∙◌}
 use Rattle.std.proofs.lemmas.Option.{same_Some}
-use Rattle.irs_base.specs.Rules.{rule_number}
+use Rattle.irs_base.specs.Outcomes.{rule_number}
 use Rattle.irs_base.specs.declared.places.Broken.{Broken}
-use Rattle.irs_json.specs.Names.{element_names}
+use Rattle.irs_json.specs.Leaves.{element_names}
 use Rattle.irs_locate.proofs.Lies.{one_value}
 use Rattle.irs_locate.proofs.OneRow.{one_row}
-use Rattle.irs_locate.specs.Members.{HasOneMember, IsBrokenMember, IsRowOf, IsValueAt, first_odd, root_in, table_of}
-use Rattle.irs_locate.specs.Ways.{way}
+use Rattle.irs_locate.specs.Ways.{HasOneMember, IsBrokenMember, IsRowOf, IsValueAt, first_odd, root_in, table_of, way}
 use Rattle.serde_json.specs.Data.{Data}
 
 -- the member's name is the first that breaks the rule among those of the one object at the place

@@ -6,11 +6,11 @@ use Rattle.std.proofs.lemmas.Bool.Decides.{nat_tests}
 use Rattle.std.proofs.lemmas.Option.{same_Some}
 use Rattle.irs_base.proofs.Orders.{both_true}
 use Rattle.irs_base.specs.Elements.{swap}
-use Rattle.irs_base.specs.PathList.{paths, printed_paths}
+use Rattle.irs_base.specs.Paths.{paths, printed_paths}
 use Rattle.irs_elements.specs.Elements.{is_element}
 use Rattle.irs_elements.specs.declared.table.Row.{Row}
-use Rattle.irs_locate.specs.Members.{IsRowOf, Known, is_row_of, table_of}
-use Rattle.irs_read.specs.StreamLines.{stream_names, stream_rows, stream_table, swap_names, swap_rows, swap_table}
+use Rattle.irs_locate.specs.Ways.{IsRowOf, Known, is_row_of, table_of}
+use Rattle.irs_read.specs.Documents.{stream_names, stream_rows, stream_table, swap_names, swap_rows, swap_table}
 
 -- whether the places of the rows of elements rise, from above a place
 abbrev rises : ℕ → List Row → Bool

@@ -8,7 +8,7 @@ use Rattle.std.specs.Str.{bytes_eq}
 use Rattle.irs_elements.proofs.KnownNames.{Test}
 use Rattle.irs_elements.specs.Elements.{is_refused, name_at}
 use Rattle.irs_elements.specs.declared.table.Row.{Row}
-use Rattle.irs_locate.specs.Members.{IsRowOf, is_row_of}
+use Rattle.irs_locate.specs.Ways.{IsRowOf, is_row_of}
 
 -- whether a row below the object at row r has the name, and is out of the profile
 abbrev pub IsOutAt : List (List ℕ) → ℕ → List ℕ → Test

@@ -2,7 +2,7 @@
 use Rattle.std.proofs.Common.{◌≡◌, ℕ, suc, ◌+◌, ◌<◌, false, List, ◌∷◌, length, drop, option_map, Option, Some, None}
 use Rattle.std.proofs.Common.{get_or, refl, sym, ap, arith, ◌∙◌, drop-cons, nat_eq}
 use Rattle.std.specs.List.{starts_with}
-use Rattle.irs_locate.specs.Markup.{past}
+use Rattle.irs_locate.specs.Lines.{past}
 use Rattle.irs_locate.specs.Ways.{step_below}
 use Rattle.std.proofs.lemmas.Option.{slice_get-map}
 use Rattle.std.specs.Prelude.{map, slice_get}

@@ -10,11 +10,10 @@ use Rattle.std.proofs.lemmas.Option.{same_Some}
 use Rattle.std.proofs.lemmas.Str.{IsUtf8-from_ascii}
 use Rattle.irs_base.proofs.Orders.{both_true}
 use Rattle.irs_base.specs.Elements.{document, name_or_empty, swap, swap_stream}
-use Rattle.irs_base.specs.PathList.{paths, printed_paths}
-use Rattle.irs_base.specs.Paths.{path_of}
+use Rattle.irs_base.specs.Paths.{paths, printed_paths, path_of}
 use Rattle.irs_base.specs.declared.places.Place.{Place}
-use Rattle.irs_locate.specs.Members.{root_in}
-use Rattle.irs_locate.specs.Ways.{WayStep, below_swap, names_on_way, once, step_below, stream_step, to_swap, way}
+use Rattle.irs_locate.specs.Ways.{root_in, WayStep, below_swap, names_on_way, once, step_below, stream_step, to_swap}
+use Rattle.irs_locate.specs.Ways.{way}
 use Rattle.irs_read.specs.Documents.{has}
 use Rattle.serde_json.specs.Data.{Data}
 

@@ -1,3 +1,2 @@
-pub mod Ways
 pub mod Lines
 pub mod Seen

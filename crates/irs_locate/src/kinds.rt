@@ -1,7 +1,7 @@
 //! The kind of leaf that the table of elements has for an element, and the kind of value that lies at a place.
 ghost use Rattle.irs_elements.specs.declared.table.Leaf.{Leaf as LeafKind};
 ghost use Rattle.irs_elements.specs.declared.table.Row.{Row as TableRow};
-ghost use Rattle.irs_locate.specs.Kinds.{IsLeafKindOf, IsShapeAt, leaf_in as leaf_in_kind, shape_in};
+ghost use Rattle.irs_locate.specs.Ways.{IsLeafKindOf, IsShapeAt, leaf_in as leaf_in_kind, shape_in};
 ghost use Rattle.irs_locate.specs.declared.kinds.Shape.{Shape as ShapeOfValue};
 ghost use Rattle.serde_json.specs.View.{view};
 ghost use Rattle.std.specs.Prelude.{◌≡◌, IfSome, Some, option_and_then, slice_get};

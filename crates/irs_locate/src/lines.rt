@@ -2,9 +2,8 @@
 //!
 //! The text is read once, from its front, piece by piece. What lies on the way to the element is entered,
 //! and every other element is passed over whole.
-ghost use Rattle.irs_locate.specs.Lines.{HasNone, IsLast, IsLineOf, Open};
+ghost use Rattle.irs_locate.specs.Lines.{HasNone, IsLast, IsLineOf, Open, line_after as line_after_of};
 ghost use Rattle.irs_locate.specs.Private.Lines.{IsRootTag, PassesOver};
-ghost use Rattle.irs_locate.specs.Lines.{line_after as line_after_of};
 ghost use Rattle.irs_locate.specs.Private.Seen.{step_seen};
 ghost use Rattle.irs_locate.specs.Ways.{way};
 ghost use Rattle.std.specs.Prelude.{◌≡◌, ◌<◌, ◌≤◌, IfNone, IfSome, Some, false, length, slice_get};

@@ -1,10 +1,8 @@
 //! The pieces of a text in XML: its tags, what is passed over, and plain bytes. Any bytes can be read so.
-ghost use Rattle.irs_locate.specs.Markup.{ends_name as ends_name_of, first_name as first_name_of};
-ghost use Rattle.irs_locate.specs.Markup.{is_quote as is_quote_of};
-ghost use Rattle.irs_locate.specs.Markup.{local_name as local_name_of, mark_of, markup_of, past as past_of};
-ghost use Rattle.irs_locate.specs.Markup.{past_all as past_all_of};
-ghost use Rattle.irs_locate.specs.Markup.{piece_by as piece_by_of, piece_of, quote_after as quote_after_of};
-ghost use Rattle.irs_locate.specs.Markup.{tag_end as tag_end_of, tag_piece};
+ghost use Rattle.irs_locate.specs.Lines.{ends_name as ends_name_of, first_name as first_name_of};
+ghost use Rattle.irs_locate.specs.Lines.{is_quote as is_quote_of, local_name as local_name_of, mark_of, markup_of};
+ghost use Rattle.irs_locate.specs.Lines.{past as past_of, past_all as past_all_of, piece_by as piece_by_of, piece_of};
+ghost use Rattle.irs_locate.specs.Lines.{quote_after as quote_after_of, tag_end as tag_end_of, tag_piece};
 ghost use Rattle.irs_locate.specs.Private.Seen.{mark_seen, piece_seen};
 ghost use Rattle.std.specs.Prelude.{◌≡◌, ◌+◌, ◌<◌, ◌≤◌, IfSome, drop, length, option_map};
 ghost use Rattle.std.specs.Str.{bytes_eq};
@@ -180,7 +178,7 @@ fn piece_by(mark: Mark<'_>, size: Option<usize>) -> Option<Piece<'_>>
 }
 
 // The markup that a text begins with, from its `<` on. `None` where it doesn't end.
-#[tactic(auto, unfolding(crate::specs::Markup::markup_of))]
+#[tactic(auto, unfolding(crate::specs::Lines::markup_of))]
 fn markup(text: &[u8]) -> Option<Piece<'_>>
     requires { 0 < length text.now }
     ensures is { option_map piece_seen result ≡ markup_of text.now }
@@ -203,7 +201,7 @@ fn markup(text: &[u8]) -> Option<Piece<'_>>
 }
 
 // The piece that a text begins with. `None` where there is no text, or where markup doesn't end.
-#[tactic(auto, unfolding(crate::specs::Markup::piece_of))]
+#[tactic(auto, unfolding(crate::specs::Lines::piece_of))]
 fn first_piece(text: &[u8]) -> Option<Piece<'_>>
     ensures is { option_map piece_seen result ≡ piece_of text.now }
     ensures some { IfSome result (λ p. 0 < p.size) }

@@ -1,13 +1,12 @@
 //! The name of the member by which an object breaks K4 or K5.
-ghost use Rattle.irs_base.specs.Rules.{rule_number};
+ghost use Rattle.irs_base.specs.Outcomes.{rule_number};
 ghost use Rattle.irs_base.specs.declared.places.Broken.{Broken as BrokenRule};
 ghost use Rattle.irs_elements.specs.Elements.{is_element as is_element_of, is_known as is_known_in};
-ghost use Rattle.irs_elements.specs.Elements.{is_refused as is_refused_of};
-ghost use Rattle.irs_elements.specs.Elements.{is_unknown, name_at, referenced_texts};
-ghost use Rattle.irs_elements.specs.Find.{seen, values_in};
-ghost use Rattle.irs_locate.specs.Members.{HasOneMember, IsMemberOf, IsRowOf, IsValueAt, first_odd as first_odd_of};
-ghost use Rattle.irs_locate.specs.Members.{is_out as is_out_of, is_row_of as is_row_of_elem, root_in};
-ghost use Rattle.irs_locate.specs.Members.{table_of as table_of_elem};
+ghost use Rattle.irs_elements.specs.Elements.{is_refused as is_refused_of, is_unknown, name_at, referenced_texts, seen};
+ghost use Rattle.irs_elements.specs.Elements.{values_in};
+ghost use Rattle.irs_locate.specs.Ways.{HasOneMember, IsMemberOf, IsRowOf, IsValueAt, first_odd as first_odd_of};
+ghost use Rattle.irs_locate.specs.Ways.{is_out as is_out_of, is_row_of as is_row_of_elem, root_in};
+ghost use Rattle.irs_locate.specs.Ways.{table_of as table_of_elem};
 ghost use Rattle.irs_locate.specs.Private.Seen.{known_seen};
 ghost use Rattle.irs_read.specs.Documents.{has as has_of};
 ghost use Rattle.serde_json.specs.Data.{Data};
@@ -37,7 +36,7 @@ pub(crate) struct Known {
 }
 
 /// The table that has the members of the element: that of the swap, or of a stream.
-#[tactic(auto, unfolding(crate::specs::Members::table_of))]
+#[tactic(auto, unfolding(crate::specs::Ways::table_of))]
 pub(crate) fn table_of(elem: Elem) -> Known
     ensures { known_seen result ≡ table_of_elem elem }
 {
@@ -166,7 +165,7 @@ fn first_out<'a>(table: Known, r: usize, mut listed: MemberIter<'a>) -> Option<&
 }
 
 // The first name that breaks the rule in an object at row r.
-#[tactic(auto, unfolding(crate::specs::Members::first_odd))]
+#[tactic(auto, unfolding(crate::specs::Ways::first_odd))]
 fn first_odd<'a>(rule: Rule, table: Known, r: usize, listed: MemberIter<'a>) -> Option<&'a str>
     ensures { option_map (λ n. n.now) result ≡ first_odd_of (rule_number rule) (known_seen table) r listed.entry }
 {

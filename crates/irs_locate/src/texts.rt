@@ -1,5 +1,5 @@
 //! The text of the leaf at a place.
-ghost use Rattle.irs_locate.specs.Texts.{IsTextOf};
+ghost use Rattle.irs_locate.specs.Ways.{IsTextOf};
 ghost use Rattle.serde_json.specs.View.{view};
 ghost use Rattle.std.specs.Prelude.{◌≡◌, ℕ, IfSome, List, Some, option_map};
 

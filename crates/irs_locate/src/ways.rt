@@ -1,10 +1,9 @@
 //! The way from the root of a document to the element at a place, a step for each element on it.
 ghost use Rattle.irs_locate.specs.Ways.{below_swap as below_swap_of, from_one as from_one_of};
 ghost use Rattle.irs_locate.specs.Ways.{is_repeated as is_repeated_of, first_in, names_on_way, once as once_of};
-ghost use Rattle.irs_locate.specs.Ways.{step_below as step_below_of};
-ghost use Rattle.irs_locate.specs.Private.Ways.{IsRestOf};
-ghost use Rattle.irs_locate.specs.Ways.{stream_step as stream_step_of};
+ghost use Rattle.irs_locate.specs.Ways.{step_below as step_below_of, stream_step as stream_step_of};
 ghost use Rattle.irs_locate.specs.Ways.{to_swap as to_swap_of, way};
+ghost use Rattle.irs_locate.specs.Private.Lines.{IsRestOf};
 ghost use Rattle.irs_base.specs.Paths.{path_of};
 ghost use Rattle.irs_locate.specs.Private.Seen.{step_seen};
 ghost use Rattle.std.specs.Prelude.{◌≡◌, ◌<◌, IfSome, length, map, option_map, slice_get};

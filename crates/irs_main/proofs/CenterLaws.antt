@@ -5,10 +5,10 @@ use Rattle.std.proofs.lemmas.Bool.{and_parts}
 use Rattle.std.specs.Prelude.{◌&&◌, nat_le, nat_lt, decimal}
 use Rattle.irs_base.proofs.EveryLemmas.{every_both}
 use Rattle.irs_base.proofs.VisibleTexts.{spells_decimal}
-use Rattle.irs_base.specs.Decimals.{AreDigits}
-use Rattle.irs_base.specs.Members.{Every}
-use Rattle.irs_main.specs.Centers.{count_text, name_after, names_text, other_name, names_after_first, more_text}
-use Rattle.irs_main.specs.Visible.{IsVisible, dots, most_shown, shown_front}
+use Rattle.irs_base.specs.Texts.{AreDigits}
+use Rattle.irs_base.specs.Lists.{Every}
+use Rattle.irs_main.specs.Shown.{count_text, name_after, names_text, other_name, names_after_first, more_text}
+use Rattle.irs_main.specs.Shown.{IsVisible, dots, most_shown, shown_front}
 use Rattle.irs_main.proofs.VisibleLaws.{bytes_visible}
 
 -- ---- texts of the program

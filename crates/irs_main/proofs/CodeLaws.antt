@@ -25,7 +25,7 @@ use Rattle.irs_elements.specs.Codes.{among, day_roll_at, first_there, named_roll
 use Rattle.irs_elements.specs.Leaves.{has_value}
 use Rattle.irs_elements.specs.declared.table.Leaf.{Leaf as LeafKind}
 use Rattle.irs_elements.specs.declared.table.Leaf.TheVariants as leaf
-use Rattle.irs_main.specs.Values.{leaf_codes, rolls, value_words}
+use Rattle.irs_main.specs.Elements.{leaf_codes, rolls, value_words}
 
 first_or : {A : Type 0} (b : Bool) (a : A) (o : Option A) → is_some (if b then Some a else o) ≡ (b || is_some o)
 first_or true a o = refl

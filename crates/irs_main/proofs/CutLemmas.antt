@@ -1,7 +1,7 @@
 -- How many bytes come before the first one of a value.
 use Rattle.std.proofs.Common.{◌≡◌, ℕ, zero, suc, ◌<◌, ◌==◌, true, false, List, [], ◌∷◌, length, get_or, arith, refl, ap}
 use Rattle.std.proofs.Common.{◌+◌, ◌∙◌}
-use Rattle.irs_main.specs.Cuts.{length_before}
+use Rattle.irs_main.specs.Shown.{length_before}
 
 is_same : (a b : ℕ) → a ≡ b → (a == b) ≡ true
 is_same a b h = grind arith

@@ -10,7 +10,7 @@ use Rattle.irs_base.proofs.TextLemmas.{of_two_digits}
 use Rattle.irs_elements.specs.Codes.{day_number_at, day_roll_at, is_first_digit}
 use Rattle.irs_terms.specs.declared.codes.RollCode.{RollCode}
 use Rattle.irs_terms.specs.declared.codes.RollCode.TheVariants.{Dom}
-use Rattle.irs_main.specs.DayRolls.{IsDayRoll}
+use Rattle.irs_main.specs.Elements.{IsDayRoll}
 
 first_range : (a : ℕ) → is_first_digit a ≡ true → (49 ≤ a) × (a ≤ 57)
 first_range a e = (grind (arith, nat_tests), grind (arith, nat_tests))

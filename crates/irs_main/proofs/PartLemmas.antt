@@ -2,8 +2,8 @@
 use Rattle.std.proofs.Common.{◌≡◌, ℕ, zero, suc, List, [], ◌∷◌, ◌++◌, drop, refl, sym, ap, ◌∙◌}
 use Rattle.std.proofs.Common.{append_assoc}
 use Rattle.std.proofs.lemmas.List.{append-nil}
-use Rattle.irs_base.specs.Members.{Every}
-use Rattle.irs_main.specs.Parts.{joined_texts}
+use Rattle.irs_base.specs.Lists.{Every}
+use Rattle.irs_main.specs.Shown.{joined_texts}
 use Rattle.irs_main.specs.Private.Parts.{part_text, said_by}
 use Rattle.irs_main.specs.declared.parts.Part.{Part}
 

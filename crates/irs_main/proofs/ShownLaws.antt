@@ -6,7 +6,7 @@ use Rattle.std.proofs.lemmas.Bool.{cases_lt}
 use Rattle.std.proofs.lemmas.List.{append-nil}
 use Rattle.std.proofs.lemmas.Str.{inside_one}
 use Rattle.irs_base.proofs.EveryLemmas.{every_both}
-use Rattle.irs_base.specs.Members.{Every}
+use Rattle.irs_base.specs.Lists.{Every}
 use Rattle.std.specs.Str.{chars}
 use Rattle.irs_main.specs.Shown.{hex_digit, is_control, shown, shown_char, turns_text, two_hex_digits, IsPrinted}
 

@@ -13,13 +13,11 @@ use Rattle.irs_cli.specs.declared.causes.RunCause.{RunCause}
 use Rattle.irs_cli.specs.declared.causes.RunCause.TheVariants as cause
 use Rattle.irs_resets.specs.declared.fixings.FixErr.TheVariants as fixing
 use Rattle.irs_main.specs.Notes.{is_silent_reply, noted}
-use Rattle.irs_main.specs.Parts.{joined_texts}
+use Rattle.irs_main.specs.Shown.{joined_texts}
 use Rattle.irs_main.specs.Sentences.{is_silent, refused_by, replied, sentence_of}
-use Rattle.irs_main.specs.Usage.{commands, usage_of}
-use Rattle.irs_main.specs.Words.{command, word_at}
-use Rattle.irs_main.specs.WrongWords.{field_at, helped, is_help, is_help_command, is_lacking}
-use Rattle.irs_main.specs.WrongWords.{lacking, misfit, most_told}
-use Rattle.irs_main.specs.WrongWords.{most_words, nearest, unknown, unlisted, unlisted_as}
+use Rattle.irs_main.specs.WrongWords.{commands, usage_of, command, word_at, field_at, helped, is_help, is_help_command}
+use Rattle.irs_main.specs.WrongWords.{is_lacking, lacking, misfit, most_told, most_words, nearest, unknown, unlisted}
+use Rattle.irs_main.specs.WrongWords.{unlisted_as}
 
 -- a text has a byte
 abbrev pub HasByte : List ℕ → Type 0

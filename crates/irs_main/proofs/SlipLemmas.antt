@@ -5,7 +5,7 @@ use Rattle.std.specs.Str.{bytes_eq}
 use Rattle.std.proofs.lemmas.Slice.Eq.{bytes_eq-Decides}
 use Rattle.std.proofs.lemmas.Bool.Decides.{Decides-eqb}
 use Rattle.irs_base.proofs.Orders.{both_true}
-use Rattle.irs_main.specs.Slips.{Exchanges, IsSlip, LacksOneLetter, Replaces, is_exchanged, is_slip, is_slip_here}
+use Rattle.irs_main.specs.WrongWords.{Exchanges, IsSlip, LacksOneLetter, Replaces, is_exchanged, is_slip, is_slip_here}
 
 -- equal texts are found equal
 same : (xs : List ℕ) → bytes_eq xs xs ≡ true

@@ -1,6 +1,6 @@
 -- The code's lists are those of the specification.
 use Rattle.irs_main.specs.Rules.{rows, texts_after, texts_before}
-use Rattle.irs_main.specs.Usage.{commands, parameter_lines}
+use Rattle.irs_main.specs.WrongWords.{commands, parameter_lines}
 use Rattle.irs_main.specs.declared.help.TheConstants.{COMMANDS}
 use Rattle.irs_main.specs.declared.usage.TheConstants.{PARAMETERS}
 use Rattle.irs_main.specs.declared.table.TheConstants.{AFTER, BEFORE}

@@ -5,7 +5,7 @@ use Rattle.irs_outside.specs.Outside.{Grew, GrewByFront}
 use Rattle.irs_main.specs.Sentences.{is_silent, sentence_of}
 use Rattle.irs_main.proofs.PieceLemmas.{grew_nothing, through_all}
 use Rattle.irs_cli.proofs.PutLemmas.{Through, first_part, through_last, through_last_part, through_more, through_part}
-use Rattle.irs_cli.specs.Causes.{run_status}
+use Rattle.irs_cli.specs.Run.{run_status}
 use Rattle.irs_cli.specs.declared.causes.RunCause.{RunCause}
 use Rattle.irs_main.specs.Answering.{Explained, explanation_of, ended_lines, listing_of}
 use Rattle.irs_main.specs.Private.Answering.{SaysNoWord}

@@ -2,9 +2,8 @@
 use Rattle.std.proofs.Common.{◌≡◌, ℕ, ◌<◌, ◌/◌, ◌%◌, Bool, true, false, List, []}
 use Rattle.std.proofs.Common.{◌∷◌, ◌++◌, codes, refl, arith, if◌then◌else◌}
 use Rattle.irs_base.proofs.EveryLemmas.{every_both}
-use Rattle.irs_base.specs.Members.{Every}
-use Rattle.irs_main.specs.Shown.{hex_digit, two_hex_digits}
-use Rattle.irs_main.specs.Visible.{IsVisible, is_shown_as_it_is, shown_byte, shown_bytes}
+use Rattle.irs_base.specs.Lists.{Every}
+use Rattle.irs_main.specs.Shown.{hex_digit, two_hex_digits, IsVisible, is_shown_as_it_is, shown_byte, shown_bytes}
 
 digit_visible : (n : ℕ) → n < 16 → IsVisible (hex_digit n)
 digit_visible n small = grind arith

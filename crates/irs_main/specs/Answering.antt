@@ -3,9 +3,8 @@ use Rattle.std.specs.Prelude.{◌≡◌, ◌⊎◌, ℕ, ◌==◌, List, [], ◌
 use Rattle.std.specs.Prelude.{if◌then◌else◌}
 use Rattle.std.specs.Str.{bytes_eq}
 use Rattle.irs_outside.specs.Outside.{Grew, GrewByFront, Rose}
-use Rattle.irs_cli.specs.Causes.{IsCauseOfWritten, run_status}
+use Rattle.irs_cli.specs.Run.{IsCauseOfWritten, run_status, Ran, Source, Written}
 use Rattle.irs_cli.specs.Commands.{Words}
-use Rattle.irs_cli.specs.Run.{Ran, Source, Written}
 use Rattle.irs_cli.specs.declared.causes.RunCause.{RunCause}
 use Rattle.irs_main.specs.Sentences.{is_silent, sentence_of}
 

@@ -23,9 +23,8 @@ use Rattle.irs_terms.specs.declared.codes.RollCode.TheVariants.{Eom, Dom, Imm, O
 use Rattle.irs_terms.specs.declared.frequency.Frequency.{Frequency}
 use Rattle.irs_terms.specs.declared.frequency.Unit.{Unit as FrequencyUnit}
 use Rattle.irs_terms.specs.declared.frequency.Unit.TheVariants.{D, W, M, Y, T}
-use Rattle.irs_main.specs.Centers.{centers_text}
-use Rattle.irs_main.specs.Values.{value_words}
-use Rattle.irs_main.specs.Visible.{dots, shown_front}
+use Rattle.irs_main.specs.Shown.{centers_text, dots, shown_front}
+use Rattle.irs_main.specs.Elements.{value_words}
 use Rattle.std.specs.Prelude.{ℕ, ◌&&◌, Bool, true, false, List, [], ◌∷◌, ◌++◌, Option, Some, None, codes}
 use Rattle.std.specs.Prelude.{decimal, if◌then◌else◌}
 use Rattle.irs_base.specs.Elements.{name_or_empty}

@@ -5,7 +5,7 @@ use Rattle.irs_answers.specs.declared.forms.Unread.{Unread}
 use Rattle.irs_answers.specs.declared.forms.Unread.TheVariants as unread
 use Rattle.irs_answers.specs.declared.refusals.Refusal.{Refusal}
 use Rattle.irs_answers.specs.declared.refusals.Refusal.TheVariants as refusal
-use Rattle.irs_audit.specs.RowNames.{field_name, row_name}
+use Rattle.irs_audit.specs.Verdicts.{field_name, row_name}
 use Rattle.irs_audit.specs.declared.departures.Departure.{Departure}
 use Rattle.irs_flows.specs.declared.error.FlowErr.{FlowErr}
 use Rattle.irs_flows.specs.declared.error.FlowErr.TheVariants as flowing
@@ -13,25 +13,24 @@ use Rattle.irs_flows.specs.declared.error.ShapeKind.{ShapeKind}
 use Rattle.irs_flows.specs.declared.error.ShapeKind.TheVariants.{NotJson}
 use Rattle.irs_base.specs.Elements.{document}
 use Rattle.irs_base.specs.Paths.{path_of}
-use Rattle.irs_base.specs.Rules.{rule_number}
+use Rattle.irs_base.specs.Outcomes.{rule_number}
 use Rattle.irs_base.specs.declared.places.Broken.{Broken}
 use Rattle.irs_base.specs.declared.places.Place.{Place}
 use Rattle.irs_base.specs.declared.places.Rule.{Rule}
 use Rattle.irs_base.specs.declared.places.Rule.TheVariants.{K1}
 use Rattle.irs_calendar.specs.declared.calendars.CalErr.{CalErr}
 use Rattle.irs_calendar.specs.declared.calendars.CalErr.TheVariants as calendar
-use Rattle.irs_cli.specs.Naming.{file_name}
+use Rattle.irs_cli.specs.Given.{file_name}
 use Rattle.irs_cli.specs.declared.causes.RunCause.{RunCause}
 use Rattle.irs_cli.specs.declared.causes.RunCause.TheVariants as cause
 use Rattle.irs_cli.specs.declared.commands.Role.TheVariants as role
 use Rattle.irs_resets.specs.declared.fixings.FixErr.{FixErr}
 use Rattle.irs_resets.specs.declared.fixings.FixErr.TheVariants as fixing
 use Rattle.irs_main.specs.Elements.{holder, name_words, possessive}
-use Rattle.irs_main.specs.Lookup.{words_after, before, row_of_rule, row_of_shape}
+use Rattle.irs_main.specs.Rules.{words_after, before, row_of_rule, row_of_shape}
 use Rattle.irs_main.specs.Notes.{is_silent_reply, note_of}
-use Rattle.irs_main.specs.Parts.{joined_texts}
-use Rattle.irs_main.specs.Words.{word_at}
-use Rattle.irs_main.specs.WrongWords.{is_help, unlisted}
+use Rattle.irs_main.specs.Shown.{joined_texts}
+use Rattle.irs_main.specs.WrongWords.{word_at, is_help, unlisted}
 use Rattle.std.specs.Prelude.{ℕ, ◌-◌, ◌==◌, ◌||◌, ◌&&◌, nat_eq, Bool, false, not, List, [], ◌∷◌, ◌++◌, Option, Some, None, codes}
 use Rattle.std.specs.Prelude.{decimal, if◌then◌else◌}
 use Rattle.std.specs.List.{ends_with}

@@ -1,12 +1,140 @@
--- What is said of words that are no listed command, as parts that are joined.
-use Rattle.irs_base.specs.Limits.{most_files}
-use Rattle.irs_main.specs.Cuts.{after_byte, front}
-use Rattle.irs_main.specs.Slips.{is_slip}
-use Rattle.irs_main.specs.Usage.{commands, usage_line, parameter_lines, usage_of}
-use Rattle.irs_main.specs.Words.{command, word_at}
-use Rattle.std.specs.Prelude.{ℕ, ◌+◌, ◌-◌, ◌==◌, ◌||◌, Bool, false, not, nat_eq, nat_lt, length, List, [], ◌∷◌, codes, if◌then◌else◌}
-use Rattle.std.specs.List.{ends_with}
+-- The words of a command line, and what is said of words that are no listed command.
+use Rattle.std.specs.Prelude.{ℕ, List, [], Option, Some, None, map, slice_get, String, string_bytes, ◌∷◌, codes}
+use Rattle.std.specs.Prelude.{if◌then◌else◌, ◌≡◌, ◌⊎◌, ◌==◌, ◌||◌, ◌&&◌, Bool, false, ◌++◌, ◌+◌, ◌-◌, not, nat_eq}
+use Rattle.std.specs.Prelude.{nat_lt, length}
+use Rattle.std.specs.declared.alloc.Global.{Global}
 use Rattle.std.specs.Str.{bytes_eq}
+use Rattle.std.specs.List.{ends_with}
+use Rattle.irs_base.specs.Limits.{most_files}
+use Rattle.irs_main.specs.Shown.{front, after_byte}
+
+-- ---- the words of a command line; the first word is the command
+
+-- the texts of words
+abbrev pub word_texts : List (String Global) → List (List ℕ)
+word_texts words = map string_bytes words
+
+-- a word that may be absent
+abbrev pub word_or_none : Option (List ℕ) → List ℕ
+word_or_none None = []
+word_or_none (Some word) = word
+
+-- the word at a place, where the command has place 0; empty past the last one
+abbrev pub word_at : List (List ℕ) → ℕ → List ℕ
+word_at words place = word_or_none (slice_get words place)
+
+-- the command
+abbrev pub command : List (List ℕ) → List ℕ
+command words = word_at words 0
+
+-- ---- the listed commands, how one of them is called, and what their parameters have to be
+
+-- a line a command: its name and what it takes
+unfoldable pub commands : List (List ℕ)
+commands =
+    codes "check DOC CAL.."
+    ∷ codes "schedule DOC FIX CAL.."
+    ∷ codes "audit DOC FIX FLOWS CAL.."
+    ∷ codes "breaks FROM DOC FIX FLOWS CAL.."
+    ∷ codes "emit DOC FIX CAL.."
+    ∷ codes "emit-xml DOC FIX CAL.."
+    ∷ codes "net DOC FIX CAL.."
+    ∷ codes "accrue DATE DOC FIX CAL.."
+    ∷ codes "observations STREAM DOC FIX CAL.."
+    ∷ codes "overnight STREAM DOC DAILY CAL.."
+    ∷ codes "average STREAM KIND STEP DOC FIX CAL.."
+    ∷ codes "interpolate STREAM SIDE LOW HIGH DOC FIX CAL.."
+    ∷ codes "carrier DOC"
+    ∷ codes "bulk N"
+    ∷ []
+
+-- a line a parameter: its name in the lines above, and what it has to be
+unfoldable pub parameter_lines : List (List ℕ)
+parameter_lines =
+    codes "DOC a file"
+    ∷ codes "FIX a file or -"
+    ∷ codes "FLOWS a file"
+    ∷ codes "DAILY a file or -"
+    ∷ codes "DATE a date YYYY-MM-DD"
+    ∷ codes "FROM a date YYYY-MM-DD, or - for all"
+    ∷ codes "STREAM a number from 1 to 8"
+    ∷ codes "KIND plain or weighted"
+    ∷ codes "STEP a number of days or weeks, such as 1D"
+    ∷ codes "SIDE initial or final"
+    ∷ codes "LOW a period such as 1M"
+    ∷ codes "HIGH a period such as 3M"
+    ∷ codes "N a number from 1 to 500"
+    ∷ []
+
+-- the line with this name, empty where there is none
+abbrev pub usage_line : List (List ℕ) → List ℕ → List ℕ
+usage_line [] name = []
+usage_line (line ∷ lines) name = if bytes_eq (front 32 line) name then line else usage_line lines name
+
+-- how the command with this name is called, empty where it isn't listed
+abbrev pub usage_of : List ℕ → List ℕ
+usage_of name = usage_line commands name
+
+-- ---- words that differ by one slip of the one who types
+-- A letter is left out, one is too many, one is in place of another, or two neighbours are exchanged. A letter is a
+-- byte.
+
+-- a text lacks one letter of another
+pub record LacksOneLetter (text other : List ℕ) : Type 0 where
+  pub front : List ℕ
+  pub letter : ℕ
+  pub rest : List ℕ
+  pub is_text : text ≡ front ++ rest
+  pub is_other : other ≡ front ++ letter ∷ rest
+
+-- a text has one letter in place of another
+pub record Replaces (text other : List ℕ) : Type 0 where
+  pub front : List ℕ
+  pub typed : ℕ
+  pub meant : ℕ
+  pub rest : List ℕ
+  pub differ : typed ≡ meant → ⊥
+  pub is_text : text ≡ front ++ typed ∷ rest
+  pub is_other : other ≡ front ++ meant ∷ rest
+
+-- a text has two neighbours in the other order
+pub record Exchanges (text other : List ℕ) : Type 0 where
+  pub front : List ℕ
+  pub first : ℕ
+  pub second : ℕ
+  pub rest : List ℕ
+  pub differ : first ≡ second → ⊥
+  pub is_text : text ≡ front ++ first ∷ second ∷ rest
+  pub is_other : other ≡ front ++ second ∷ first ∷ rest
+
+-- one slip is between what was typed and what was meant
+abbrev pub IsSlip : List ℕ → List ℕ → Type 0
+IsSlip typed meant = LacksOneLetter typed meant ⊎ (LacksOneLetter meant typed ⊎ (Replaces typed meant ⊎ Exchanges typed meant))
+
+-- ---- the test for it
+
+-- the first two letters of two texts are exchanged, and the others are the same
+abbrev pub is_exchanged : List ℕ → List ℕ → Bool
+is_exchanged [] other = false
+is_exchanged (a ∷ []) other = false
+is_exchanged (a ∷ b ∷ rest) [] = false
+is_exchanged (a ∷ b ∷ rest) (c ∷ []) = false
+is_exchanged (a ∷ b ∷ rest) (c ∷ d ∷ others) = (a == d) && ((b == c) && bytes_eq rest others)
+
+-- one slip is at the front of two texts, which begin with different letters
+abbrev pub is_slip_here : ℕ → List ℕ → ℕ → List ℕ → Bool
+is_slip_here t typed m meant =
+    bytes_eq (t ∷ typed) meant
+    || (bytes_eq typed (m ∷ meant) || (bytes_eq typed meant || is_exchanged (t ∷ typed) (m ∷ meant)))
+
+-- one slip is between two texts: it is where they first differ
+abbrev pub is_slip : List ℕ → List ℕ → Bool
+is_slip [] [] = false
+is_slip [] (m ∷ meant) = bytes_eq meant []
+is_slip (t ∷ typed) [] = bytes_eq typed []
+is_slip (t ∷ typed) (m ∷ meant) = if t == m then is_slip typed meant else is_slip_here t typed m meant
+
+-- ---- what is said of words that are no listed command, as parts that are joined
 
 -- ---- the line of a command: its name and what it takes, with spaces between them
 

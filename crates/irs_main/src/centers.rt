@@ -1,11 +1,9 @@
 //! The centres that the calendar files have, as a sentence lists them after a centre that is in none.
-ghost use Rattle.irs_base.specs.Members.{Every};
+ghost use Rattle.irs_base.specs.Lists.{Every};
 ghost use Rattle.irs_outside.specs.Outside.{Grew, GrewByFront, Rose};
-ghost use Rattle.irs_main.specs.Centers.{centers_text, count_text, listed_centers_text, more_text, name_after};
-ghost use Rattle.irs_main.specs.Centers.{names_text};
-ghost use Rattle.irs_main.specs.Centers.{other_name, names_after_first};
+ghost use Rattle.irs_main.specs.Shown.{centers_text, count_text, listed_centers_text, more_text, name_after};
+ghost use Rattle.irs_main.specs.Shown.{names_text, other_name, names_after_first, IsVisible};
 ghost use Rattle.irs_main.specs.Private.Parts.{said_by};
-ghost use Rattle.irs_main.specs.Visible.{IsVisible};
 ghost use Rattle.std.specs.Prelude.{◌≡◌, ℕ, ◌<◌, ◌^◌, List, ◌∷◌, ◌++◌, OnOk, OnErr};
 
 use crate::parts::{Part, put_parts};

@@ -1,5 +1,5 @@
 //! Cutting a text at a byte: the names of a path, and the words of a command's line.
-ghost use Rattle.irs_main.specs.Cuts.{after_byte as behind_of, front as front_of, length_before as length_before_of};
+ghost use Rattle.irs_main.specs.Shown.{after_byte as behind_of, front as front_of, length_before as length_before_of};
 ghost use Rattle.std.specs.Prelude.{◌≡◌, ◌≤◌, length};
 ghost use Rattle.std.specs.Str.{bytes_eq};
 

@@ -1,6 +1,6 @@
 //! The words of a rule and of a fault of cash flows, by the table.
-ghost use Rattle.irs_main.specs.Lookup.{words_after as after_of, before as before_of, row_of_rule as row_of};
-ghost use Rattle.irs_main.specs.Lookup.{row_of_shape as row_of_fault, text_at as text_at_of};
+ghost use Rattle.irs_main.specs.Rules.{words_after as after_of, before as before_of, row_of_rule as row_of};
+ghost use Rattle.irs_main.specs.Rules.{row_of_shape as row_of_fault, text_at as text_at_of};
 ghost use Rattle.irs_main.specs.Private.Lookup.{texts};
 ghost use Rattle.std.specs.Prelude.{◌≡◌};
 

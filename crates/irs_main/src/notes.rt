@@ -16,7 +16,7 @@ ghost use Rattle.irs_main.specs.Notes.{tenor_letter as tenor_letter_of, text_wor
 ghost use Rattle.irs_main.specs.Notes.{unfixed_on, unfixed_texts, unit_letter as unit_letter_of};
 ghost use Rattle.irs_main.specs.Notes.{value_in as value_in_of, value_intro as value_intro_of};
 ghost use Rattle.irs_main.specs.Notes.{weekday_name as weekday_name_of};
-ghost use Rattle.irs_main.specs.Parts.{joined_texts};
+ghost use Rattle.irs_main.specs.Shown.{joined_texts};
 ghost use Rattle.irs_main.specs.Private.Parts.{part_text, said_by};
 ghost use Rattle.std.specs.Prelude.{◌≡◌, ◌∷◌, OnOk, OnErr};
 

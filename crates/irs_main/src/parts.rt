@@ -1,7 +1,7 @@
 //! A sentence as parts that are written one after the other: texts, numbers in decimal digits, and names from a
 //! document as they are shown. No memory is taken.
 ghost use Rattle.irs_outside.specs.Outside.{Grew, GrewByFront, Rose};
-ghost use Rattle.irs_main.specs.Parts.{joined_texts};
+ghost use Rattle.irs_main.specs.Shown.{joined_texts};
 ghost use Rattle.irs_main.specs.Private.Parts.{most_parts, part_text, said, said_by};
 ghost use Rattle.std.specs.Prelude.{◌≡◌, ◌≤◌, [], ◌∷◌, length, decimal, OnOk, OnErr};
 

@@ -1,9 +1,9 @@
 //! The sentence on what a run comes to, with the names of the files in question.
 ghost use Rattle.irs_outside.specs.Outside.{Grew, GrewByFront, Rose};
-ghost use Rattle.irs_audit.specs.RowNames.{field_name, row_name};
+ghost use Rattle.irs_audit.specs.Verdicts.{field_name, row_name};
 ghost use Rattle.irs_base.specs.Paths.{path_of};
 ghost use Rattle.irs_cli.specs.declared.causes.RunCause.{RunCause as RunCauseSpec};
-ghost use Rattle.irs_main.specs.Parts.{joined_texts};
+ghost use Rattle.irs_main.specs.Shown.{joined_texts};
 ghost use Rattle.irs_main.specs.Private.Parts.{part_text, said};
 ghost use Rattle.irs_main.specs.Sentences.{about as about_of, after_in as after_in_of};
 ghost use Rattle.irs_main.specs.Sentences.{calendar_sentence as bad_calendar_of, bad_calendars as bad_calendars_of};
@@ -24,7 +24,7 @@ ghost use Rattle.irs_main.specs.Sentences.{refused_by as refused_by_of, replied 
 ghost use Rattle.irs_main.specs.Sentences.{stream_words as stream_words_of, told_texts, uncompared as uncompared_of};
 ghost use Rattle.irs_main.specs.Sentences.{unless_stream as unless_stream_of, unless_zero as unless_zero_of};
 ghost use Rattle.irs_main.specs.Sentences.{unreadable_sentence as unreadable_of, verb as verb_of};
-ghost use Rattle.irs_main.specs.Words.{word_texts};
+ghost use Rattle.irs_main.specs.WrongWords.{word_texts};
 ghost use Rattle.std.specs.Prelude.{◌≡◌, ℕ, List, [], true, OnOk, OnErr};
 
 use crate::cuts::is;

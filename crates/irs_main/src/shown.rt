@@ -1,11 +1,11 @@
 //! How a sentence shows the words of a command line. A name may hold characters that a terminal obeys. They
 //! are controls (C0, C1 and DEL), ends of lines, and characters that change the direction of a text. Each is
 //! shown by its number in base 16. So a name can neither forge a line nor clear a screen.
-ghost use Rattle.irs_base.specs.Members.{Every};
+ghost use Rattle.irs_base.specs.Lists.{Every};
 ghost use Rattle.irs_main.specs.Shown.{hex_digit as hex_digit_of, is_control as is_control_of, shown as shown_of};
 ghost use Rattle.irs_main.specs.Shown.{IsPrinted, shown_char as shown_char_of, turns_text as turns_text_of};
 ghost use Rattle.irs_main.specs.Shown.{two_hex_digits};
-ghost use Rattle.irs_main.specs.Words.{word_texts};
+ghost use Rattle.irs_main.specs.WrongWords.{word_texts};
 ghost use Rattle.std.specs.Prelude.{◌≡◌, ℕ, ◌<◌, ◌++◌, List, map, IfOk, OnOk, string_bytes};
 
 use irs_base::Memory;

@@ -1,5 +1,5 @@
 //! Words that differ by one slip of the one who types.
-ghost use Rattle.irs_main.specs.Slips.{IsSlip, is_exchanged as is_exchanged_of, is_slip as is_slip_of};
+ghost use Rattle.irs_main.specs.WrongWords.{IsSlip, is_exchanged as is_exchanged_of, is_slip as is_slip_of};
 ghost use Rattle.std.specs.Prelude.{◌≡◌, ℕ, List, true};
 
 use crate::cuts::is;

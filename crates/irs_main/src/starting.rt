@@ -1,7 +1,7 @@
 //! From the runtime to the answer: the words, the files of the system, standard output and standard
 //! error.
 ghost use Rattle.std.specs.Prelude.{◌≡◌, ◌⊎◌, ◌<◌, IfErr};
-ghost use Rattle.irs_cli.specs.Causes.{run_status};
+ghost use Rattle.irs_cli.specs.Run.{run_status};
 
 use crate::answering::{answer, explain};
 use crate::standard_error::StandardError;

@@ -1,11 +1,10 @@
 //! The sentences of the rules K1 to K49 and of the faults of cash flows, as two parallel lists. They hold what
 //! is said before the element, and after it.
-ghost use Rattle.irs_answers.specs.FlowMessages.{shape_name};
+ghost use Rattle.irs_answers.specs.Messages.{shape_name};
 ghost use Rattle.irs_flows.specs.declared.error.ShapeKind.{ShapeKind as ShapeSpec};
-ghost use Rattle.irs_base.specs.Rules.{rule_number};
+ghost use Rattle.irs_base.specs.Outcomes.{rule_number};
 ghost use Rattle.irs_base.specs.declared.places.Rule.{Rule as RuleSpec};
-ghost use Rattle.irs_main.specs.Lookup.{row_of_rule, row_of_shape, text_at};
-ghost use Rattle.irs_main.specs.Rules.{rule_codes, texts_after, texts_before};
+ghost use Rattle.irs_main.specs.Rules.{row_of_rule, row_of_shape, text_at, rule_codes, texts_after, texts_before};
 ghost use Rattle.std.specs.Prelude.{◌≡◌, ◌++◌, [], codes, decimal, map};
 
 /// What is said before the element.

@@ -1,7 +1,6 @@
 //! How a command is called, and what its parameters have to be, for words that don't fit it.
 ghost use Rattle.irs_main.specs.Private.Lookup.{texts};
-ghost use Rattle.irs_main.specs.Usage.{commands, usage_line as line_of_name, parameter_lines, usage_of};
-ghost use Rattle.irs_main.specs.WrongWords.{needs_of};
+ghost use Rattle.irs_main.specs.WrongWords.{commands, usage_line as line_of_name, parameter_lines, usage_of, needs_of};
 ghost use Rattle.std.specs.Prelude.{◌≡◌, map};
 
 use crate::cuts::{behind, front};

@@ -3,7 +3,7 @@ ghost use Rattle.irs_elements.specs.Codes.{day_roll_at};
 ghost use Rattle.irs_elements.specs.Leaves.{has_value};
 ghost use Rattle.irs_elements.specs.declared.table.Leaf.TheVariants.{Roll};
 ghost use Rattle.irs_elements.specs.declared.table.Leaf.{Leaf as LeafKind};
-ghost use Rattle.irs_main.specs.Values.{leaf_codes, rolls, value_words as value_words_of};
+ghost use Rattle.irs_main.specs.Elements.{leaf_codes, rolls, value_words as value_words_of};
 ghost use Rattle.std.specs.List.{list_any};
 ghost use Rattle.std.specs.Prelude.{◌≡◌, ◌||◌, ℕ, List, Some, is_some};
 ghost use Rattle.std.specs.Str.{bytes_eq};

@@ -1,11 +1,10 @@
 //! How a sentence shows a name from a document: the index of a rate, or the name of a member. It may be any bytes,
 //! and a long one. What is shown is visible ASCII, on one line. No memory is taken.
-ghost use Rattle.irs_base.specs.Members.{Every};
+ghost use Rattle.irs_base.specs.Lists.{Every};
 ghost use Rattle.irs_base.specs.Texts.{longest_line};
 ghost use Rattle.irs_outside.specs.Outside.{Grew, GrewByFront, Rose};
-ghost use Rattle.irs_main.specs.Visible.{IsVisible, dots as dots_of, is_shown_as_it_is as is_plain_of, most_shown};
-ghost use Rattle.irs_main.specs.Visible.{shown_byte};
-ghost use Rattle.irs_main.specs.Visible.{shown_bytes, shown_front};
+ghost use Rattle.irs_main.specs.Shown.{IsVisible, dots as dots_of, is_shown_as_it_is as is_plain_of, most_shown};
+ghost use Rattle.irs_main.specs.Shown.{shown_byte, shown_bytes, shown_front};
 ghost use Rattle.std.specs.Prelude.{◌≡◌, ℕ, ◌+◌, ◌≤◌, List, [], ◌++◌, length, take, OnOk, OnErr};
 
 use crate::shown::hex_digit;

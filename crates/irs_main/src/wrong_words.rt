@@ -1,15 +1,14 @@
 //! What is said of words that are no listed command: what is lacking, what is too much, or what may be meant.
 ghost use Rattle.irs_main.specs.Private.Lookup.{texts as texts_in};
-ghost use Rattle.irs_main.specs.Parts.{joined_texts};
+ghost use Rattle.irs_main.specs.Shown.{joined_texts};
 ghost use Rattle.irs_main.specs.Private.Parts.{said};
-ghost use Rattle.irs_main.specs.Usage.{commands};
-ghost use Rattle.irs_main.specs.Words.{word_texts};
-ghost use Rattle.irs_main.specs.WrongWords.{field_at as field_at_of, field_count as fields_of, helped as helped_of};
-ghost use Rattle.irs_main.specs.WrongWords.{is_help as is_help_of, is_help_command as is_help_command_of};
-ghost use Rattle.irs_main.specs.WrongWords.{is_lacking as is_lacking_of, lacking as lacking_of, misfit as misfit_of};
-ghost use Rattle.irs_main.specs.WrongWords.{most_told as most_told_of, most_words as most_words_of};
-ghost use Rattle.irs_main.specs.WrongWords.{nearest as nearest_of, takes_calendars as takes_calendars_of};
-ghost use Rattle.irs_main.specs.WrongWords.{unknown as unknown_of, unlisted as unlisted_of, unlisted_as as unlisted_as_of};
+ghost use Rattle.irs_main.specs.WrongWords.{commands, word_texts, field_at as field_at_of, field_count as fields_of};
+ghost use Rattle.irs_main.specs.WrongWords.{helped as helped_of, is_help as is_help_of};
+ghost use Rattle.irs_main.specs.WrongWords.{is_help_command as is_help_command_of, is_lacking as is_lacking_of};
+ghost use Rattle.irs_main.specs.WrongWords.{lacking as lacking_of, misfit as misfit_of, most_told as most_told_of};
+ghost use Rattle.irs_main.specs.WrongWords.{most_words as most_words_of, nearest as nearest_of};
+ghost use Rattle.irs_main.specs.WrongWords.{takes_calendars as takes_calendars_of, unknown as unknown_of};
+ghost use Rattle.irs_main.specs.WrongWords.{unlisted as unlisted_of, unlisted_as as unlisted_as_of};
 ghost use Rattle.std.specs.Prelude.{◌≡◌, ◌≤◌, ◌+◌, length};
 
 use crate::cuts::{front, is};

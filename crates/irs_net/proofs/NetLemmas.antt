@@ -9,14 +9,14 @@ use Rattle.std.specs.BTreeMap.{BTreeMap, get, IsOrdered}
 use Rattle.std.proofs.lemmas.List.Elements.{All-head, All-tail, All-weaker}
 use Rattle.std.proofs.lemmas.Map.Views.{All-found, Contains-from_any, Contains-keys_from_lookup}
 use Rattle.std.proofs.lemmas.Map.Views.{IsSome-lookup_from_Contains, list_any-from_Contains}
-use Rattle.irs_base.specs.Members.{Every}
+use Rattle.irs_base.specs.Lists.{Every}
 use Rattle.irs_base.specs.declared.line.Dec.{Dec}
-use Rattle.irs_terms.specs.Currencies.{decimals_of}
+use Rattle.irs_terms.specs.Lawful.{decimals_of}
 use Rattle.irs_schedule.specs.Schedules.{dec_of}
 use Rattle.irs_schedule.proofs.PlaceLemmas.{decimals_few}
 use Rattle.irs_net.specs.Nets.{NetRowHasPlaces, IsNet, IsSumOf, key_order, same_key, part_key, row_key, known_sum}
 use Rattle.irs_net.specs.Nets.{unknown_count}
-use Rattle.irs_net.specs.Private.NetTotals.{row_of, total_at}
+use Rattle.irs_net.specs.Private.FoundParties.{row_of, total_at}
 use Rattle.irs_net.specs.declared.parts.NetPart.{NetPart}
 use Rattle.irs_net.specs.declared.table.NetRow.{NetRow}
 use Rattle.irs_net.specs.declared.totals.NetKey.{NetKey}

@@ -5,15 +5,15 @@ use Rattle.std.proofs.Common.{ap, subst, ◌∙◌, arith, append_assoc, length-
 use Rattle.std.specs.Prelude.{option_map}
 use Rattle.std.proofs.lemmas.List.{append-nil, length-map}
 use Rattle.irs_base.specs.Limits.{most_exchanges, most_periods}
-use Rattle.irs_base.specs.Members.{Every}
+use Rattle.irs_base.specs.Lists.{Every}
 use Rattle.irs_base.specs.declared.line.Dec.{Dec}
 use Rattle.irs_terms.specs.declared.currency.Currency.{Currency}
 use Rattle.irs_terms.specs.declared.results.Exchange.{Exchange}
 use Rattle.irs_schedule.proofs.PlaceLemmas.{decimals_few, every_both, every_map}
 use Rattle.irs_schedule.specs.Parts.{EntriesCover, HasAmount, IsAmount, IsWithin, KeepsBounds, Part}
 use Rattle.irs_schedule.specs.declared.entries.PaymentEntry.{PaymentEntry}
-use Rattle.irs_net.specs.NetParts.{exchange_part, parts_of, payment_part, signed, net_parts_of}
-use Rattle.irs_net.specs.Private.NetTotals.{IsSmall, most_parts, most_units}
+use Rattle.irs_net.specs.Nets.{exchange_part, parts_of, payment_part, signed, net_parts_of}
+use Rattle.irs_net.specs.Private.FoundParties.{IsSmall, most_parts, most_units}
 use Rattle.irs_net.specs.declared.parts.NetPart.{NetPart}
 
 -- what holds for each element of a list holds for the one at a place

@@ -15,22 +15,18 @@ use Rattle.irs_base.proofs.FaultOrder.{broken_ties}
 use Rattle.irs_base.proofs.Firsts.{level_later, level_same, one_first}
 use Rattle.irs_base.proofs.MemberLemmas.{some_is}
 use Rattle.irs_base.specs.Limits.{most_streams}
-use Rattle.irs_base.specs.Order.{First, is_before}
+use Rattle.irs_base.specs.Outcomes.{First, is_before}
 use Rattle.irs_base.specs.declared.places.Broken.{Broken}
 use Rattle.irs_base.specs.declared.places.Rule.TheVariants.{K3}
-use Rattle.irs_elements.specs.Elements.{own, own_rule}
-use Rattle.irs_elements.specs.Find.{values_in}
+use Rattle.irs_elements.specs.Elements.{own, own_rule, values_in}
 use Rattle.irs_elements.specs.declared.table.Choice.TheVariants.{Free}
 use Rattle.irs_elements.specs.declared.table.Kind.TheVariants.{Object}
-use Rattle.irs_json.specs.Carrier.{child_of}
-use Rattle.irs_json.specs.Names.{element_names}
-use Rattle.irs_read.specs.Documents.{DocumentFault, Way, the_swap, below}
-use Rattle.irs_read.specs.References.{streams_in}
-use Rattle.irs_read.specs.Swaps.{no_stream, many_streams}
-use Rattle.irs_net.specs.Private.FoundParties.{href_in, pair_of, parties_in, party_in, side_by, side_in}
+use Rattle.irs_json.specs.Leaves.{child_of, element_names}
+use Rattle.irs_read.specs.Documents.{DocumentFault, Way, the_swap, below, no_stream, many_streams}
+use Rattle.irs_read.specs.Readings.{streams_in}
+use Rattle.irs_net.specs.Private.FoundParties.{href_in, pair_of, parties_in, party_in, side_by, side_in, SidesTo}
 use Rattle.irs_net.specs.Parties.{AreSides, BreaksK8, BreaksK8Of, IsBackward, IsForward, IsPaidBy, IsSide, RefersTo}
 use Rattle.irs_net.specs.Parties.{SidesOf, broken_at}
-use Rattle.irs_net.specs.Private.SidesTo.{SidesTo}
 use Rattle.irs_net.specs.declared.sides.Sides.{Sides}
 
 -- ---- references

@@ -6,9 +6,10 @@ use Rattle.std.specs.Prelude.{is_none, unwrap_or, if◌then◌else◌, ◌&&◌,
 use Rattle.std.specs.List.{list_any}
 use Rattle.std.proofs.lemmas.Bool.{or_parts}
 use Rattle.jiff_core.proofs.SignedLemmas.{signed_arith}
-use Rattle.irs_base.specs.Members.{Every}
+use Rattle.irs_base.specs.Lists.{Every}
 use Rattle.irs_net.specs.Nets.{same_key, part_key, known_sum, known_units, unknown_count}
-use Rattle.irs_net.specs.Private.NetTotals.{IsSmall, most_parts, most_total, most_units, no_total, total_at, total_with}
+use Rattle.irs_net.specs.Private.FoundParties.{IsSmall, most_parts, most_total, most_units, no_total, total_at}
+use Rattle.irs_net.specs.Private.FoundParties.{total_with}
 use Rattle.irs_net.specs.declared.parts.NetPart.{NetPart}
 use Rattle.irs_net.specs.declared.totals.NetKey.{NetKey}
 use Rattle.irs_net.specs.declared.totals.NetTotal.{NetTotal}

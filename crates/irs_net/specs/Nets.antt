@@ -1,20 +1,55 @@
--- The net of a schedule: one row for each date and currency on which something falls due.
-use Rattle.std.specs.Prelude.{◌≡◌, ℕ, ◌+◌, ◌≤◌, Bool, ◌&&◌, List, [], ◌∷◌, map, Contains, Option, Some, None, is_none}
-use Rattle.std.specs.Prelude.{if◌then◌else◌, ℤ, pos, ◌+ℤ◌}
+-- The net of a schedule: what falls due between the two parties, and its lines.
+use Rattle.std.specs.Prelude.{Bool, true, false, List, [], ◌∷◌, ◌++◌, map, Some, option_map, ℤ, neg_ℤ, ◌≡◌, ℕ, ◌+◌, ◌≤◌}
+use Rattle.std.specs.Prelude.{◌&&◌, Contains, Option, None, is_none, if◌then◌else◌, pos, ◌+ℤ◌, codes}
 use Rattle.std.specs.Cmp.Lexicographic.{slice_cmp}
 use Rattle.std.specs.List.Sorted.{IsStrictlySortedBy}
 use Rattle.std.specs.Ordering.{int_cmp, nat_cmp, ordering_then, eq_by_cmp}
 use Rattle.std.specs.declared.cmp.Ordering.{Ordering}
 use Rattle.std.specs.Str.{bytes_eq}
-use Rattle.irs_base.specs.Members.{Every}
-use Rattle.irs_terms.specs.Currencies.{decimals_of}
+use Rattle.std.specs.Fmt.{decimal}
+use Rattle.irs_base.specs.Lists.{Every}
+use Rattle.irs_base.specs.Texts.{day_text, dec_text}
 use Rattle.irs_terms.specs.declared.currency.Currency.{Currency}
+use Rattle.irs_terms.specs.declared.results.Exchange.{Exchange}
+use Rattle.irs_terms.specs.Lawful.{decimals_of}
 use Rattle.irs_schedule.specs.Parts.{Part}
+use Rattle.irs_schedule.specs.declared.entries.PaymentEntry.{PaymentEntry}
 use Rattle.irs_schedule.specs.Schedules.{dec_of}
-use Rattle.irs_net.specs.NetParts.{parts_of}
 use Rattle.irs_net.specs.declared.parts.NetPart.{NetPart}
 use Rattle.irs_net.specs.declared.table.NetRow.{NetRow}
 use Rattle.irs_net.specs.declared.totals.NetKey.{NetKey}
+
+-- ---- what falls due between the two parties of a swap: the exchanges and payments of its streams, each on its
+-- adjusted date
+-- An amount is positive where it is paid by the party that pays stream 1.
+
+-- an amount as it is in a forward stream, and negated in another
+abbrev pub signed : Bool → ℤ → ℤ
+signed true units = units
+signed false units = neg_ℤ units
+
+-- a principal exchange
+abbrev pub exchange_part : Currency → Bool → Exchange → NetPart
+exchange_part currency forward x =
+    record { date = x.adjusted; currency = currency; units = Some (signed forward x.amount.units) }
+
+-- a payment, whose amount may not be known
+abbrev pub payment_part : Currency → Bool → PaymentEntry → NetPart
+payment_part currency forward y =
+    record { date = y.adjusted; currency = currency; units = option_map (λ v. signed forward v.units) y.amount }
+
+-- the exchanges and payments of a stream
+abbrev pub net_parts_of : Bool → Part → List NetPart
+net_parts_of forward p =
+    map (exchange_part p.currency forward) p.exchanges ++ map (payment_part p.currency forward) p.payments
+
+-- those of all streams, each with its side
+abbrev pub parts_of : List Part → List Bool → List NetPart
+parts_of [] sides = []
+parts_of (p ∷ ps) [] = []
+parts_of (p ∷ ps) (forward ∷ sides) = net_parts_of forward p ++ parts_of ps sides
+
+-- ---- the net of a schedule: one row for each date and currency on which something falls due
 
 -- by date, then by the bytes of the currency
 abbrev pub key_order : NetKey → NetKey → Ordering
@@ -83,3 +118,11 @@ parts_total currency (p ∷ ps) =
 -- the amount of a row has at most 12 decimals
 abbrev pub NetRowHasPlaces : NetRow → Type 0
 NetRowHasPlaces r = r.amount.places ≤ 12
+
+-- ---- the line of a row of the net
+
+-- `n DATE CURRENCY AMOUNT UNKNOWN` and a line feed
+unfoldable pub net_text : NetRow → List ℕ
+net_text r =
+    (codes "n" ++ 32 ∷ day_text r.date ++ 32 ∷ r.currency.letters ++ 32 ∷ dec_text r.amount.units r.amount.places
+    ++ 32 ∷ decimal r.unknown) ++ codes "\n"

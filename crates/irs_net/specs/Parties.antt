@@ -4,13 +4,13 @@ use Rattle.std.specs.Prelude.{◌≡◌, ℕ, ◌+◌, ◌≤◌, Bool, true, fa
 use Rattle.std.specs.Prelude.{slice_index_or, codes}
 use Rattle.irs_base.specs.Elements.{payer_party_reference}
 use Rattle.irs_base.specs.Limits.{most_streams}
-use Rattle.irs_base.specs.Faults.{fault_at, in_stream}
+use Rattle.irs_base.specs.Outcomes.{fault_at, in_stream}
 use Rattle.irs_base.specs.declared.places.Broken.{Broken}
 use Rattle.irs_base.specs.declared.places.Rule.TheVariants.{K8}
-use Rattle.irs_elements.specs.Find.{values_in}
-use Rattle.irs_json.specs.Carrier.{child_of}
+use Rattle.irs_elements.specs.Elements.{values_in}
+use Rattle.irs_json.specs.Leaves.{child_of}
 use Rattle.irs_read.specs.Documents.{the_swap}
-use Rattle.irs_read.specs.References.{streams_in}
+use Rattle.irs_read.specs.Readings.{streams_in}
 use Rattle.serde_json.specs.Data.{Data, string}
 use Rattle.irs_net.specs.declared.sides.Sides.{Sides}
 

@@ -1,3 +1,1 @@
-pub mod NetTotals
 pub mod FoundParties
-pub mod SidesTo

@@ -1,10 +1,10 @@
 //! What falls due between the two parties: the exchanges and payments of a schedule's streams. Each
 //! is on its adjusted date, with its sign between the two parties.
 ghost use Rattle.std.specs.Prelude.{◌≡◌, ◌++◌, ◌≤◌, map, length, IfOk, IfSome, OnOk, unsigned_abs, option_map};
-ghost use Rattle.irs_base.specs.Members.{Every};
+ghost use Rattle.irs_base.specs.Lists.{Every};
 ghost use Rattle.irs_schedule.specs.Parts.{HasAmount, IsAmount};
-ghost use Rattle.irs_net.specs.NetParts.{exchange_part, payment_part, parts_of, signed, net_parts_of};
-ghost use Rattle.irs_net.specs.Private.NetTotals.{IsSmall, most_parts, most_units};
+ghost use Rattle.irs_net.specs.Nets.{exchange_part, payment_part, parts_of, signed, net_parts_of};
+ghost use Rattle.irs_net.specs.Private.FoundParties.{IsSmall, most_parts, most_units};
 
 use crate::Sides;
 use irs_base::{Day, Dec, Memory};

@@ -3,7 +3,7 @@
 ghost use Rattle.std.specs.Prelude.{◌≡◌, ◌<◌, ◌≤◌, length, map, IfOk, IfErr};
 ghost use Rattle.serde_json.specs.View.{view};
 ghost use Rattle.irs_base.specs.Limits.{most_streams};
-ghost use Rattle.irs_base.specs.Order.{First, is_before};
+ghost use Rattle.irs_base.specs.Outcomes.{First, is_before};
 ghost use Rattle.irs_base.specs.declared.places.Broken.{Broken};
 ghost use Rattle.irs_read.specs.Documents.{DocumentFault};
 ghost use Rattle.irs_net.specs.declared.sides.Sides.{Sides};

@@ -2,11 +2,10 @@
 //!
 //! That exchanges and payments of one date and currency are netted is our rule.
 ghost use Rattle.std.specs.Prelude.{◌≡◌, List, map, length, IfOk};
-ghost use Rattle.irs_base.specs.Members.{Every};
+ghost use Rattle.irs_base.specs.Lists.{Every};
 ghost use Rattle.irs_terms.specs.declared.currency.Currency.{Currency};
-ghost use Rattle.irs_net.specs.NetParts.{parts_of};
-ghost use Rattle.irs_net.specs.Nets.{NetRowHasPlaces, Net, parts_total, rows_total};
-ghost use Rattle.irs_net.specs.Private.NetTotals.{row_of};
+ghost use Rattle.irs_net.specs.Nets.{parts_of, NetRowHasPlaces, Net, parts_total, rows_total};
+ghost use Rattle.irs_net.specs.Private.FoundParties.{row_of};
 ghost use Rattle.irs_net.specs.declared.table.NetRow.{NetRow};
 
 use crate::Sides;

@@ -1,10 +1,10 @@
 //! Totals by date and currency.
 ghost use Rattle.std.specs.Prelude.{◌≡◌, ◌≤◌, length, IfOk, IfSome, unwrap_or, unsigned_abs};
 ghost use Rattle.std.specs.BTreeMap.{IsOrdered, get};
-ghost use Rattle.irs_base.specs.Members.{Every};
+ghost use Rattle.irs_base.specs.Lists.{Every};
 ghost use Rattle.irs_net.specs.Nets.{key_order, part_key};
-ghost use Rattle.irs_net.specs.Private.NetTotals.{IsSmall, most_parts, most_total, most_units, no_total, total_at};
-ghost use Rattle.irs_net.specs.Private.NetTotals.{total_with};
+ghost use Rattle.irs_net.specs.Private.FoundParties.{IsSmall, most_parts, most_total, most_units, no_total, total_at};
+ghost use Rattle.irs_net.specs.Private.FoundParties.{total_with};
 ghost use Rattle.irs_net.specs.declared.totals.NetKey.{NetKey};
 
 use crate::parts::NetPart;

@@ -5,9 +5,9 @@ use Rattle.std.specs.Prelude.{if◌then◌else◌}
 use Rattle.std.proofs.lemmas.Bool.{cases_lt}
 use Rattle.jiff_core.proofs.SignedLemmas.{signed_arith}
 use Rattle.irs_calendar.specs.GoodDays.{DaySet}
-use Rattle.irs_adjust.specs.Ways.{MovesOn, good_days}
+use Rattle.irs_adjust.specs.MovedDays.{MovesOn, good_days}
 use Rattle.irs_adjust.specs.declared.ways.Way.TheVariants.{Back}
-use Rattle.irs_observed.specs.ObservationPeriods.{IsObservationPeriod, MovesBack, ObservedPeriod, Shifts, observed_period}
+use Rattle.irs_observed.specs.Observations.{IsObservationPeriod, MovesBack, ObservedPeriod, Shifts, observed_period}
 use Rattle.irs_terms.specs.declared.parameters.ObservationOffset.{ObservationOffset}
 use Rattle.irs_terms.specs.declared.parameters.ObservationOffset.TheVariants.{Absent, Shift, Lookback, Lockout}
 use Rattle.irs_observed.proofs.MemberLemmas.{distance}

@@ -5,9 +5,8 @@ use Rattle.std.specs.Prelude.{get_or, unsigned_abs}
 use Rattle.std.proofs.lemmas.Bool.{cases_lt}
 use Rattle.jiff_core.proofs.SignedLemmas.{signed_arith}
 use Rattle.irs_base.proofs.RoundingLaws.{nearest_once}
-use Rattle.irs_observed.specs.DailyRates.{AreKnown, DailyRates}
-use Rattle.irs_observed.specs.Factors.{FactorPasses, Grows, GrowsBy, Precision, Reaches, one_factor, unit_rate}
-use Rattle.irs_observed.specs.ObservedRates.{CompoundsPast, rate_precision}
+use Rattle.irs_observed.specs.ObservedRates.{AreKnown, DailyRates, FactorPasses, Grows, GrowsBy, Precision, Reaches}
+use Rattle.irs_observed.specs.ObservedRates.{one_factor, unit_rate, CompoundsPast, rate_precision}
 use Rattle.irs_observed.specs.declared.observation.Observation.{Observation}
 use Rattle.irs_observed.proofs.ThroughLemmas.{one_through, through_all, through_more}
 

@@ -2,12 +2,12 @@
 use Rattle.std.proofs.Common.{◌≡◌, inl, inr, ℕ, false, Option, Some, None, refl, sym, subst}
 use Rattle.std.specs.Prelude.{nat_lt}
 use Rattle.std.proofs.lemmas.Bool.{cases_order}
-use Rattle.irs_base.specs.Order.{First, IsFirst, comes_before}
+use Rattle.irs_base.specs.Outcomes.{First, IsFirst, comes_before}
 use Rattle.irs_base.specs.declared.places.Fault.{Fault}
 use Rattle.irs_base.proofs.Firsts.{lt_false}
-use Rattle.irs_observed.specs.ObservationRules.{reported_before}
+use Rattle.irs_observed.specs.Observations.{reported_before}
 use Rattle.irs_observed.specs.OvernightRates.{BreaksObservations, LacksAt, OvernightSource, observation_fault}
-use Rattle.irs_observed.specs.Private.OvernightWalk.{HasFewAfter, NoneLacks, NoneLacksBefore, StopsAt, fault_by}
+use Rattle.irs_observed.specs.Private.OvernightRates.{HasFewAfter, NoneLacks, NoneLacksBefore, StopsAt, fault_by}
 use Rattle.irs_observed.specs.declared.observation.NoObservations.{NoObservations}
 use Rattle.irs_observed.specs.declared.observation.NoObservations.TheVariants.{FewMembers, NoDay}
 use Rattle.irs_observed.specs.declared.overnight_rates.Unobserved.{Unobserved}

@@ -1,10 +1,9 @@
 -- Rising lists of days by their places.
 use Rattle.std.proofs.Common.{◌≡◌, inl, inr, ℕ, zero, suc, ◌<◌, List, [], ◌∷◌, length, ℤ, ◌<ℤ◌, refl, arith}
 use Rattle.jiff_core.proofs.SignedLemmas.{signed_arith}
-use Rattle.irs_base.specs.Listed.{IsRising, Member}
-use Rattle.irs_base.specs.Members.{day_at}
+use Rattle.irs_base.specs.Lists.{IsRising, Member, day_at}
 use Rattle.irs_base.proofs.Rising.{member_after}
-use Rattle.irs_observed.specs.PeriodMembers.{member_or_end}
+use Rattle.irs_observed.specs.Observations.{member_or_end}
 
 -- the day at a place is one of the list
 pub at_member : (u : List ℤ) (k : ℕ) → k < length u → Member (day_at u k) u

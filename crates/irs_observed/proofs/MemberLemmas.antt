@@ -3,13 +3,13 @@ use Rattle.std.proofs.Common.{◌≡◌, ◌⊎◌, inl, inr, ℕ, zero, suc, Li
 use Rattle.std.proofs.Common.{subst, arith, ◌-◌, ◌+◌}
 use Rattle.jiff_core.proofs.SignedLemmas.{signed_arith}
 use borrow.Author.Differences.{up, down}
-use Rattle.irs_base.specs.Listed.{Lists, Member}
+use Rattle.irs_base.specs.Lists.{Lists, Member}
 use Rattle.irs_base.proofs.Decided.{order_of}
 use Rattle.irs_base.proofs.Rising.{member_cases, member_new, member_old, one_rising, rising_push}
 use Rattle.irs_calendar.specs.GoodDays.{DaySet, InCover, IsGood, Next}
 use Rattle.irs_adjust.specs.ConventionLaws.{next_stays}
 use Rattle.irs_adjust.proofs.FoundDays.{decides_good, decides_in_cover}
-use Rattle.irs_observed.specs.PeriodMembers.{AreMembers, IsPeriodMember, LeavesCover}
+use Rattle.irs_observed.specs.Observations.{AreMembers, IsPeriodMember, LeavesCover}
 
 -- there is one list of members
 pub one_members : (set : DaySet) (a b : ℤ) (u v : List ℤ) → AreMembers set a b u → AreMembers set a b v → u ≡ v

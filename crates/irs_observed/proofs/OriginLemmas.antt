@@ -6,8 +6,8 @@ use Rattle.irs_terms.specs.declared.amounts.StubTerms.{StubTerms}
 use Rattle.irs_resets.specs.declared.observed.PeriodKind.{PeriodKind}
 use Rattle.irs_resets.specs.declared.observed.PeriodKind.TheVariants.{InitialStub, FinalStub, FirstRegular}
 use Rattle.irs_resets.specs.declared.observed.PeriodKind.TheVariants.{LaterRegular}
-use Rattle.irs_observed.specs.RateOrigins.{HasOwnRate, StatesRate}
-use Rattle.irs_observed.specs.Private.RateOrigins.{own_of, own_rate_of}
+use Rattle.irs_observed.specs.OvernightRates.{HasOwnRate, StatesRate}
+use Rattle.irs_observed.specs.Private.OvernightRates.{own_of, own_rate_of}
 
 own_fixed : (o : Option StubRate) (rate : ℤ) → own_of o ≡ Some rate → o ≡ Some (Fixed rate)
 own_fixed None rate e = absurd (cc)

@@ -4,10 +4,9 @@ use Rattle.std.proofs.Common.{◌+ℤ◌, ◌-ℤ◌, ◌<ℤ◌, ◌≤ℤ◌, 
 use Rattle.std.proofs.lemmas.Bool.{cases_lt}
 use Rattle.jiff_core.proofs.SignedLemmas.{signed_arith}
 use Rattle.irs_base.specs.Days.{IsDay}
-use Rattle.irs_base.specs.Members.{day_at}
-use Rattle.irs_base.specs.Order.{First}
+use Rattle.irs_base.specs.Lists.{day_at}
+use Rattle.irs_base.specs.Outcomes.{First, Determined}
 use Rattle.irs_base.specs.Private.Order.{IsDecided}
-use Rattle.irs_base.specs.Outcomes.{Determined}
 use Rattle.irs_base.proofs.Decided.{order_of}
 use Rattle.irs_base.proofs.MemberLemmas.{numbered_there, one_numbered}
 use Rattle.irs_base.proofs.Outcomes.{unless_broken_determined}
@@ -16,13 +15,12 @@ use Rattle.irs_adjust.specs.ConventionLaws.{one_prev}
 use Rattle.irs_adjust.proofs.FoundDays.{IsFound, decides_in_cover, decides_le, decides_next, decides_prev}
 use Rattle.irs_adjust.proofs.MovedDays.{decides_moves}
 use Rattle.irs_adjust.proofs.OffsetLaws.{one_moved}
-use Rattle.irs_observed.specs.ObservationPeriods.{IsObservationPeriod, ObservedPeriod, Shifts, back}
-use Rattle.irs_observed.specs.ObservationRules.{LacksObservations, reported_before}
-use Rattle.irs_observed.specs.Private.ObservationWalk.{IsUnseen, IsWalk}
-use Rattle.irs_observed.specs.Observations.{AddsUp, AreObservations, AreObserved, HasWeights, IsObservation, ObservesOn}
-use Rattle.irs_observed.specs.Observations.{lockout_days, place_observed}
-use Rattle.irs_observed.specs.Outcomes.{observations_of}
-use Rattle.irs_observed.specs.PeriodMembers.{AreMembers, IsPeriodMember, LeavesCover, member_or_end}
+use Rattle.irs_observed.specs.Observations.{IsObservationPeriod, ObservedPeriod, Shifts, back, LacksObservations}
+use Rattle.irs_observed.specs.Observations.{reported_before, AddsUp, AreObservations, AreObserved, HasWeights}
+use Rattle.irs_observed.specs.Observations.{IsObservation, ObservesOn, lockout_days, place_observed, AreMembers}
+use Rattle.irs_observed.specs.Observations.{IsPeriodMember, LeavesCover, member_or_end}
+use Rattle.irs_observed.specs.Private.OvernightRates.{IsUnseen, IsWalk}
+use Rattle.irs_observed.specs.OvernightRates.{observations_of}
 use Rattle.irs_observed.specs.declared.observation.NoObservations.{NoObservations}
 use Rattle.irs_observed.specs.declared.observation.NoObservations.TheVariants.{FewMembers, NoDay}
 use Rattle.irs_observed.specs.declared.observation.Observation.{Observation}
@@ -45,7 +43,7 @@ one_day_observed (Shift n) set d o p h k = one_prev set d o p h k
 one_day_observed (Lookback n) set d o p h k =
     let same = one_prev set d h.0 k.0 h.1 k.1 in
     one_moved (back n) set k.0 o p
-    (subst (λ (q : ℤ). Rattle.irs_adjust.specs.Offsets.Moves (back n) set q o) same h.2) k.2
+    (subst (λ (q : ℤ). Rattle.irs_adjust.specs.MovedDays.Moves (back n) set q o) same h.2) k.2
 one_day_observed (Lockout n) set d o p h k = one_prev set d o p h k
 
 same_weight : (d e : ℤ) (v w : ℕ) (z : ℤ) → d ≡ e → d +ℤ pos v ≡ z → e +ℤ pos w ≡ z → v ≡ w
@@ -115,7 +113,7 @@ found_observed (Lookback n) set d = elim (decides_prev set d) [
     | inl moved ↦ inl (moved.0, (prev.0, prev.1, moved.1))
     | inr none ↦ inr (λ o h.
         let same = one_prev set d h.0 prev.0 h.1 prev.1 in
-        none o (subst (λ (q : ℤ). Rattle.irs_adjust.specs.Offsets.Moves (back n) set q o) same h.2))
+        none o (subst (λ (q : ℤ). Rattle.irs_adjust.specs.MovedDays.Moves (back n) set q o) same h.2))
   ]
   | inr none ↦ inr (λ o h. none h.0 h.1)
 ]

@@ -4,25 +4,20 @@ use Rattle.std.proofs.Common.{Some, None, Result, Ok, Err, ℤ, ◌<ℤ◌, refl
 use Rattle.std.proofs.lemmas.List.Elements.{All-get_or}
 use Rattle.std.proofs.lemmas.Option.{get_or_from_slice_get, slice_get_within}
 use Rattle.std.specs.List.{slice_get}
-use Rattle.irs_base.specs.Listed.{IsRising}
-use Rattle.irs_base.specs.Members.{day_at}
-use Rattle.irs_base.specs.Order.{First}
-use Rattle.irs_base.specs.Faults.{IfStopped}
-use Rattle.irs_base.specs.Outcomes.{Meets}
+use Rattle.irs_base.specs.Lists.{IsRising, day_at}
+use Rattle.irs_base.specs.Outcomes.{First, IfStopped, Meets}
 use Rattle.irs_base.specs.declared.stopped.Stopped.{Stopped}
 use Rattle.irs_base.specs.declared.stopped.Stopped.TheVariants.{Broken as OfBroken, Memory as OfMemory}
 use Rattle.irs_base.proofs.Rising.{member_after}
-use Rattle.irs_resets.specs.ResetDates.{IsPeriod}
+use Rattle.irs_resets.specs.Resets.{IsPeriod}
 use Rattle.irs_resets.specs.Rates.{RateTable}
 use Rattle.irs_resets.specs.declared.observed.PeriodKind.{PeriodKind}
 use Rattle.irs_resets.proofs.KindLaws.{one_kind}
-use Rattle.irs_observed.specs.DailyRates.{daily_rates}
-use Rattle.irs_observed.specs.ObservationRules.{LacksObservations, reported_before}
-use Rattle.irs_observed.specs.Private.Outcomes.{rate_at_of, rate_over_of}
-use Rattle.irs_observed.specs.OvernightRates.{HasBounds, IsKindIn}
-use Rattle.irs_observed.specs.OvernightRates.{LacksAt, OvernightSource, period_of, source_periods, printed_at}
-use Rattle.irs_observed.specs.OvernightRates.{printed_of}
-use Rattle.irs_observed.specs.RateOrigins.{HasOwnRate, StatesRate}
+use Rattle.irs_observed.specs.ObservedRates.{daily_rates}
+use Rattle.irs_observed.specs.Observations.{LacksObservations, reported_before}
+use Rattle.irs_observed.specs.Private.OvernightRates.{rate_at_of, rate_over_of}
+use Rattle.irs_observed.specs.OvernightRates.{HasBounds, IsKindIn, LacksAt, OvernightSource, period_of, source_periods}
+use Rattle.irs_observed.specs.OvernightRates.{printed_at, printed_of, HasOwnRate, StatesRate}
 use Rattle.irs_observed.specs.declared.observation.NoObservations.{NoObservations}
 use Rattle.irs_observed.specs.declared.observation.NoObservations.TheVariants.{FewMembers, NoDay}
 use Rattle.irs_observed.specs.declared.overnight_rate.OvernightRate.{OvernightRate}

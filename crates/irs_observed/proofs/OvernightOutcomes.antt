@@ -4,11 +4,9 @@ use Rattle.std.proofs.Common.{refl, sym, subst, ◌∙◌, ap, ap₂, arith}
 use Rattle.std.specs.Prelude.{if◌then◌else◌, nat_lt, pos, ◌<ℤ◌, slice_get}
 use Rattle.std.proofs.lemmas.Bool.{cases_lt}
 use Rattle.irs_base.specs.Days.{IsDay}
-use Rattle.irs_base.specs.Members.{Every}
-use Rattle.irs_base.specs.Order.{First, IsFirst, comes_before, earlier}
+use Rattle.irs_base.specs.Lists.{Every}
+use Rattle.irs_base.specs.Outcomes.{First, IsFirst, comes_before, earlier, IfStopped, Determined, Meets}
 use Rattle.irs_base.specs.Private.Order.{IsDecided}
-use Rattle.irs_base.specs.Faults.{IfStopped}
-use Rattle.irs_base.specs.Outcomes.{Determined, Meets}
 use Rattle.irs_base.specs.declared.stopped.Stopped.{Stopped}
 use Rattle.irs_base.specs.declared.stopped.Stopped.TheVariants.{Broken as OfBroken, Memory as OfMemory}
 use Rattle.irs_base.specs.declared.places.Fault.{Fault}
@@ -17,28 +15,24 @@ use Rattle.irs_base.proofs.FaultOrder.{fault_order, one_fault}
 use Rattle.irs_base.proofs.Firsts.{first_or, lt_false}
 use Rattle.irs_base.proofs.MemberLemmas.{numbered_get, numbered_has, numbered_map, numbered_there, one_numbered}
 use Rattle.irs_base.proofs.Outcomes.{unless_broken_determined}
-use Rattle.irs_terms.specs.DayTypes.{IsSaidReset}
-use Rattle.irs_terms.specs.Legs.{FitsLeg}
+use Rattle.irs_terms.specs.Centers.{IsSaidReset}
+use Rattle.irs_terms.specs.Lawful.{FitsLeg}
 use Rattle.irs_terms.specs.declared.amounts.FloatTerms.{FloatTerms}
 use Rattle.irs_terms.specs.declared.amounts.Leg.{Leg}
 use Rattle.irs_terms.specs.declared.amounts.Leg.TheVariants.{Fixed, Floating}
 use Rattle.irs_terms.specs.declared.dates.ResetTerms.{ResetTerms}
 use Rattle.irs_terms.specs.declared.results.Reset.{Reset}
 use Rattle.irs_resets.specs.Rates.{RateTable}
-use Rattle.irs_resets.specs.ResetRules.{BreaksResets}
-use Rattle.irs_resets.specs.Resets.{HasResets, IsReset, IsResetsOf, ResetSource, source_period_count}
+use Rattle.irs_resets.specs.Resets.{BreaksResets, HasResets, IsReset, IsResetsOf, ResetSource, source_period_count}
+use Rattle.irs_resets.specs.Resets.{resets_of}
 use Rattle.irs_resets.proofs.DateLemmas.{one_dates}
 use Rattle.irs_resets.proofs.DatedResets.{dates_dated}
 use Rattle.irs_resets.proofs.ResetsThere.{BrokenOrNone, InDays, resets_decided, resets_there}
-use Rattle.irs_observed.specs.Outcomes.{overnight_resets_of}
-use Rattle.irs_observed.specs.OvernightRates.{AreOvernightRates, BreaksObservations, IsOvernightRate, LacksAt}
-use Rattle.irs_observed.specs.OvernightRates.{OvernightSource, observation_fault, source_periods}
-use Rattle.irs_observed.specs.OvernightResets.{AreOvernightResets, BreaksOvernight, DailySource}
-use Rattle.irs_observed.specs.Private.OvernightResets.{ArePrinted}
-use Rattle.irs_observed.specs.OvernightResets.{HasOvernightResets, HasOvernightResetsBy, IsOvernightReset}
-use Rattle.irs_observed.specs.Private.OvernightResets.{IsPrintedRow, with_dates}
-use Rattle.irs_resets.specs.Outcomes.{resets_of}
-use Rattle.irs_observed.specs.Private.OvernightWalk.{NoneLacks}
+use Rattle.irs_observed.specs.OvernightRates.{overnight_resets_of, AreOvernightRates, BreaksObservations}
+use Rattle.irs_observed.specs.OvernightRates.{IsOvernightRate, LacksAt, OvernightSource, observation_fault}
+use Rattle.irs_observed.specs.OvernightRates.{source_periods, AreOvernightResets, BreaksOvernight, DailySource}
+use Rattle.irs_observed.specs.OvernightRates.{HasOvernightResets, HasOvernightResetsBy, IsOvernightReset}
+use Rattle.irs_observed.specs.Private.OvernightRates.{ArePrinted, IsPrintedRow, with_dates, NoneLacks}
 use Rattle.irs_observed.specs.declared.daily_resets.OvernightResets.{OvernightResets}
 use Rattle.irs_observed.specs.declared.observation.NoObservations.TheVariants.{FewMembers, NoDay}
 use Rattle.irs_observed.specs.ObservedRates.{RateFraction}

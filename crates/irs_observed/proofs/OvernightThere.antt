@@ -4,30 +4,25 @@ use Rattle.std.proofs.Common.{◌+ℤ◌, ◌-ℤ◌, ◌*ℤ◌, ◌<ℤ◌, re
 use Rattle.std.specs.Prelude.{unsigned_abs}
 use Rattle.std.proofs.lemmas.Bool.{cases_lt}
 use Rattle.jiff_core.proofs.SignedLemmas.{signed_arith}
-use Rattle.irs_base.specs.Listed.{IsRising, Member}
-use Rattle.irs_base.specs.Members.{EachNumbered}
-use Rattle.irs_base.specs.Order.{First}
+use Rattle.irs_base.specs.Lists.{IsRising, Member, EachNumbered}
+use Rattle.irs_base.specs.Outcomes.{First, Determined, answered, refused}
 use Rattle.irs_base.specs.Private.Order.{IsDecided}
-use Rattle.irs_base.specs.Outcomes.{Determined, answered, refused}
 use Rattle.irs_base.proofs.RoundingLaws.{nearest_exists}
 use Rattle.irs_terms.specs.declared.parameters.ObservationOffset.{ObservationOffset}
 use Rattle.irs_calendar.specs.GoodDays.{DaySet}
-use Rattle.irs_resets.specs.ResetDates.{IsPeriod}
+use Rattle.irs_resets.specs.Resets.{IsPeriod}
 use Rattle.irs_resets.specs.Rates.{RateTable}
 use Rattle.irs_resets.specs.declared.observed.PeriodKind.{PeriodKind}
 use Rattle.irs_resets.proofs.KindLaws.{kind_there, one_kind}
-use Rattle.irs_observed.specs.DailyRates.{AreKnown, DailyRates, Through, daily_rates}
-use Rattle.irs_observed.specs.Factors.{FactorPasses, Grows, Precision, Reaches, one_factor, unit_rate}
-use Rattle.irs_observed.specs.ObservationPeriods.{ObservedPeriod}
-use Rattle.irs_observed.specs.ObservationRules.{LacksObservations, reported_before, uncovered}
+use Rattle.irs_observed.specs.ObservedRates.{AreKnown, DailyRates, Through, daily_rates, FactorPasses, Grows, Precision}
+use Rattle.irs_observed.specs.ObservedRates.{Reaches, one_factor, unit_rate, AddsBy, RateFraction, IsAveraged}
+use Rattle.irs_observed.specs.ObservedRates.{IsCompounded, IsObservedRate, days_of_year, rate_precision}
+use Rattle.irs_observed.specs.Observations.{ObservedPeriod, LacksObservations, reported_before, uncovered}
 use Rattle.irs_observed.specs.Observations.{AreObservations, IsObservation, lockout_days, total_weight}
-use Rattle.irs_observed.specs.ObservedRates.{AddsBy, RateFraction, IsAveraged, IsCompounded, IsObservedRate}
-use Rattle.irs_observed.specs.ObservedRates.{days_of_year, rate_precision}
-use Rattle.irs_observed.specs.Outcomes.{observations_of}
-use Rattle.irs_observed.specs.OvernightRates.{IsKindIn, IsOvernightRate, IsRateBy, IsRateOf, IsRateOver, LacksAt}
-use Rattle.irs_observed.specs.OvernightRates.{OvernightSource, period_of, source_periods}
-use Rattle.irs_observed.specs.RateOrigins.{HasOwnRate, StatesRate}
-use Rattle.irs_observed.specs.Private.RateOrigins.{own_rate_of}
+use Rattle.irs_observed.specs.OvernightRates.{observations_of, IsKindIn, IsOvernightRate, IsRateBy, IsRateOf}
+use Rattle.irs_observed.specs.OvernightRates.{IsRateOver, LacksAt, OvernightSource, period_of, source_periods}
+use Rattle.irs_observed.specs.OvernightRates.{HasOwnRate, StatesRate}
+use Rattle.irs_observed.specs.Private.OvernightRates.{own_rate_of}
 use Rattle.irs_observed.specs.declared.method.DailyRateMethod.{DailyRateMethod}
 use Rattle.irs_observed.specs.declared.method.DailyRateMethod.TheVariants.{Compounding, Averaging}
 use Rattle.irs_observed.specs.declared.method.YearDays.{YearDays}

@@ -3,7 +3,7 @@ use Rattle.std.proofs.Common.{◌≡◌, ℕ, zero, suc, ℤ, pos, neg_ℤ, ◌-
 use Rattle.jiff_core.proofs.SignedLemmas.{signed_arith}
 use Rattle.irs_calendar.specs.GoodDays.{DaySet}
 use Rattle.irs_adjust.proofs.OffsetLaws.{one_moved}
-use Rattle.irs_observed.specs.ObservationPeriods.{IsObservationPeriod, ObservedPeriod, Shifts, back}
+use Rattle.irs_observed.specs.Observations.{IsObservationPeriod, ObservedPeriod, Shifts, back}
 use Rattle.irs_terms.specs.declared.parameters.ObservationOffset.{ObservationOffset}
 use Rattle.irs_terms.specs.declared.parameters.ObservationOffset.TheVariants.{Absent, Shift, Lookback, Lockout}
 

@@ -1,7 +1,7 @@
 -- The rate of a period by a fraction is one, and the function gives it.
 use Rattle.std.proofs.Common.{◌≡◌, ◌-◌, ◌^◌, ℤ, pos, ◌+ℤ◌, ◌*ℤ◌, ◌<ℤ◌, refl, ap, ◌∙◌}
 use Rattle.irs_base.proofs.RoundingLaws.{rounded_is, rounded_value}
-use Rattle.irs_base.specs.Rounding.{rounded}
+use Rattle.irs_base.specs.Limits.{rounded}
 use Rattle.irs_terms.specs.declared.amounts.Rounding.{Rounding}
 use Rattle.irs_observed.specs.ObservedRates.{RateFraction, IsPeriodRate, period_rate_at}
 use Rattle.irs_observed.proofs.SizeLemmas.{units_above}

@@ -4,18 +4,15 @@ use Rattle.std.proofs.Common.{◌*ℤ◌, ◌≤ℤ◌, sym, subst, ◌∙◌, a
 use Rattle.std.proofs.Math.Nat.{mul-le-mul_left}
 use borrow.Author.Differences.{up, down}
 use Rattle.jiff_core.proofs.SignedLemmas.{signed_arith}
-use Rattle.irs_base.specs.Members.{Every}
-use Rattle.irs_base.specs.Rounding.{Rounded}
+use Rattle.irs_base.specs.Lists.{Every}
+use Rattle.irs_base.specs.Limits.{Rounded}
 use Rattle.irs_base.specs.declared.rounding.Direction.TheVariants.{Nearest}
 use Rattle.irs_base.proofs.RoundingLaws.{nearest_once}
-use Rattle.irs_observed.specs.DailyRates.{DailyRates, Through}
-use Rattle.irs_observed.specs.Factors.{Grows, one_factor, unit_rate}
-use Rattle.irs_observed.specs.ObservedRates.{AddsBy, RateFraction, IsAveraged, IsCompounded, IsObservedRate}
-use Rattle.irs_observed.specs.ObservedRates.{IsPrintedRate}
-use Rattle.irs_observed.specs.ObservedRates.{days_of_year}
-use Rattle.irs_observed.specs.ObservedRates.{rate_precision}
+use Rattle.irs_observed.specs.ObservedRates.{DailyRates, Through, Grows, one_factor, unit_rate, AddsBy, RateFraction}
+use Rattle.irs_observed.specs.ObservedRates.{IsAveraged, IsCompounded, IsObservedRate, IsPrintedRate, days_of_year}
+use Rattle.irs_observed.specs.ObservedRates.{rate_precision, EachRate, NotAbove, NotBelow, OneGivesItself}
+use Rattle.irs_observed.specs.ObservedRates.{ZeroGivesZero}
 use Rattle.irs_observed.specs.Observations.{total_weight}
-use Rattle.irs_observed.specs.RateLaws.{EachRate, NotAbove, NotBelow, OneGivesItself, ZeroGivesZero}
 use Rattle.irs_observed.specs.declared.method.DailyRateMethod.{DailyRateMethod}
 use Rattle.irs_observed.specs.declared.method.DailyRateMethod.TheVariants.{Compounding, Averaging}
 use Rattle.irs_observed.specs.declared.method.YearDays.{YearDays}

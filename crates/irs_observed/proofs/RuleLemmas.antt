@@ -1,22 +1,20 @@
 -- Why a calculation period has observations, or why it has none.
 use Rattle.std.proofs.Common.{◌≡◌, ℕ, ◌<◌, ◌≤◌, List, length, ℤ, refl, sym, subst, arith, ap, Bool, false, IsTrue}
-use Rattle.irs_base.specs.Members.{day_at}
-use Rattle.irs_base.specs.Faults.{IfStopped}
-use Rattle.irs_base.specs.Order.{First}
+use Rattle.irs_base.specs.Lists.{day_at}
+use Rattle.irs_base.specs.Outcomes.{IfStopped, First}
 use Rattle.irs_base.specs.declared.stopped.Stopped.{Stopped}
 use Rattle.irs_base.specs.declared.stopped.Stopped.TheVariants.{Broken as OfBroken, Memory as OfMemory}
 use Rattle.irs_calendar.specs.GoodDays.{DaySet}
-use Rattle.irs_observed.specs.ObservationPeriods.{IsObservationPeriod, ObservedPeriod}
-use Rattle.irs_observed.specs.ObservationRules.{HasFewMembers, LacksObservations, LacksObservedDay, no_period}
-use Rattle.irs_observed.specs.ObservationRules.{reported_before, uncovered, unobserved}
-use Rattle.irs_observed.specs.Observations.{AreObserved, ObservesOn, lockout_days, place_observed}
-use Rattle.irs_observed.specs.PeriodMembers.{AreMembers, IsPeriodMember, LeavesCover}
+use Rattle.irs_observed.specs.Observations.{IsObservationPeriod, ObservedPeriod, HasFewMembers, LacksObservations}
+use Rattle.irs_observed.specs.Observations.{LacksObservedDay, no_period, reported_before, uncovered, unobserved}
+use Rattle.irs_observed.specs.Observations.{AreObserved, ObservesOn, lockout_days, place_observed, AreMembers}
+use Rattle.irs_observed.specs.Observations.{IsPeriodMember, LeavesCover}
 use Rattle.irs_observed.specs.declared.observation.NoObservations.{NoObservations}
 use Rattle.irs_observed.specs.declared.observation.NoObservations.TheVariants.{FewMembers, NoDay}
 use Rattle.irs_observed.proofs.MemberLemmas.{one_members}
 use Rattle.irs_observed.proofs.PeriodLemmas.{one_end, one_start}
 use Rattle.irs_base.proofs.MemberLemmas.{numbered_has}
-use Rattle.irs_observed.specs.Private.ObservationWalk.{IsWalk, good_at}
+use Rattle.irs_observed.specs.Private.OvernightRates.{IsWalk, good_at}
 use Rattle.irs_observed.specs.declared.observation.Observation.{Observation}
 use Rattle.irs_terms.specs.declared.parameters.ObservationOffset.{ObservationOffset}
 use Rattle.irs_terms.specs.declared.parameters.ObservationOffset.TheVariants.{Absent, Shift, Lookback, Lockout}

@@ -4,22 +4,18 @@ use Rattle.std.proofs.Common.{ℤ, pos, ◌-ℤ◌, ◌+ℤ◌, ◌<ℤ◌, ◌�
 use Rattle.std.specs.Prelude.{get_or, int_lt, if◌then◌else◌}
 use Rattle.std.proofs.lemmas.List.{take_more, take_all}
 use Rattle.jiff_core.proofs.SignedLemmas.{signed_arith}
-use Rattle.irs_base.specs.Members.{Every, EachNumbered, day_at}
+use Rattle.irs_base.specs.Lists.{Every, EachNumbered, day_at}
 use Rattle.irs_calendar.specs.GoodDays.{DaySet}
-use Rattle.irs_observed.specs.DailyRates.{DailyRates}
-use Rattle.irs_observed.specs.ObservationPeriods.{ObservedPeriod, Shifts}
-use Rattle.irs_observed.specs.Observations.{AreObservations, HasWeights, IsObservation, total_weight}
-use Rattle.irs_observed.specs.OvernightRates.{IsRateBy}
-use Rattle.irs_observed.specs.RunningRates.{AddsUpUntil, IsRateBefore, IsRateUntil}
-use Rattle.irs_observed.specs.Private.RunningRates.{BeginsBefore}
-use Rattle.irs_observed.specs.RunningRates.{ends_by, observed_until}
-use Rattle.irs_observed.specs.ObservedRates.{RateFraction}
+use Rattle.irs_observed.specs.ObservedRates.{DailyRates, RateFraction}
+use Rattle.irs_observed.specs.Observations.{ObservedPeriod, Shifts, AreObservations, HasWeights, IsObservation}
+use Rattle.irs_observed.specs.Observations.{total_weight, IsPeriodMember, member_or_end}
+use Rattle.irs_observed.specs.OvernightRates.{IsRateBy, AddsUpUntil, IsRateBefore, IsRateUntil, ends_by, observed_until}
+use Rattle.irs_observed.specs.Private.OvernightRates.{BeginsBefore}
 use Rattle.irs_observed.specs.declared.method.DailyRateMethod.{DailyRateMethod}
 use Rattle.irs_observed.specs.declared.method.DailyRateMethod.TheVariants.{Compounding, Averaging}
 use Rattle.irs_observed.specs.declared.observation.Observation.{Observation}
 use Rattle.irs_observed.specs.declared.overnight_rate.OvernightRate.{OvernightRate}
 use Rattle.irs_observed.specs.declared.overnight_rate.OvernightRate.TheVariants.{Known, Absent}
-use Rattle.irs_observed.specs.PeriodMembers.{IsPeriodMember, member_or_end}
 use Rattle.irs_terms.specs.declared.parameters.ObservationOffset.{ObservationOffset}
 use Rattle.irs_base.proofs.Decided.{order_of}
 use Rattle.irs_observed.proofs.ListLemmas.{at_or_end, member_place, past_end, rises_to}

@@ -4,7 +4,7 @@ use Rattle.std.proofs.Common.{ap, arith, unsigned_abs}
 use Rattle.std.proofs.Math.Nat.{mul-le-mul}
 use Rattle.std.proofs.lemmas.Nat.{pow-add}
 use Rattle.jiff_core.proofs.SignedLemmas.{signed_arith}
-use Rattle.irs_base.specs.Rounding.{Rounded}
+use Rattle.irs_base.specs.Limits.{Rounded}
 use Rattle.irs_base.specs.declared.rounding.Direction.{Direction}
 use Rattle.irs_base.proofs.RoundingLaws.{rounded_size}
 use Rattle.irs_terms.specs.declared.amounts.Rounding.{Rounding}

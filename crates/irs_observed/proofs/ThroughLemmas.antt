@@ -3,8 +3,8 @@ use Rattle.std.proofs.Common.{◌≡◌, ℕ, zero, suc, ◌+◌, ◌<◌, ◌�
 use Rattle.std.proofs.Common.{ℤ, refl, sym, subst, ◌∙◌, ap, arith}
 use Rattle.std.specs.Prelude.{get_or}
 use Rattle.std.proofs.lemmas.List.{take_more, take_all}
-use Rattle.irs_base.specs.Members.{Every}
-use Rattle.irs_observed.specs.DailyRates.{AreKnown, DailyRates, Through}
+use Rattle.irs_base.specs.Lists.{Every}
+use Rattle.irs_observed.specs.ObservedRates.{AreKnown, DailyRates, Through}
 use Rattle.irs_observed.specs.Observations.{total_weight}
 use Rattle.irs_observed.specs.declared.observation.Observation.{Observation}
 

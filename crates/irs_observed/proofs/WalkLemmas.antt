@@ -3,15 +3,14 @@ use Rattle.std.proofs.Common.{◌≡◌, inl, inr, ℕ, zero, suc, ◌+◌, ◌-
 use Rattle.std.proofs.Common.{refl, sym, subst, ap, arith, add-one, Option, Some, None, IfSome, IfNone, false, ◌==◌}
 use Rattle.std.proofs.lemmas.Bool.Decides.{nat_tests}
 use Rattle.jiff_core.proofs.SignedLemmas.{signed_arith}
-use Rattle.irs_base.specs.Members.{day_at}
+use Rattle.irs_base.specs.Lists.{day_at}
 use Rattle.irs_base.proofs.Decided.{order_of}
 use Rattle.irs_calendar.specs.GoodDays.{DaySet, InCover, IsGood, Prev}
 use Rattle.irs_adjust.specs.ConventionLaws.{one_prev, prev_stays}
 use Rattle.irs_adjust.specs.declared.ways.Way.TheVariants.{Back}
 use Rattle.irs_adjust.proofs.WayLemmas.{Reached, moved, reached_more, reached_none}
-use Rattle.irs_observed.specs.ObservationPeriods.{MovesBack}
-use Rattle.irs_observed.specs.Private.ObservationWalk.{IsWalk, LooksBack, good_at}
-use Rattle.irs_observed.specs.PeriodMembers.{AreMembers, IsPeriodMember, LeavesCover}
+use Rattle.irs_observed.specs.Observations.{MovesBack, AreMembers, IsPeriodMember, LeavesCover}
+use Rattle.irs_observed.specs.Private.OvernightRates.{IsWalk, LooksBack, good_at}
 use Rattle.irs_observed.proofs.ListLemmas.{at_member, at_or_end, first_lowest, member_place, none_between}
 use Rattle.irs_observed.proofs.ListLemmas.{rises_to}
 use Rattle.irs_observed.proofs.MemberLemmas.{covered_day}

@@ -2,12 +2,11 @@
 use Rattle.std.proofs.Common.{◌≡◌, ℕ, ◌+◌, ◌<◌, List, [], ◌∷◌, length, ℤ, pos, ◌+ℤ◌, ◌<ℤ◌, sym, subst, arith}
 use Rattle.jiff_core.proofs.SignedLemmas.{signed_arith}
 use Rattle.irs_base.specs.Days.{IsDay}
-use Rattle.irs_base.specs.Members.{EachNumbered, Every, day_at}
+use Rattle.irs_base.specs.Lists.{EachNumbered, Every, day_at}
 use Rattle.irs_calendar.specs.GoodDays.{DaySet}
-use Rattle.irs_observed.specs.ObservationPeriods.{IsObservationPeriod, ObservedPeriod}
-use Rattle.irs_observed.specs.Private.ObservationWalk.{IsWalk}
-use Rattle.irs_observed.specs.Observations.{AddsUp, AreObserved, HasWeights, IsObservation, total_weight}
-use Rattle.irs_observed.specs.PeriodMembers.{member_or_end}
+use Rattle.irs_observed.specs.Observations.{IsObservationPeriod, ObservedPeriod, AddsUp, AreObserved, HasWeights}
+use Rattle.irs_observed.specs.Observations.{IsObservation, total_weight, member_or_end}
+use Rattle.irs_observed.specs.Private.OvernightRates.{IsWalk}
 use Rattle.irs_observed.specs.declared.observation.Observation.{Observation}
 use Rattle.irs_terms.specs.declared.parameters.ObservationOffset.{ObservationOffset}
 use Rattle.irs_observed.proofs.ListLemmas.{at_or_end, past_end}

@@ -1,14 +1,4 @@
-pub mod ObservationPeriods
-pub mod PeriodMembers
 pub mod Observations
-pub mod ObservationRules
-pub mod DailyRates
-pub mod Factors
 pub mod ObservedRates
-pub mod RateLaws
-pub mod RateOrigins
 pub mod OvernightRates
-pub mod OvernightResets
-pub mod RunningRates
-pub mod Outcomes
 pub mod Private

@@ -1,34 +1,41 @@
--- The observed rates of the calculation periods of a stream with calculation parameters. Periods count from 1.
-use Rattle.std.specs.Prelude.{◌≡◌, ◌⊎◌, ℕ, ◌-◌, ◌^◌, ◌<◌, List, length, Option, Some, None, option_and_then, slice_get, ℤ, pos, ◌*ℤ◌}
+-- The observed rates and the resets of a stream with calculation parameters.
+use Rattle.std.specs.Prelude.{◌≡◌, ℤ, Option, None, IsSome, ◌⊎◌, ℕ, ◌-◌, ◌^◌, ◌<◌, List, length, Some, option_and_then}
+use Rattle.std.specs.Prelude.{slice_get, pos, ◌*ℤ◌, min, [], ◌∷◌, if◌then◌else◌, int_lt, ◌+ℤ◌, ◌-ℤ◌, ◌<ℤ◌, ◌≤ℤ◌}
+use Rattle.std.specs.Prelude.{unsigned_abs, ◌*◌, ◌≤◌, IfSome}
 use Rattle.irs_base.specs.Elements.{calculation_parameters}
-use Rattle.irs_base.specs.Faults.{fault_at}
-use Rattle.irs_base.specs.Members.{EachNumbered, day_at}
+use Rattle.irs_base.specs.Outcomes.{fault_at, comes_before, Spec, unless_broken}
+use Rattle.irs_base.specs.Lists.{EachNumbered, day_at}
 use Rattle.irs_base.specs.declared.places.Fault.{Fault}
 use Rattle.irs_base.specs.declared.places.Rule.TheVariants.{K33, K48}
-use Rattle.irs_base.specs.Rounding.{rounded}
+use Rattle.irs_base.specs.Limits.{rounded}
 use Rattle.irs_base.specs.declared.rounding.Direction.TheVariants.{Nearest}
-use Rattle.irs_terms.specs.Lawful.{IsRate}
 use Rattle.irs_terms.specs.declared.amounts.FloatTerms.{FloatTerms}
+use Rattle.irs_terms.specs.declared.amounts.StubRate.TheVariants.{Fixed}
+use Rattle.irs_terms.specs.declared.amounts.StubTerms.{StubTerms}
+use Rattle.irs_terms.specs.Lawful.{IsRate}
 use Rattle.irs_terms.specs.declared.results.Span.{Span}
 use Rattle.irs_terms.specs.declared.stream.Stream.{Stream}
 use Rattle.irs_terms.specs.declared.codes.DayCountCode.{DayCountCode}
-use Rattle.irs_terms.specs.declared.codes.DayCountCode.TheVariants.{OneOne, ActActIsda, Act365Fixed, Act360}
-use Rattle.irs_terms.specs.declared.codes.DayCountCode.TheVariants.{Thirty360, ThirtyE360, ThirtyE360Isda}
+use Rattle.irs_terms.specs.declared.codes.DayCountCode.TheVariants.{OneOne, ActActIsda, Act365Fixed, Act360, Thirty360}
+use Rattle.irs_terms.specs.declared.codes.DayCountCode.TheVariants.{ThirtyE360, ThirtyE360Isda}
 use Rattle.irs_terms.specs.declared.parameters.CalculationMethod.{CalculationMethod}
-use Rattle.irs_terms.specs.declared.parameters.CalculationMethod.TheVariants.{Compounding as Compounds, Averaging as Averages}
+use Rattle.irs_terms.specs.declared.parameters.CalculationMethod.TheVariants.{Compounding as Compounds}
+use Rattle.irs_terms.specs.declared.parameters.CalculationMethod.TheVariants.{Averaging as Averages}
 use Rattle.irs_terms.specs.declared.parameters.CalculationParameters.{CalculationParameters}
 use Rattle.irs_terms.specs.declared.parameters.ObservationOffset.{ObservationOffset}
+use Rattle.irs_terms.specs.declared.dates.ResetTerms.{ResetTerms}
+use Rattle.irs_terms.specs.declared.results.Reset.{Reset}
 use Rattle.irs_calendar.specs.GoodDays.{DaySet}
-use Rattle.irs_resets.specs.Rates.{RateTable}
-use Rattle.irs_resets.specs.ObservedRates.{IsPeriodKind}
-use Rattle.irs_resets.specs.ResetDates.{IsPeriod}
+use Rattle.irs_resets.specs.Rates.{GivesStub, RateTable, IsPeriodKind}
 use Rattle.irs_resets.specs.declared.observed.PeriodKind.{PeriodKind}
-use Rattle.irs_observed.specs.DailyRates.{AreKnown, DailyRates, daily_rates}
-use Rattle.irs_observed.specs.ObservationPeriods.{ObservedPeriod, observed_period}
-use Rattle.irs_observed.specs.ObservationRules.{LacksObservations}
-use Rattle.irs_observed.specs.Observations.{AreObservations, total_weight}
-use Rattle.irs_observed.specs.ObservedRates.{RateFraction, IsBounded, IsObservedRate, PassesLimit}
-use Rattle.irs_observed.specs.RateOrigins.{HasOwnRate, StatesRate}
+use Rattle.irs_resets.specs.declared.observed.PeriodKind.TheVariants.{FirstRegular}
+use Rattle.irs_resets.specs.Resets.{IsPeriod, ResetDays, IsDates, BreaksResets, ResetSource, source_period_count}
+use Rattle.irs_observed.specs.declared.origin.RateOrigin.{RateOrigin}
+use Rattle.irs_observed.specs.declared.origin.RateOrigin.TheVariants.{StubRate, InitialRate, Fixing}
+use Rattle.irs_observed.specs.ObservedRates.{AreKnown, DailyRates, daily_rates, RateFraction, IsBounded, IsObservedRate}
+use Rattle.irs_observed.specs.ObservedRates.{PassesLimit, most_observed, IsRateOrAbsent}
+use Rattle.irs_observed.specs.Observations.{ObservedPeriod, observed_period, LacksObservations, AreObservations}
+use Rattle.irs_observed.specs.Observations.{total_weight, IsObservationPeriod, reported_before}
 use Rattle.irs_observed.specs.declared.method.DailyRateMethod.{DailyRateMethod}
 use Rattle.irs_observed.specs.declared.method.DailyRateMethod.TheVariants.{Compounding, Averaging}
 use Rattle.irs_observed.specs.declared.method.YearDays.{YearDays}
@@ -38,6 +45,36 @@ use Rattle.irs_observed.specs.declared.observation.NoObservations.TheVariants.{F
 use Rattle.irs_observed.specs.declared.observation.Observation.{Observation}
 use Rattle.irs_observed.specs.declared.overnight_rate.OvernightRate.{OvernightRate}
 use Rattle.irs_observed.specs.declared.overnight_rate.OvernightRate.TheVariants.{Stated, Known, Absent, OutOfRange}
+use Rattle.irs_observed.specs.declared.daily_resets.OvernightResets.{OvernightResets}
+use Rattle.irs_observed.specs.declared.rates.FactorOutOfRange.{FactorOutOfRange}
+use Rattle.irs_observed.specs.declared.origin.RateOrigin.TheVariants as rate_origin
+
+-- ---- where the observed rate of a calculation period comes from
+
+-- this rate is stated for the stub that the period is
+abbrev pub StatesRate : PeriodKind → Option StubTerms → ℤ → Type 0
+StatesRate kind stubs rate = GivesStub kind stubs (Fixed rate)
+
+-- the period is a stub with a rate of its own
+abbrev pub HasOwnRate : PeriodKind → Option StubTerms → Type 0
+HasOwnRate kind stubs = (rate : ℤ) × StatesRate kind stubs rate
+
+-- the period is the first regular one, and an initial rate is given
+abbrev pub HasInitialRate : PeriodKind → FloatTerms → Type 0
+HasInitialRate kind float = (kind ≡ FirstRegular) × IsSome float.initial_rate
+
+-- where the observed rate of a period of that kind comes from. A stub's own rate takes precedence. Every
+-- other rate of a stream with calculation parameters is by daily rates
+abbrev pub IsOrigin : PeriodKind → FloatTerms → Option StubTerms → RateOrigin → Type 0
+IsOrigin kind float stubs StubRate = HasOwnRate kind stubs
+IsOrigin kind float stubs InitialRate =
+    (HasOwnRate kind stubs → ⊥) × (float.parameters ≡ None) × HasInitialRate kind float
+IsOrigin kind float stubs Fixing =
+    (HasOwnRate kind stubs → ⊥) × (float.parameters ≡ None) × (HasInitialRate kind float → ⊥)
+IsOrigin kind float stubs rate_origin.DailyRates = (HasOwnRate kind stubs → ⊥) × IsSome float.parameters
+
+-- ---- the observed rates of the calculation periods of a stream with calculation parameters
+-- Periods count from 1.
 
 -- ---- one rate
 
@@ -169,3 +206,110 @@ pub record BreaksObservations (source : OvernightSource) (f : Fault) : Type 0 wh
   pub why : NoObservations
   pub lacks : LacksAt source number why
   pub is : f ≡ observation_fault why number
+
+-- ---- the rate of a calculation period up to a day of it: by the daily rates of the members before that day
+
+-- the observation of a member before b: its rate applies up to the next member, and no longer than to b
+abbrev pub ends_by : ℤ → Observation → Observation
+ends_by b o = record { day = o.day; weight = min o.weight (unsigned_abs (b -ℤ o.day)); observed = o.observed }
+
+-- the observations of the members before b, the last of them up to b. Each keeps its observation day
+abbrev pub observed_until : ℤ → List Observation → List Observation
+observed_until b [] = []
+observed_until b (o ∷ os) = if int_lt o.day b then ends_by b o ∷ observed_until b os else observed_until b os
+
+-- the observations of a calculation period, which lacks none
+abbrev pub HasObservations : ObservedPeriod → List Observation → Type 0
+HasObservations p os = ((why : NoObservations) → LacksObservations p why → ⊥) × AreObservations p os
+
+-- r is the rate by the daily rates of the members before b, of which there is one. The members and their observation
+-- days are those of the whole period, so a lockout is that of its last days
+pub record IsRateUntil (method : DailyRateMethod) (daily : DailyRates) (p : ObservedPeriod) (b : ℤ) (r : OvernightRate)
+    : Type 0 where
+  pub observations : List Observation
+  pub has : HasObservations p observations
+  pub some : 0 < total_weight (observed_until b observations)
+  pub is_rate : IsRateBy method daily (observed_until b observations) r
+
+-- the same, or no rate where the period has no observations; no period of a schedule is without them (K33, K48)
+abbrev pub IsRateBefore : DailyRateMethod → DailyRates → ObservedPeriod → ℤ → OvernightRate → Type 0
+IsRateBefore method daily p b r =
+    IsRateUntil method daily p b r ⊎ ((why : NoObservations) × LacksObservations p why × (r ≡ Absent))
+
+-- the weights of the members before d add up to the days from the first day of the observation period to d
+abbrev pub AddsUpUntil : ObservedPeriod → ℤ → Type 0
+AddsUpUntil p d =
+    (os : List Observation) (a b : ℤ) → HasObservations p os → IsObservationPeriod p a b → a <ℤ d → d ≤ℤ b
+    → a +ℤ pos (total_weight (observed_until d os)) ≡ d
+
+-- ---- the resets of a stream with calculation parameters, and the rules that they break
+-- Periods count from 1.
+
+-- the inputs of the observed rates of the same stream
+abbrev pub rates_source : ResetSource → DaySet → FloatTerms → CalculationParameters → OvernightSource
+rates_source source applicable float parameters =
+    overnight_source source.stream source.span source.days.adjusted applicable float parameters
+
+-- the inputs of the resets of a stream with calculation parameters: those of the reset and fixing dates, and
+-- those of the observed rates
+pub record DailySource : Type 0 where
+  pub dates : ResetSource
+  pub rates : OvernightSource
+
+-- the same from its parts
+abbrev pub daily_source : ResetSource → DaySet → FloatTerms → CalculationParameters → DailySource
+daily_source source applicable float parameters =
+    record { dates = source; rates = rates_source source applicable float parameters }
+
+-- the rules of resets that are broken, and those of observations
+abbrev pub BreaksOvernight : DailySource → Fault → Type 0
+BreaksOvernight source f = BreaksResets source.dates f ⊎ BreaksObservations source.rates f
+
+-- the reset of period i by the terms t of its dates: the dates, and what is printed of its observed rate
+pub record IsOvernightReset (t : ResetTerms) (days : ResetDays) (rs : List OvernightRate) (i : ℕ) (row : Reset)
+    : Type 0 where
+  pub dates : IsDates t days i row.reset row.fixing
+  pub observed : row.observed ≡ printed_at rs i
+
+-- one reset for each period
+pub record HasOvernightResets (t : ResetTerms) (source : ResetSource) (rs : List OvernightRate) (rows : List Reset)
+    : Type 0 where
+  pub many : length rows ≡ source_period_count source
+  pub each : EachNumbered (IsOvernightReset t source.days rs) 1 rows
+
+-- the resets by the terms of their dates
+abbrev pub HasOvernightResetsBy : Option ResetTerms → ResetSource → List OvernightRate → List Reset → Type 0
+HasOvernightResetsBy None source rs rows = ⊥
+HasOvernightResetsBy (Some t) source rs rows = HasOvernightResets t source rs rows
+
+-- the observed rate of each period, not rounded, and the resets
+pub record AreOvernightResets (source : DailySource) (fixings : RateTable) (x : OvernightResets) : Type 0 where
+  pub rates : AreOvernightRates source.rates fixings x.rates
+  pub resets : HasOvernightResetsBy source.dates.stream.reset source.dates x.rates x.resets
+
+-- ---- rows
+
+-- an observed rate as it is printed keeps the bound of observed rates
+abbrev pub HasPrintedRate : Reset → Type 0
+HasPrintedRate row = IfSome row.observed (λ r. unsigned_abs r ≤ most_observed * 10 ^ 9)
+
+-- ---- what the calls of this crate answer, and what they refuse
+
+-- the observations of a calculation period, or the first reason why there are none
+abbrev pub observations_of : ObservedPeriod → Spec (List Observation) NoObservations
+observations_of p = unless_broken reported_before (LacksObservations p) (AreObservations p)
+
+-- the observed rate, absent where a daily rate is, or the refusal that a factor passes its limit
+abbrev pub observed_rate_of : DailyRateMethod → DailyRates → List Observation → Spec (Option RateFraction) FactorOutOfRange
+observed_rate_of method daily os = record {
+  Answers = λ x. (PassesLimit method daily os → ⊥) × IsRateOrAbsent method daily os x;
+  Refuses = λ _. PassesLimit method daily os;
+}
+
+-- the observed rates of a stream with calculation parameters, or the first K48, or else the first K33
+abbrev pub overnight_rates_of : OvernightSource → RateTable → Spec (List OvernightRate) Fault
+overnight_rates_of source rates = unless_broken comes_before (BreaksObservations source) (AreOvernightRates source rates)
+
+-- its resets with these rates, or the first of K37, K48, K33 and K38 that is broken
+abbrev pub overnight_resets_of : DailySource → RateTable → Spec OvernightResets Fault
+overnight_resets_of source rates = unless_broken comes_before (BreaksOvernight source) (AreOvernightResets source rates)

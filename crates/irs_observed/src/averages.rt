@@ -2,8 +2,7 @@
 ghost use Rattle.std.specs.Prelude.{◌≡◌, ◌+◌, ◌*◌, ◌^◌, ◌<◌, ◌≤◌, IfSome, IfNone, None, pos, ◌+ℤ◌, ◌*ℤ◌, unsigned_abs};
 ghost use Rattle.irs_base.specs.Days.{all_days};
 ghost use Rattle.irs_terms.specs.Lawful.{IsRate};
-ghost use Rattle.irs_observed.specs.DailyRates.{AreKnown, Through, rates_by};
-ghost use Rattle.irs_observed.specs.ObservedRates.{AddsBy};
+ghost use Rattle.irs_observed.specs.ObservedRates.{AreKnown, Through, rates_by, AddsBy};
 ghost use Rattle.irs_observed.specs.Observations.{HasWeights, total_weight};
 
 use crate::daily::daily_rate_near;

@@ -1,7 +1,7 @@
 //! The daily rates of an index.
 ghost use Rattle.std.specs.Prelude.{◌≡◌, ◌↔◌, IfSome, IsTrue};
 ghost use Rattle.irs_terms.specs.Lawful.{IsRate};
-ghost use Rattle.irs_observed.specs.DailyRates.{AreKnown, daily_rates, rates_by};
+ghost use Rattle.irs_observed.specs.ObservedRates.{AreKnown, daily_rates, rates_by};
 
 use crate::observation::Observation;
 use irs_base::{Day, Text};

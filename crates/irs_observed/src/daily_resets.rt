@@ -2,18 +2,16 @@
 //! Its reset dates and fixing dates are those of every floating stream. Its observed rates are those of
 //! daily rates.
 ghost use Rattle.std.specs.Prelude.{◌≡◌, ◌+◌, ◌*◌, ◌^◌, ◌<◌, ◌≤◌, length, All, IfOk, IfSome, unsigned_abs};
-ghost use Rattle.irs_base.specs.Listed.{IsRising};
+ghost use Rattle.irs_base.specs.Lists.{IsRising};
 ghost use Rattle.irs_base.specs.Outcomes.{Determined, Meets};
 ghost use Rattle.irs_terms.specs.declared.amounts.Leg.TheVariants.{Floating as OfFloating};
-ghost use Rattle.irs_terms.specs.DayTypes.{IsSaidReset};
-ghost use Rattle.irs_terms.specs.Lawful.{IsLawfulStream};
-ghost use Rattle.irs_terms.specs.Legs.{FitsLeg};
+ghost use Rattle.irs_terms.specs.Centers.{IsSaidReset};
+ghost use Rattle.irs_terms.specs.Lawful.{IsLawfulStream, FitsLeg};
 ghost use Rattle.irs_resets.specs.Resets.{source_of};
 ghost use Rattle.irs_observed.specs.ObservedRates.{most_observed};
-ghost use Rattle.irs_observed.specs.Outcomes.{overnight_resets_of};
-ghost use Rattle.irs_observed.specs.OvernightRates.{HasBounds, printed_at};
-ghost use Rattle.irs_observed.specs.OvernightResets.{HasPrintedRate, daily_source};
-ghost use Rattle.irs_observed.specs.Private.OvernightResets.{ArePrinted, IsPrintedRow, with_dates};
+ghost use Rattle.irs_observed.specs.OvernightRates.{overnight_resets_of, HasBounds, printed_at, HasPrintedRate};
+ghost use Rattle.irs_observed.specs.OvernightRates.{daily_source};
+ghost use Rattle.irs_observed.specs.Private.OvernightRates.{ArePrinted, IsPrintedRow, with_dates};
 
 use crate::order::earlier_fault;
 use crate::overnight_rate::{OvernightRate, OvernightRates};

@@ -3,12 +3,11 @@
 ghost use Rattle.std.specs.Prelude.{◌≡◌, ◌*◌, ◌^◌, ◌<◌, ◌≤◌, IfOk, IfErr, IfSome, IfNone, None, pos, ◌<ℤ◌};
 ghost use Rattle.std.specs.Prelude.{◌+ℤ◌, ◌*ℤ◌, unsigned_abs};
 ghost use Rattle.irs_base.specs.Days.{all_days};
-ghost use Rattle.irs_base.specs.Rounding.{Rounded};
+ghost use Rattle.irs_base.specs.Limits.{Rounded};
 ghost use Rattle.irs_base.specs.declared.rounding.Direction.TheVariants.{Nearest};
 ghost use Rattle.irs_terms.specs.Lawful.{IsRate};
-ghost use Rattle.irs_observed.specs.DailyRates.{AreKnown, rates_by};
-ghost use Rattle.irs_observed.specs.Factors.{FactorPasses, Grows, GrowsBy, one_factor, unit_rate};
-ghost use Rattle.irs_observed.specs.ObservedRates.{CompoundsPast, rate_precision};
+ghost use Rattle.irs_observed.specs.ObservedRates.{AreKnown, rates_by, FactorPasses, Grows, GrowsBy, one_factor};
+ghost use Rattle.irs_observed.specs.ObservedRates.{unit_rate, CompoundsPast, rate_precision};
 ghost use Rattle.irs_observed.specs.Observations.{HasWeights};
 
 use crate::daily::{are_known, daily_rate_near};

@@ -1,7 +1,7 @@
 //! The members of an observation period: its first day, and each business day after it.
 ghost use Rattle.std.specs.Prelude.{◌≡◌, ◌↔◌, ℤ, IsTrue, IfOk, IfSome, IfNone, pos, ◌<ℤ◌, ◌≤ℤ◌, ◌+ℤ◌};
 ghost use Rattle.irs_calendar.specs.GoodDays.{IsGood, Next};
-ghost use Rattle.irs_observed.specs.PeriodMembers.{AreMembers, LeavesCover};
+ghost use Rattle.irs_observed.specs.Observations.{AreMembers, LeavesCover};
 
 use irs_base::{Day, DayList, Memory, ahead};
 use irs_calendar::GoodDays;

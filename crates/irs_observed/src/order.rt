@@ -1,6 +1,6 @@
 //! Which of two broken rules of a stream is reported.
 ghost use Rattle.std.specs.Prelude.{◌≡◌, if◌then◌else◌};
-ghost use Rattle.irs_base.specs.Order.{comes_before, level, turn};
+ghost use Rattle.irs_base.specs.Outcomes.{comes_before, level, turn};
 
 use irs_base::{Fault, Rule};
 

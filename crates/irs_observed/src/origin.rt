@@ -6,8 +6,8 @@
 //! rate where one is given, and the others have a fixing.
 ghost use Rattle.std.specs.Prelude.{◌≡◌, IfNone, IfSome};
 ghost use Rattle.irs_terms.specs.Lawful.{IsLawfulStubRate, IsLawfulStubs, IsRate};
-ghost use Rattle.irs_observed.specs.RateOrigins.{HasOwnRate, IsOrigin, StatesRate};
-ghost use Rattle.irs_observed.specs.Private.RateOrigins.{own_of, own_rate_of};
+ghost use Rattle.irs_observed.specs.OvernightRates.{HasOwnRate, IsOrigin, StatesRate};
+ghost use Rattle.irs_observed.specs.Private.OvernightRates.{own_of, own_rate_of};
 
 use irs_resets::PeriodKind;
 use irs_terms::{FloatTerms, StubRate, StubTerms};

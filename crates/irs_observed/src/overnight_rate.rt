@@ -1,8 +1,7 @@
 //! The observed rate of a calculation period of a stream with calculation parameters.
 ghost use Rattle.std.specs.Prelude.{◌≡◌, ◌*◌, ◌^◌, ◌<◌, ◌≤◌, IfSome, unsigned_abs};
-ghost use Rattle.irs_observed.specs.ObservedRates.{most_observed};
+ghost use Rattle.irs_observed.specs.ObservedRates.{most_observed, daily_rates};
 ghost use Rattle.irs_observed.specs.OvernightRates.{HasBounds, IsRateBy, printed_of};
-ghost use Rattle.irs_observed.specs.DailyRates.{daily_rates};
 ghost use Rattle.irs_observed.specs.Observations.{total_weight};
 
 use crate::method::DailyRateMethod;

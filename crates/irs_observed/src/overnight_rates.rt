@@ -1,20 +1,17 @@
 //! The observed rates of the calculation periods of a stream with calculation parameters. A stub with a
 //! rate of its own has that rate, and every other period the rate of its daily rates.
 ghost use Rattle.std.specs.Prelude.{◌≡◌, ◌↔◌, ◌<◌, ◌^◌, ◌<ℤ◌, length, All, IfOk, IfSome, IsTrue, nat_lt};
-ghost use Rattle.irs_base.specs.Faults.{IfBroken};
-ghost use Rattle.irs_base.specs.Listed.{IsRising};
-ghost use Rattle.irs_base.specs.Members.{day_at};
-ghost use Rattle.irs_base.specs.Order.{First, IsFirst, comes_before};
-ghost use Rattle.irs_base.specs.Outcomes.{Meets};
+ghost use Rattle.irs_base.specs.Outcomes.{IfBroken, First, IsFirst, comes_before, Meets};
+ghost use Rattle.irs_base.specs.Lists.{IsRising, day_at};
 ghost use Rattle.irs_terms.specs.Lawful.{IsLawfulStubs};
-ghost use Rattle.irs_resets.specs.ResetDates.{IsPeriod};
-ghost use Rattle.irs_observed.specs.DailyRates.{daily_rates};
-ghost use Rattle.irs_observed.specs.ObservationPeriods.{observed_period};
-ghost use Rattle.irs_observed.specs.Outcomes.{overnight_rates_of};
-ghost use Rattle.irs_observed.specs.Private.Outcomes.{rate_at_of, rate_over_of};
-ghost use Rattle.irs_observed.specs.OvernightRates.{AreOvernightRates, BreaksObservations, HasBounds, LacksAt};
-ghost use Rattle.irs_observed.specs.OvernightRates.{method_by, observation_fault, overnight_source, year_by};
-ghost use Rattle.irs_observed.specs.Private.OvernightWalk.{HasFewAfter, NoneLacks, StopsAt, fault_by};
+ghost use Rattle.irs_resets.specs.Resets.{IsPeriod};
+ghost use Rattle.irs_observed.specs.ObservedRates.{daily_rates};
+ghost use Rattle.irs_observed.specs.Observations.{observed_period};
+ghost use Rattle.irs_observed.specs.OvernightRates.{overnight_rates_of, AreOvernightRates, BreaksObservations};
+ghost use Rattle.irs_observed.specs.OvernightRates.{HasBounds, LacksAt, method_by, observation_fault, overnight_source};
+ghost use Rattle.irs_observed.specs.OvernightRates.{year_by};
+ghost use Rattle.irs_observed.specs.Private.OvernightRates.{rate_at_of, rate_over_of, HasFewAfter, NoneLacks, StopsAt};
+ghost use Rattle.irs_observed.specs.Private.OvernightRates.{fault_by};
 ghost use Rattle.irs_observed.specs.declared.observation.NoObservations.TheVariants.{FewMembers as TooFew};
 
 use crate::method::{DailyRateMethod, YearDays};

@@ -1,6 +1,6 @@
 //! The observation period of a calculation period.
 ghost use Rattle.std.specs.Prelude.{◌<ℤ◌, ℤ, IfSome, IfNone};
-ghost use Rattle.irs_observed.specs.ObservationPeriods.{IsObservationPeriod, MovesBack, Shifts, observed_period};
+ghost use Rattle.irs_observed.specs.Observations.{IsObservationPeriod, MovesBack, Shifts, observed_period};
 
 use irs_adjust::move_by;
 use irs_base::Day;

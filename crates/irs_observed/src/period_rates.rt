@@ -1,12 +1,11 @@
 //! What a period pays by an observed rate: its multiplier times the rate, and its spread, rounded once.
 ghost use Rattle.std.specs.Prelude.{◌≡◌, ◌+◌, ◌*◌, ◌-◌, ◌^◌, ◌≤◌, pos, ◌<ℤ◌, ◌+ℤ◌, ◌*ℤ◌, unsigned_abs};
 ghost use Rattle.irs_base.specs.Days.{all_days};
-ghost use Rattle.irs_base.specs.Rounding.{Rounded};
+ghost use Rattle.irs_base.specs.Limits.{Rounded};
 ghost use Rattle.irs_base.specs.declared.rounding.Direction.TheVariants.{Nearest};
 ghost use Rattle.irs_terms.specs.Lawful.{IsRate};
 ghost use Rattle.irs_observed.specs.ObservedRates.{IsBounded, IsPeriodRate, IsPrintedRate, most_observed};
-ghost use Rattle.irs_observed.specs.ObservedRates.{most_period_rate};
-ghost use Rattle.irs_observed.specs.ObservedRates.{period_rate_at};
+ghost use Rattle.irs_observed.specs.ObservedRates.{most_period_rate, period_rate_at};
 ghost use Rattle.irs_observed.specs.OvernightRates.{printed_rate as printed_value};
 
 use crate::products::{product, ten_to};

@@ -1,6 +1,5 @@
 //! What holds of every observed rate.
-ghost use Rattle.irs_observed.specs.DailyRates.{daily_rates};
-ghost use Rattle.irs_observed.specs.RateLaws.{NotAbove, NotBelow, OneGivesItself, ZeroGivesZero};
+ghost use Rattle.irs_observed.specs.ObservedRates.{daily_rates, NotAbove, NotBelow, OneGivesItself, ZeroGivesZero};
 
 use crate::method::DailyRateMethod;
 use crate::observation::ObservationList;

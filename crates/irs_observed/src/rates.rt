@@ -3,12 +3,10 @@
 ghost use Rattle.std.specs.Prelude.{◌≡◌, ◌*◌, ◌^◌, ◌<◌, ◌≤◌, pos, ◌<ℤ◌, ◌-ℤ◌, ◌*ℤ◌, unsigned_abs};
 ghost use Rattle.irs_base.specs.Days.{all_days};
 ghost use Rattle.irs_base.specs.Outcomes.{MeetsExactly};
-ghost use Rattle.irs_observed.specs.DailyRates.{daily_rates, rates_by};
-ghost use Rattle.irs_observed.specs.Factors.{one_factor};
-ghost use Rattle.irs_observed.specs.ObservedRates.{RateFraction, IsBounded, IsRateOrAbsent, most_observed};
-ghost use Rattle.irs_observed.specs.ObservedRates.{rate_precision};
+ghost use Rattle.irs_observed.specs.ObservedRates.{daily_rates, rates_by, one_factor, RateFraction, IsBounded};
+ghost use Rattle.irs_observed.specs.ObservedRates.{IsRateOrAbsent, most_observed, rate_precision};
 ghost use Rattle.irs_observed.specs.Observations.{HasWeights, total_weight};
-ghost use Rattle.irs_observed.specs.Outcomes.{observed_rate_of};
+ghost use Rattle.irs_observed.specs.OvernightRates.{observed_rate_of};
 
 use crate::averages::summed;
 use crate::factors::{ONE_FACTOR, compounded};

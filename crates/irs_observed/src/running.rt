@@ -4,12 +4,11 @@
 //! The members and their observation days are those of the whole period. So the accrued interest is
 //! what the period would pay if its later days earned nothing. That is our rule.
 ghost use Rattle.std.specs.Prelude.{◌≡◌, ◌<◌, ◌<ℤ◌, ℤ, IfOk};
-ghost use Rattle.irs_observed.specs.DailyRates.{daily_rates};
-ghost use Rattle.irs_observed.specs.ObservationPeriods.{Shifts, observed_period};
-ghost use Rattle.irs_observed.specs.Observations.{total_weight};
-ghost use Rattle.irs_observed.specs.OvernightRates.{HasBounds, IsRateBy};
-ghost use Rattle.irs_observed.specs.RunningRates.{AddsUpUntil, IsRateBefore, ends_by, observed_until};
-ghost use Rattle.irs_observed.specs.Private.RunningRates.{BeginsBefore};
+ghost use Rattle.irs_observed.specs.ObservedRates.{daily_rates};
+ghost use Rattle.irs_observed.specs.Observations.{Shifts, observed_period, total_weight};
+ghost use Rattle.irs_observed.specs.OvernightRates.{HasBounds, IsRateBy, AddsUpUntil, IsRateBefore, ends_by};
+ghost use Rattle.irs_observed.specs.OvernightRates.{observed_until};
+ghost use Rattle.irs_observed.specs.Private.OvernightRates.{BeginsBefore};
 ghost use Rattle.irs_observed.specs.declared.overnight_rate.OvernightRate.{OvernightRate as ARate};
 
 use crate::members::days_ahead;

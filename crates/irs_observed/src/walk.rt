@@ -1,15 +1,12 @@
 //! The observations of a calculation period. From each member of the observation period a daily rate
 //! applies, up to the next member. It is the rate that is observed on the member's observation day.
 ghost use Rattle.std.specs.Prelude.{◌≡◌, ◌+◌, ◌<◌, ◌<ℤ◌, ℤ, [], length, IfOk, IfSome, IfNone};
-ghost use Rattle.irs_base.specs.Faults.{IfBroken};
-ghost use Rattle.irs_base.specs.Members.{day_at};
-ghost use Rattle.irs_base.specs.Outcomes.{Determined, Meets};
-ghost use Rattle.irs_observed.specs.ObservationPeriods.{observed_period};
-ghost use Rattle.irs_observed.specs.Observations.{AddsUp, AreObserved, IsObservation, ObservesOn, lockout_days};
-ghost use Rattle.irs_observed.specs.Observations.{place_observed};
-ghost use Rattle.irs_observed.specs.Private.ObservationWalk.{IsUnseen, IsWalk, LooksBack, good_at};
-ghost use Rattle.irs_observed.specs.Outcomes.{observations_of};
-ghost use Rattle.irs_observed.specs.PeriodMembers.{member_or_end};
+ghost use Rattle.irs_base.specs.Outcomes.{IfBroken, Determined, Meets};
+ghost use Rattle.irs_base.specs.Lists.{day_at};
+ghost use Rattle.irs_observed.specs.Observations.{observed_period, AddsUp, AreObserved, IsObservation, ObservesOn};
+ghost use Rattle.irs_observed.specs.Observations.{lockout_days, place_observed, member_or_end};
+ghost use Rattle.irs_observed.specs.Private.OvernightRates.{IsUnseen, IsWalk, LooksBack, good_at};
+ghost use Rattle.irs_observed.specs.OvernightRates.{observations_of};
 ghost use Rattle.irs_observed.specs.declared.observation.NoObservations.TheVariants.{NoDay as OfNoDay};
 
 use crate::members::{days_ahead, leaves_cover, members};

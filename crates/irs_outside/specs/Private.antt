@@ -1,3 +1,1 @@
 pub mod Outside
-pub mod MemFiles
-pub mod MemSinks

@@ -1,7 +1,7 @@
 //! Names and the bytes under them, in memory. Each name occurs once: adding a name again replaces
 //! its bytes.
 ghost use Rattle.std.specs.Prelude.{◌≡◌, ◌≢◌, ℕ, List, take, Some, None, IfOk, OnOk, OnErr, option_map};
-ghost use Rattle.irs_outside.specs.FileMaps.{bytes_under};
+ghost use Rattle.irs_outside.specs.Outside.{bytes_under};
 
 use irs_base::Memory;
 use std::alloc::{AllocError, Global};

@@ -2,10 +2,9 @@
 //! library.
 ghost use Rattle.std.specs.Prelude.{◌≡◌, ◌≢◌, ℕ, List, [], ◌∷◌, ◌++◌, take, Some, None, IfOk};
 ghost use Rattle.std.specs.Prelude.{IfSome, IsErrOf, OnOk, OnErr};
-ghost use Rattle.irs_outside.specs.Outside.{IsFrontUnder, Rose};
-ghost use Rattle.irs_outside.specs.Private.Outside.{next_count};
-ghost use Rattle.irs_outside.specs.MemFiles.{file_under, marked_calls, calls_so_far, faults_so_far, last_failed};
-ghost use Rattle.irs_outside.specs.Private.MemFiles.{IsMarked};
+ghost use Rattle.irs_outside.specs.Outside.{IsFrontUnder, Rose, file_under, marked_calls, calls_so_far, faults_so_far};
+ghost use Rattle.irs_outside.specs.Outside.{last_failed};
+ghost use Rattle.irs_outside.specs.Private.Outside.{next_count, IsMarked};
 
 use crate::file_map::FileMap;
 use crate::{FetchErr, Files};

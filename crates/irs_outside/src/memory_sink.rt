@@ -3,8 +3,7 @@
 ghost use Rattle.std.specs.Prelude.{◌≡◌, ◌+◌, ◌-◌, ◌<◌, ◌≤◌, [], ◌++◌, take, length, Some, None, IfOk};
 ghost use Rattle.std.specs.Prelude.{OnOk, OnErr};
 ghost use Rattle.irs_outside.specs.Outside.{Rose, GrewByFront};
-ghost use Rattle.irs_outside.specs.Private.Outside.{next_count};
-ghost use Rattle.irs_outside.specs.Private.MemSinks.{is_marked_at, IsMarkedPut};
+ghost use Rattle.irs_outside.specs.Private.Outside.{next_count, is_marked_at, IsMarkedPut};
 
 use crate::{PutFailed, Sink};
 use irs_base::Memory;
@@ -24,11 +23,11 @@ pub struct MemSink {
 // Clauses see what was written, the bytes that still fit, and the counts.
 impl Model for MemSink {
     ghost use Rattle.std.specs.Prelude.{◌≤◌, length};
-    ghost use Rattle.irs_outside.specs.MemSinks.{SinkSeen};
+    ghost use Rattle.irs_outside.specs.Outside.{SinkSeen};
 
     ghost Value = { SinkSeen };
 
-    ghost use Rattle.irs_outside.specs.MemSinkViews.{sink_seen};
+    ghost use Rattle.irs_outside.specs.Outside.{sink_seen};
 
     ghost view = { sink_seen };
 

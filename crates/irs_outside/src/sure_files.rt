@@ -1,7 +1,7 @@
 //! Files in memory that never fail: a file that isn't there reads as empty.
 ghost use Rattle.std.specs.Prelude.{◌≡◌, ◌≢◌, ℕ, ◌≤◌, List, [], length, take, Some, None, IfOk};
 ghost use Rattle.std.specs.Prelude.{IsErrOf, OnOk, OnErr};
-ghost use Rattle.irs_outside.specs.SureFiles.{sure_file};
+ghost use Rattle.irs_outside.specs.Outside.{sure_file};
 
 use crate::file_map::FileMap;
 use crate::{FetchErr, Files};

@@ -1,7 +1,6 @@
 //! A sink that never fails: it counts the bytes and keeps none of them.
 ghost use Rattle.std.specs.Prelude.{◌≡◌, ◌+◌, length, None, IsOk, min};
-ghost use Rattle.irs_outside.specs.SureSinks.{bytes_counted};
-ghost use Rattle.irs_outside.specs.Outside.{last_count};
+ghost use Rattle.irs_outside.specs.Outside.{bytes_counted, last_count};
 
 use crate::{PutFailed, Sink};
 

@@ -2,21 +2,17 @@
 use Rattle.std.proofs.Common.{◌≡◌, inl, inr, ℕ, ◌<◌, Bool, true, false, Some, None, refl, sym, subst, ◌∙◌}
 use Rattle.std.specs.Prelude.{nat_lt}
 use Rattle.std.proofs.lemmas.Bool.{cases_order}
-use Rattle.irs_base.specs.Faults.{fault_at}
-use Rattle.irs_base.specs.Order.{First, level}
-use Rattle.irs_base.specs.Rules.{rule_number}
+use Rattle.irs_base.specs.Outcomes.{fault_at, First, level, rule_number}
 use Rattle.irs_base.specs.declared.places.Fault.{Fault}
 use Rattle.irs_base.specs.declared.places.Rule.{Rule}
 use Rattle.irs_base.proofs.Firsts.{AreTied, false_lt, level_later, level_same, tied, tied_last}
 use Rattle.irs_base.proofs.RuleNumbers.{same_rule}
-use Rattle.irs_resets.specs.ResetDates.{IsPeriod}
-use Rattle.irs_overnight.specs.DailyPeriods.{derived_period_at}
-use Rattle.irs_overnight.specs.DerivedRules.{BreaksBasis, BreaksDerived, BreaksPeriod, FixingNotAfter, derived_before}
-use Rattle.irs_overnight.specs.DerivedRules.{derived_turn, no_basis, fixing_not_after_at, period_fault}
-use Rattle.irs_overnight.specs.FoundRates.{DailyPeriod, PeriodFails}
-use Rattle.irs_overnight.specs.Private.PeriodTurns.{FirstWay, NoneFails}
-use Rattle.irs_overnight.specs.DailySources.{DerivedSource}
-use Rattle.irs_overnight.specs.Sources.{basis_of}
+use Rattle.irs_resets.specs.Resets.{IsPeriod}
+use Rattle.irs_overnight.specs.Overnight.{derived_period_at, BreaksBasis, BreaksDerived, BreaksPeriod, FixingNotAfter}
+use Rattle.irs_overnight.specs.Overnight.{derived_before, derived_turn, no_basis, fixing_not_after_at, period_fault}
+use Rattle.irs_overnight.specs.Overnight.{DerivedSource}
+use Rattle.irs_overnight.specs.Observations.{DailyPeriod, PeriodFails, basis_of}
+use Rattle.irs_overnight.specs.Private.Bounds.{FirstWay, NoneFails}
 use Rattle.irs_overnight.specs.declared.periods.PeriodFault.{PeriodFault}
 use Rattle.irs_overnight.specs.declared.periods.PeriodFault.TheVariants.{NoDays, OutOfRange}
 use Rattle.irs_overnight.proofs.PeriodLemmas.{some_basis}

@@ -6,18 +6,14 @@ use Rattle.std.specs.Prelude.{get_or, unsigned_abs}
 use Rattle.std.proofs.lemmas.Bool.{cases_lt}
 use Rattle.std.proofs.lemmas.List.{take_more, take_all}
 use Rattle.jiff_core.proofs.SignedLemmas.{signed_arith}
-use Rattle.irs_base.specs.Limits.{most_rate}
-use Rattle.irs_base.specs.Rounding.{Rounded}
+use Rattle.irs_base.specs.Limits.{most_rate, Rounded}
 use Rattle.irs_base.specs.declared.rounding.Direction.TheVariants.{Nearest}
 use Rattle.irs_base.proofs.RoundingLaws.{nearest_once}
 use Rattle.irs_terms.specs.Lawful.{IsRate}
-use Rattle.irs_overnight.specs.Observations.{first_absent}
-use Rattle.irs_overnight.specs.Factors.{DerivedFactorPasses, DerivedGrows, DerivedGrowsBy, IsDerivedRate}
-use Rattle.irs_overnight.specs.Factors.{DerivedPassesLimit}
-use Rattle.irs_overnight.specs.Factors.{DerivedReaches}
-use Rattle.irs_overnight.specs.Factors.{most_factor}
-use Rattle.irs_observed.specs.Factors.{unit_rate}
-use Rattle.irs_overnight.specs.Factors.{derived_one}
+use Rattle.irs_overnight.specs.Observations.{first_absent, DerivedFactorPasses, DerivedGrows, DerivedGrowsBy}
+use Rattle.irs_overnight.specs.Observations.{IsDerivedRate, DerivedPassesLimit, DerivedReaches, most_factor}
+use Rattle.irs_overnight.specs.Observations.{derived_one}
+use Rattle.irs_observed.specs.ObservedRates.{unit_rate}
 use Rattle.irs_overnight.specs.declared.observations.Observation.{Observation}
 
 -- a year has days

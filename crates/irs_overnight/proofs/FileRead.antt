@@ -10,20 +10,16 @@ use Rattle.std.proofs.lemmas.Bool.Decides.{nat_tests}
 use Rattle.jiff_core.proofs.SignedLemmas.{signed_arith}
 use Rattle.irs_base.proofs.DecimalLemmas.{one_decimal}
 use Rattle.irs_base.specs.Days.{IsDay}
-use Rattle.irs_base.specs.Lines.{lines_of, with_byte}
-use Rattle.irs_base.specs.Texts.{day_text, dec_text}
-use Rattle.irs_calendar.specs.EndLines.{is_end_line, is_false_end, is_none, seen_from, seen_lines}
-use Rattle.irs_calendar.specs.Private.EndLines.{EndsTruly}
+use Rattle.irs_base.specs.Texts.{lines_of, with_byte, day_text, dec_text}
+use Rattle.irs_calendar.specs.Grammar.{is_end_line, is_false_end, is_none, seen_from, seen_lines}
+use Rattle.irs_calendar.specs.Private.Files.{EndsTruly}
 use Rattle.irs_calendar.proofs.EndLemmas.{truly_seen}
 use Rattle.irs_terms.specs.Lawful.{IsRate}
 use Rattle.irs_terms.specs.declared.frequency.Frequency.{Frequency}
-use Rattle.irs_resets.specs.FixingFiles.{Fixes, IsBad, IsFaulty, IsLine, Repeats, line_at}
-use Rattle.irs_resets.specs.FixingLines.{SpellsRate}
-use Rattle.irs_resets.specs.Words.{is_passed}
+use Rattle.irs_resets.specs.FixingFiles.{Fixes, IsBad, IsFaulty, IsLine, Repeats, line_at, SpellsRate, is_passed}
 use Rattle.irs_resets.specs.declared.store.Slot.{Slot}
 use Rattle.irs_resets.proofs.FileLemmas.{passed_none}
-use Rattle.irs_overnight.specs.FileLaw.{AreFixings, AreKept, HasRate, IsSmallFound, file_text}
-use Rattle.irs_overnight.specs.Reading.{IsLawfulLine}
+use Rattle.irs_overnight.specs.Texts.{AreFixings, AreKept, HasRate, IsSmallFound, file_text, IsLawfulLine}
 use Rattle.irs_overnight.specs.Texts.{derived_text_of, derived_row_fields, tenor_text}
 use Rattle.irs_overnight.specs.declared.derived.DerivedRow.{DerivedRow}
 use Rattle.irs_overnight.specs.declared.derived.Found.{Found}

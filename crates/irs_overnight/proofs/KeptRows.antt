@@ -6,19 +6,17 @@ use Rattle.std.proofs.lemmas.Option.{get_or_from_slice_get, slice_get_within}
 use Rattle.jiff_core.proofs.SignedLemmas.{signed_arith}
 use Rattle.irs_base.proofs.Decided.{order_of}
 use Rattle.irs_base.proofs.MemberLemmas.{numbered_get}
-use Rattle.irs_base.specs.Members.{Every}
+use Rattle.irs_base.specs.Lists.{Every}
 use Rattle.irs_terms.specs.Lawful.{IsLawfulFloat, IsLawfulLeg, IsLawfulStream}
 use Rattle.irs_terms.specs.declared.amounts.FloatTerms.{FloatTerms}
 use Rattle.irs_terms.specs.declared.results.Reset.{Reset}
-use Rattle.irs_resets.specs.ResetDates.{IsPeriod}
+use Rattle.irs_resets.specs.Resets.{IsPeriod}
 use Rattle.irs_schedule.specs.Parts.{KeepsBounds}
-use Rattle.irs_overnight.specs.DailySources.{fixing_at}
-use Rattle.irs_overnight.specs.DerivedRows.{IsDerivedRow}
-use Rattle.irs_overnight.specs.DerivedRules.{FixingNotAfter, fixing_not_after_at}
-use Rattle.irs_overnight.specs.FileLaw.{AreKept}
-use Rattle.irs_overnight.specs.Private.FileLaw.{IsInRange}
-use Rattle.irs_overnight.specs.Overnight.{OvernightAsked, IsAsked, IsOvernight, OvernightKept, RowsReadBack}
-use Rattle.irs_overnight.specs.Sources.{PaysFloating}
+use Rattle.irs_overnight.specs.Overnight.{fixing_at, IsDerivedRow, FixingNotAfter, fixing_not_after_at, OvernightAsked}
+use Rattle.irs_overnight.specs.Overnight.{IsAsked, IsOvernight, OvernightKept, RowsReadBack}
+use Rattle.irs_overnight.specs.Texts.{AreKept}
+use Rattle.irs_overnight.specs.Private.Bounds.{IsInRange}
+use Rattle.irs_overnight.specs.Observations.{PaysFloating}
 use Rattle.irs_overnight.specs.declared.derived.DerivedRow.{DerivedRow}
 use Rattle.irs_overnight.proofs.FileRead.{are_fixings}
 use Rattle.irs_overnight.proofs.SourceLemmas.{every_at, part_floats}

@@ -4,16 +4,12 @@ use Rattle.std.proofs.Common.{◌∙◌, arith, append_assoc}
 use Rattle.std.specs.Prelude.{get_or}
 use Rattle.std.proofs.lemmas.List.{take_all}
 use Rattle.irs_base.specs.Days.{IsDay}
-use Rattle.irs_base.specs.Fields.{is_space_or_tab}
-use Rattle.irs_base.specs.Texts.{day_text, dec_text}
+use Rattle.irs_base.specs.Texts.{is_space_or_tab, day_text, dec_text, without_gap}
 use Rattle.irs_terms.specs.Lawful.{IsLawfulIndex, IsRate}
 use Rattle.irs_terms.specs.declared.frequency.Frequency.{Frequency}
-use Rattle.irs_resets.specs.FixingLines.{SpellsRate}
-use Rattle.irs_base.specs.Fields.{without_gap}
-use Rattle.irs_resets.specs.Words.{behind_gap, behind_word, trimmed, word}
+use Rattle.irs_resets.specs.FixingFiles.{SpellsRate, behind_gap, behind_word, trimmed, word}
 use Rattle.irs_resets.proofs.WordLemmas.{trimmed_to}
-use Rattle.irs_overnight.specs.Reading.{IsLawfulLine, ReadsAsRow}
-use Rattle.irs_overnight.specs.Texts.{tenor_text}
+use Rattle.irs_overnight.specs.Texts.{IsLawfulLine, ReadsAsRow, tenor_text}
 use Rattle.irs_overnight.specs.declared.derived.DerivedRow.{DerivedRow}
 use Rattle.irs_overnight.specs.declared.derived.Found.{Found}
 use Rattle.irs_overnight.specs.declared.derived.Found.TheVariants.{Rate, Missing}

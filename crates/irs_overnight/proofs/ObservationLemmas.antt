@@ -3,14 +3,13 @@ use Rattle.std.proofs.Common.{◌≡◌, ℕ, zero, suc, ◌+◌, ◌<◌, List,
 use Rattle.std.proofs.Common.{sym, subst, ◌∙◌, arith, All, ◌++◌, length-append}
 use Rattle.std.specs.Prelude.{get_or}
 use Rattle.std.proofs.lemmas.List.Elements.{All-push}
-use Rattle.irs_base.specs.Members.{EachNumbered}
+use Rattle.irs_base.specs.Lists.{EachNumbered}
 use Rattle.irs_base.proofs.MemberLemmas.{numbered_push, one_numbered}
 use Rattle.irs_calendar.specs.GoodDays.{DaySet}
 use Rattle.irs_adjust.specs.ConventionLaws.{one_prev}
 use Rattle.irs_overnight.specs.Private.Bounds.{IsSmall}
 use Rattle.irs_overnight.specs.Observations.{AreRateObservations, AreRatesObserved, IsRateObservation, absent_or}
-use Rattle.irs_overnight.specs.Observations.{first_absent}
-use Rattle.irs_overnight.specs.Sources.{RateLines}
+use Rattle.irs_overnight.specs.Observations.{first_absent, RateLines}
 use Rattle.irs_overnight.specs.declared.observations.Observation.{Observation}
 use Rattle.irs_overnight.proofs.StartLemmas.{one_starts}
 

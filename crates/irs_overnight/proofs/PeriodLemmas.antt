@@ -5,12 +5,10 @@ use Rattle.jiff_core.proofs.SignedLemmas.{signed_arith}
 use Rattle.irs_terms.specs.declared.codes.DayCountCode.{DayCountCode}
 use Rattle.irs_terms.specs.declared.codes.DayCountCode.TheVariants.{OneOne, ActActIsda, Act365Fixed, Act360, Thirty360}
 use Rattle.irs_terms.specs.declared.codes.DayCountCode.TheVariants.{ThirtyE360, ThirtyE360Isda}
-use Rattle.irs_overnight.specs.Factors.{DerivedGrows, DerivedPassesLimit, derived_one}
-use Rattle.irs_overnight.specs.FoundRates.{DailyPeriod, FindsRate, IsFound, PassesRange}
-use Rattle.irs_overnight.specs.Private.PeriodTurns.{NoneFails}
-use Rattle.irs_overnight.specs.Observations.{AreRateObservations, first_absent}
-use Rattle.irs_overnight.specs.Sources.{basis_of}
-use Rattle.irs_overnight.specs.Starts.{LacksDays}
+use Rattle.irs_overnight.specs.Observations.{DerivedGrows, DerivedPassesLimit, derived_one, DailyPeriod, FindsRate}
+use Rattle.irs_overnight.specs.Observations.{IsFound, PassesRange, AreRateObservations, first_absent, basis_of}
+use Rattle.irs_overnight.specs.Observations.{LacksDays}
+use Rattle.irs_overnight.specs.Private.Bounds.{NoneFails}
 use Rattle.irs_overnight.specs.declared.derived.Found.{Found}
 use Rattle.irs_overnight.specs.declared.derived.Found.TheVariants.{Rate, Missing}
 use Rattle.irs_overnight.specs.declared.observations.Observation.{Observation}

@@ -7,8 +7,8 @@ use Rattle.std.proofs.lemmas.Bool.{cases_lt}
 use Rattle.std.proofs.lemmas.List.{take_all}
 use Rattle.jiff_core.proofs.SignedLemmas.{signed_arith}
 use Rattle.irs_base.specs.Days.{IsDay}
-use Rattle.irs_base.specs.Members.{EachNumbered, Pairs, day_at}
-use Rattle.irs_base.specs.Rounding.{Rounded}
+use Rattle.irs_base.specs.Lists.{EachNumbered, Pairs, day_at}
+use Rattle.irs_base.specs.Limits.{Rounded}
 use Rattle.irs_base.specs.declared.rounding.Direction.TheVariants.{Nearest}
 use Rattle.irs_base.proofs.Decided.{order_of}
 use Rattle.irs_base.proofs.RoundingLaws.{rounded_is}
@@ -18,14 +18,13 @@ use Rattle.irs_terms.specs.declared.parameters.ObservationOffset.TheVariants.{Ab
 use Rattle.irs_calendar.specs.GoodDays.{DaySet, IsGood, Prev}
 use Rattle.irs_adjust.specs.ConventionLaws.{one_prev, prev_stays}
 use Rattle.irs_resets.specs.Rates.{RateTable}
-use Rattle.irs_observed.specs.DailyRates.{DailyRates, daily_rates}
-use Rattle.irs_observed.specs.Factors.{Grows as GrowsFine, GrowsBy as GrowsFineBy, one_factor as one_fine}
-use Rattle.irs_observed.specs.ObservationPeriods.{observed_period}
-use Rattle.irs_observed.specs.Observations.{AreObserved as AreObservedFine, IsObservation as IsObserved, total_weight}
-use Rattle.irs_observed.specs.ObservedRates.{RateFraction, IsObservedRate, days_of_year, rate_precision}
+use Rattle.irs_observed.specs.ObservedRates.{DailyRates, daily_rates, Grows as GrowsFine, GrowsBy as GrowsFineBy}
+use Rattle.irs_observed.specs.ObservedRates.{one_factor as one_fine, RateFraction, IsObservedRate, days_of_year}
+use Rattle.irs_observed.specs.ObservedRates.{rate_precision, EachRate, unit_rate}
+use Rattle.irs_observed.specs.Observations.{observed_period, AreObserved as AreObservedFine}
+use Rattle.irs_observed.specs.Observations.{IsObservation as IsObserved, total_weight, AreMembers, IsPeriodMember}
+use Rattle.irs_observed.specs.Observations.{member_or_end}
 use Rattle.irs_observed.specs.OvernightRates.{IsOvernightRate, IsRateOver, OvernightSource, period_of, printed_rate}
-use Rattle.irs_observed.specs.PeriodMembers.{AreMembers, IsPeriodMember, member_or_end}
-use Rattle.irs_observed.specs.RateLaws.{EachRate}
 use Rattle.irs_observed.specs.declared.method.DailyRateMethod.{DailyRateMethod}
 use Rattle.irs_observed.specs.declared.method.DailyRateMethod.TheVariants.{Compounding}
 use Rattle.irs_observed.specs.declared.method.YearDays.{YearDays}
@@ -34,16 +33,10 @@ use Rattle.irs_observed.specs.declared.observation.Observation.{Observation as O
 use Rattle.irs_observed.specs.declared.overnight_rate.OvernightRate.TheVariants.{Known, Stated}
 use Rattle.irs_observed.proofs.ListLemmas.{at_or_end, member_place, past_end, rises_to}
 use Rattle.irs_observed.proofs.WalkLemmas.{first_member, good_later, good_member}
-use Rattle.irs_overnight.specs.DailyPeriods.{derived_period_at}
-use Rattle.irs_overnight.specs.DailySources.{DerivedSource}
-use Rattle.irs_overnight.specs.DerivedRows.{IsDerivedRow}
-use Rattle.irs_observed.specs.Factors.{unit_rate}
-use Rattle.irs_overnight.specs.Factors.{DerivedGrows, DerivedGrowsBy, derived_one}
-use Rattle.irs_overnight.specs.FoundRates.{FindsRate, derived_period}
+use Rattle.irs_overnight.specs.Overnight.{derived_period_at, DerivedSource, IsDerivedRow}
+use Rattle.irs_overnight.specs.Observations.{DerivedGrows, DerivedGrowsBy, derived_one, FindsRate, derived_period}
 use Rattle.irs_overnight.specs.Observations.{AreRateObservations, AreRatesObserved, IsRateObservation, next_start}
-use Rattle.irs_overnight.specs.Observations.{observed_on}
-use Rattle.irs_overnight.specs.Sources.{RateLines, daily_lines, rate_by}
-use Rattle.irs_overnight.specs.Starts.{AreStarts, Starts}
+use Rattle.irs_overnight.specs.Observations.{observed_on, RateLines, daily_lines, rate_by, AreStarts, Starts}
 use Rattle.irs_overnight.specs.TwoPrecisions.{AgreeAsPrinted, AgreeInStream, AgreeUnrounded, AreNear, CompoundedPeriod}
 use Rattle.irs_overnight.specs.TwoPrecisions.{StartsBeforeItEnds, IsObservedIn, IsOneStream, StaysLow}
 use Rattle.irs_overnight.specs.TwoPrecisions.{compounded_period}

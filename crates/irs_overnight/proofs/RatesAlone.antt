@@ -1,6 +1,6 @@
 -- Rates that are compounded from a table of rates, and their rules, depend on it by its rates alone.
 use Rattle.std.proofs.Common.{◌≡◌, inl, inr, ℕ, ◌-◌, List, Option, Some, ℤ, ◌-ℤ◌, refl, sym, ◌∙◌, ap, subst}
-use Rattle.irs_base.specs.Members.{day_at}
+use Rattle.irs_base.specs.Lists.{day_at}
 use Rattle.irs_base.specs.declared.places.Broken.{Broken}
 use Rattle.irs_base.specs.declared.places.Fault.{Fault}
 use Rattle.irs_base.proofs.MemberLemmas.{numbered_map}
@@ -9,14 +9,12 @@ use Rattle.irs_calendar.specs.GoodDays.{DaySet}
 use Rattle.irs_resets.specs.Rates.{RateTable, rate_at}
 use Rattle.irs_resets.specs.declared.store.Slot.{Slot}
 use Rattle.irs_schedule.specs.Parts.{Part}
-use Rattle.irs_overnight.specs.DailySources.{DerivedSource, derived_source}
-use Rattle.irs_overnight.specs.DerivedRows.{AreDerived, IsDerivedRow}
-use Rattle.irs_overnight.specs.DerivedRules.{BreaksDerived}
-use Rattle.irs_overnight.specs.FoundRates.{FindsRate, PeriodFails, derived_period}
-use Rattle.irs_overnight.specs.Observations.{AreRateObservations, IsRateObservation, next_start, observed_on}
+use Rattle.irs_overnight.specs.Overnight.{DerivedSource, derived_source, AreDerived, IsDerivedRow, BreaksDerived}
 use Rattle.irs_overnight.specs.Overnight.{BreaksDerivedRule, IsFirstDerived, IsOvernight, OvernightKept, asked}
-use Rattle.irs_observed.specs.DailyRates.{one_day}
-use Rattle.irs_overnight.specs.Sources.{RateLines, daily_lines, rate_by}
+use Rattle.irs_overnight.specs.Observations.{FindsRate, PeriodFails, derived_period, AreRateObservations}
+use Rattle.irs_overnight.specs.Observations.{IsRateObservation, next_start, observed_on, RateLines, daily_lines}
+use Rattle.irs_overnight.specs.Observations.{rate_by}
+use Rattle.irs_observed.specs.ObservedRates.{one_day}
 use Rattle.irs_overnight.specs.declared.derived.DerivedRow.{DerivedRow}
 use Rattle.irs_overnight.specs.declared.derived.Found.{Found}
 use Rattle.irs_overnight.specs.declared.observations.Observation.{Observation}

@@ -5,18 +5,15 @@ use Rattle.std.specs.Prelude.{get_or}
 use Rattle.std.proofs.lemmas.Bool.{cases_lt}
 use Rattle.std.proofs.lemmas.Option.{slice_get-get_or}
 use Rattle.jiff_core.proofs.SignedLemmas.{signed_arith}
-use Rattle.irs_base.specs.Members.{day_at}
+use Rattle.irs_base.specs.Lists.{day_at}
 use Rattle.irs_base.proofs.MemberLemmas.{one_numbered}
 use Rattle.irs_terms.specs.declared.results.Reset.{Reset}
-use Rattle.irs_resets.specs.ResetDates.{IsPeriod}
+use Rattle.irs_resets.specs.Resets.{IsPeriod}
 use Rattle.irs_schedule.specs.RowsOf.{no_reset}
-use Rattle.irs_overnight.specs.DerivedRules.{FixingNotAfter}
+use Rattle.irs_overnight.specs.Overnight.{FixingNotAfter, derived_period_at, AreDerived, IsDerivedRow, DerivedSource}
 use Rattle.irs_schedule.specs.Parts.{Rises}
 use Rattle.irs_schedule.proofs.PeriodLemmas.{next_day}
-use Rattle.irs_overnight.specs.DailyPeriods.{derived_period_at}
-use Rattle.irs_overnight.specs.DerivedRows.{AreDerived, IsDerivedRow}
-use Rattle.irs_overnight.specs.FoundRates.{FindsRate}
-use Rattle.irs_overnight.specs.DailySources.{DerivedSource}
+use Rattle.irs_overnight.specs.Observations.{FindsRate}
 use Rattle.irs_overnight.specs.declared.derived.DerivedRow.{DerivedRow}
 use Rattle.irs_overnight.specs.declared.derived.Found.{Found}
 use Rattle.irs_overnight.proofs.PeriodLemmas.{basis_range, one_found, some_basis}

@@ -3,14 +3,10 @@ use Rattle.std.proofs.Common.{◌≡◌, inl, inr, ℕ, ◌<◌, List, [], ◌�
 use Rattle.std.proofs.lemmas.Bool.{cases_lt}
 use Rattle.irs_base.specs.Limits.{most_rate}
 use Rattle.irs_base.specs.declared.places.Fault.{Fault}
-use Rattle.irs_overnight.specs.DailyPeriods.{derived_period_at}
-use Rattle.irs_overnight.specs.DailySources.{DerivedSource}
-use Rattle.irs_overnight.specs.DerivedRows.{IsDerivedRow}
-use Rattle.irs_overnight.specs.DerivedRules.{BreaksDerived, period_fault}
-use Rattle.irs_overnight.specs.Factors.{DerivedGrows, IsDerivedRate, derived_one}
-use Rattle.irs_overnight.specs.FileLaw.{IsSmallFound}
-use Rattle.irs_overnight.specs.FoundRates.{DailyPeriod, FindsRate, PassesRange}
-use Rattle.irs_overnight.specs.Observations.{first_absent}
+use Rattle.irs_overnight.specs.Overnight.{derived_period_at, DerivedSource, IsDerivedRow, BreaksDerived, period_fault}
+use Rattle.irs_overnight.specs.Observations.{DerivedGrows, IsDerivedRate, derived_one, DailyPeriod, FindsRate}
+use Rattle.irs_overnight.specs.Observations.{PassesRange, first_absent}
+use Rattle.irs_overnight.specs.Texts.{IsSmallFound}
 use Rattle.irs_overnight.specs.declared.derived.DerivedRow.{DerivedRow}
 use Rattle.irs_overnight.specs.declared.derived.Found.{Found}
 use Rattle.irs_overnight.specs.declared.derived.Found.TheVariants.{Rate, Missing}

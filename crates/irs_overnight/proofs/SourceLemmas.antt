@@ -3,9 +3,8 @@ use Rattle.std.proofs.Common.{◌≡◌, ℕ, zero, suc, ◌-◌, ◌<◌, ◌�
 use Rattle.std.proofs.Common.{sym, subst, ◌∙◌, ap, arith}
 use Rattle.std.specs.Prelude.{get_or, slice_get}
 use Rattle.std.proofs.lemmas.Option.{slice_get_within, slice_get-get_or}
-use Rattle.irs_base.specs.Members.{Every, Pairs}
-use Rattle.irs_base.specs.Order.{First}
-use Rattle.irs_base.specs.Faults.{in_stream}
+use Rattle.irs_base.specs.Lists.{Every, Pairs}
+use Rattle.irs_base.specs.Outcomes.{First, in_stream}
 use Rattle.irs_base.specs.declared.places.Broken.{Broken}
 use Rattle.irs_base.specs.declared.places.Fault.{Fault}
 use Rattle.irs_base.proofs.Firsts.{one_first}
@@ -16,17 +15,13 @@ use Rattle.irs_terms.specs.declared.parameters.CalculationParameters.{Calculatio
 use Rattle.irs_terms.specs.declared.stream.Stream.{Stream}
 use Rattle.irs_terms.specs.declared.stream_list.Swap.{Swap}
 use Rattle.irs_schedule.specs.DaySets.{stream_sets}
-use Rattle.irs_schedule.specs.KeptTerms.{is_floating}
-use Rattle.irs_schedule.specs.Parts.{KeepsBounds, Part, Rises}
+use Rattle.irs_schedule.specs.Parts.{is_floating, KeepsBounds, Part, Rises}
 use Rattle.irs_schedule.specs.Schedules.{IsPart}
-use Rattle.irs_overnight.specs.DerivedRows.{AreDerived}
-use Rattle.irs_overnight.specs.DerivedRules.{BreaksDerived, derived_before}
-use Rattle.irs_overnight.specs.Overnight.{OvernightAsked, BreaksDerivedRule, HasSource, IsAsked, IsFirstDerived}
-use Rattle.irs_overnight.specs.Overnight.{IsOvernight}
-use Rattle.irs_overnight.specs.Overnight.{OvernightKept}
-use Rattle.irs_overnight.specs.DailySources.{DerivedSource, derived_source}
+use Rattle.irs_overnight.specs.Overnight.{AreDerived, BreaksDerived, derived_before, OvernightAsked, BreaksDerivedRule}
+use Rattle.irs_overnight.specs.Overnight.{HasSource, IsAsked, IsFirstDerived, IsOvernight, OvernightKept, DerivedSource}
+use Rattle.irs_overnight.specs.Overnight.{derived_source}
 use Rattle.irs_terms.specs.declared.step_list.StepValues.{StepValues}
-use Rattle.irs_overnight.specs.Sources.{Floats, PaysFloating}
+use Rattle.irs_overnight.specs.Observations.{Floats, PaysFloating}
 use Rattle.irs_overnight.specs.declared.derived.DerivedRow.{DerivedRow}
 use Rattle.irs_overnight.proofs.DerivedOrder.{derived_ties}
 use Rattle.irs_overnight.proofs.RowLemmas.{one_derived}

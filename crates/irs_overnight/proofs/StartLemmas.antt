@@ -2,12 +2,12 @@
 use Rattle.std.proofs.Common.{◌≡◌, inl, inr, ℕ, ◌+◌, ◌≤◌, List, [], ◌∷◌, ◌++◌, ℤ, pos, ◌+ℤ◌, ◌-ℤ◌, ◌<ℤ◌, ◌≤ℤ◌, sym}
 use Rattle.std.proofs.Common.{subst, arith, Bool, false, IsTrue}
 use Rattle.jiff_core.proofs.SignedLemmas.{signed_arith}
-use Rattle.irs_base.specs.Listed.{Member}
+use Rattle.irs_base.specs.Lists.{Member}
 use Rattle.irs_base.proofs.Decided.{order_of}
 use Rattle.irs_base.proofs.Rising.{member_cases, member_new, member_old, one_rising, rising_push}
 use Rattle.irs_calendar.specs.GoodDays.{DaySet, IsGood}
-use Rattle.irs_observed.specs.PeriodMembers.{LeavesCover}
-use Rattle.irs_overnight.specs.Starts.{AreStarts}
+use Rattle.irs_observed.specs.Observations.{LeavesCover}
+use Rattle.irs_overnight.specs.Observations.{AreStarts}
 
 -- what is false isn't true
 pub is_not : (b : Bool) → b ≡ false → IsTrue b → ⊥

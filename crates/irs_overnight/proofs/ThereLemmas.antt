@@ -3,28 +3,23 @@ use Rattle.std.proofs.Common.{◌≡◌, inl, inr, ℕ, zero, suc, ◌+◌, ◌-
 use Rattle.std.proofs.Common.{Some, None, ℤ, pos, ◌+ℤ◌, ◌-ℤ◌, ◌*ℤ◌, ◌<ℤ◌, ◌≤ℤ◌, refl, sym, subst, arith}
 use Rattle.std.specs.Prelude.{unsigned_abs}
 use Rattle.jiff_core.proofs.SignedLemmas.{signed_arith}
-use Rattle.irs_base.specs.Members.{Every, day_at}
+use Rattle.irs_base.specs.Lists.{Every, day_at}
 use Rattle.irs_base.specs.declared.places.Fault.{Fault}
 use Rattle.irs_base.proofs.MemberLemmas.{numbered_there}
 use Rattle.irs_base.proofs.RoundingLaws.{nearest_exists}
 use Rattle.irs_calendar.specs.GoodDays.{DaySet, InCover}
 use Rattle.irs_adjust.proofs.FoundDays.{decides_good, decides_in_cover, decides_prev}
-use Rattle.irs_resets.specs.ResetDates.{IsPeriod}
+use Rattle.irs_resets.specs.Resets.{IsPeriod}
 use Rattle.irs_resets.proofs.FileLemmas.{some_rate}
 use Rattle.irs_schedule.specs.Parts.{KeepsBounds, Rises}
-use Rattle.irs_overnight.specs.DailyPeriods.{derived_period_at}
-use Rattle.irs_overnight.specs.DailySources.{DerivedSource, derived_source, fixing_at}
-use Rattle.irs_overnight.specs.DerivedRows.{AreDerived, IsDerivedRow}
-use Rattle.irs_overnight.specs.DerivedRules.{BreaksDerived, no_basis, period_fault}
-use Rattle.irs_observed.specs.Factors.{unit_rate}
-use Rattle.irs_overnight.specs.Factors.{DerivedGrows, derived_one}
-use Rattle.irs_overnight.specs.FoundRates.{DailyPeriod, FindsRate, IsFound}
+use Rattle.irs_overnight.specs.Overnight.{derived_period_at, DerivedSource, derived_source, fixing_at, AreDerived}
+use Rattle.irs_overnight.specs.Overnight.{IsDerivedRow, BreaksDerived, no_basis, period_fault, OvernightAsked}
+use Rattle.irs_overnight.specs.Overnight.{HasSource, IsAsked, IsOvernight, OvernightKept}
+use Rattle.irs_observed.specs.ObservedRates.{unit_rate}
+use Rattle.irs_overnight.specs.Observations.{DerivedGrows, derived_one, DailyPeriod, FindsRate, IsFound}
 use Rattle.irs_overnight.specs.Observations.{AreRateObservations, AreRatesObserved, IsRateObservation, first_absent}
-use Rattle.irs_overnight.specs.Observations.{next_start}
-use Rattle.irs_overnight.specs.Observations.{observed_on}
-use Rattle.irs_overnight.specs.Overnight.{OvernightAsked, HasSource, IsAsked, IsOvernight, OvernightKept}
-use Rattle.irs_overnight.specs.Sources.{RateLines, basis_of, rate_by}
-use Rattle.irs_overnight.specs.Starts.{AreStarts, LacksDays}
+use Rattle.irs_overnight.specs.Observations.{next_start, observed_on, RateLines, basis_of, rate_by, AreStarts}
+use Rattle.irs_overnight.specs.Observations.{LacksDays}
 use Rattle.irs_overnight.specs.declared.derived.DerivedRow.{DerivedRow}
 use Rattle.irs_overnight.specs.declared.derived.Found.{Found}
 use Rattle.irs_overnight.specs.declared.derived.Found.TheVariants.{Rate, Missing}

@@ -9,18 +9,15 @@ use Rattle.irs_base.proofs.PlainDates.{plain_is}
 use Rattle.irs_base.proofs.TextLemmas.{length_digit_row, with_point}
 use Rattle.irs_base.proofs.VisibleTexts.{Visible, digits_behind, digits_visible, not_none, places_visible, plain}
 use Rattle.irs_base.proofs.VisibleTexts.{row_digits, row_spells, spells_decimal, visible_append}
-use Rattle.irs_base.specs.Dates.{date_at}
-use Rattle.irs_base.specs.Days.{IsDay}
-use Rattle.irs_base.specs.Decimals.{DecText, bare, minus, IsUnsigned, number_after, number_of}
-use Rattle.irs_base.specs.Fields.{is_space_or_tab}
+use Rattle.irs_base.specs.Texts.{date_at, DecText, bare, minus, IsUnsigned, number_after, number_of, is_space_or_tab}
 use Rattle.irs_base.specs.Texts.{day_text, dec_text, digit_row, unsigned_dec}
+use Rattle.irs_base.specs.Days.{IsDay}
 use Rattle.irs_terms.specs.Lawful.{IsLawfulTenor, IsRate}
 use Rattle.irs_terms.specs.declared.frequency.Frequency.{Frequency}
 use Rattle.irs_terms.specs.declared.frequency.Unit.{Unit as FrequencyUnit}
 use Rattle.irs_terms.specs.declared.frequency.Unit.TheVariants.{D, W, M, Y, T}
-use Rattle.irs_resets.specs.Tenors.{digit_at, first_digit, tenor_at, tens, three_digits, two_digit_number as pair_at}
-use Rattle.irs_resets.specs.Tenors.{unit_of_letter}
-use Rattle.irs_resets.specs.Tenors.{with_unit}
+use Rattle.irs_resets.specs.FixingFiles.{digit_at, first_digit, tenor_at, tens, three_digits}
+use Rattle.irs_resets.specs.FixingFiles.{two_digit_number as pair_at, unit_of_letter, with_unit}
 use Rattle.irs_overnight.specs.Texts.{tenor_text, unit_text}
 
 -- a byte above the space is no white space

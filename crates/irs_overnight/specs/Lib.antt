@@ -1,15 +1,5 @@
-pub mod Sources
-pub mod DailySources
-pub mod Starts
 pub mod Observations
-pub mod Factors
-pub mod FoundRates
-pub mod DailyPeriods
-pub mod DerivedRules
-pub mod DerivedRows
-pub mod Texts
-pub mod Reading
-pub mod FileLaw
-pub mod TwoPrecisions
 pub mod Overnight
+pub mod Texts
+pub mod TwoPrecisions
 pub mod Private

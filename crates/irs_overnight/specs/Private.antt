@@ -1,3 +1,1 @@
-pub mod FileLaw
 pub mod Bounds
-pub mod PeriodTurns

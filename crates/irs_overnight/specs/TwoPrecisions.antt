@@ -2,27 +2,21 @@
 -- factors of 15.
 use Rattle.std.specs.Prelude.{◌≡◌, ℕ, ◌-◌, ◌*◌, ◌^◌, ◌<◌, ◌≤◌, List, Some, ℤ, pos, ◌-ℤ◌, ◌*ℤ◌, ◌≤ℤ◌, ◌<ℤ◌, unsigned_abs}
 use Rattle.irs_base.specs.Days.{IsDay}
-use Rattle.irs_base.specs.Members.{day_at}
+use Rattle.irs_base.specs.Lists.{day_at}
 use Rattle.irs_terms.specs.declared.parameters.ObservationOffset.TheVariants.{Absent}
 use Rattle.irs_calendar.specs.GoodDays.{DaySet}
 use Rattle.irs_resets.specs.Rates.{RateTable}
-use Rattle.irs_observed.specs.DailyRates.{daily_rates}
-use Rattle.irs_observed.specs.Factors.{FactorPasses as PassesAt, Precision}
-use Rattle.irs_observed.specs.ObservationPeriods.{ObservedPeriod, observed_period}
-use Rattle.irs_observed.specs.Observations.{AreObservations as AreObserved}
-use Rattle.irs_observed.specs.ObservedRates.{RateFraction, IsObservedRate, IsPrintedRate, days_of_year}
+use Rattle.irs_observed.specs.ObservedRates.{daily_rates, FactorPasses as PassesAt, Precision, RateFraction}
+use Rattle.irs_observed.specs.ObservedRates.{IsObservedRate, IsPrintedRate, days_of_year, EachRate}
+use Rattle.irs_observed.specs.Observations.{ObservedPeriod, observed_period, AreObservations as AreObserved}
 use Rattle.irs_observed.specs.OvernightRates.{IsOvernightRate, OvernightSource, printed_rate}
-use Rattle.irs_observed.specs.RateLaws.{EachRate}
 use Rattle.irs_observed.specs.declared.method.DailyRateMethod.TheVariants.{Compounding}
 use Rattle.irs_observed.specs.declared.method.YearDays.{YearDays}
 use Rattle.irs_observed.specs.declared.observation.Observation.{Observation as Observed}
 use Rattle.irs_observed.specs.declared.overnight_rate.OvernightRate.TheVariants.{Known}
-use Rattle.irs_overnight.specs.DailySources.{DerivedSource}
-use Rattle.irs_overnight.specs.DerivedRows.{IsDerivedRow}
-use Rattle.irs_overnight.specs.Factors.{DerivedGrows, derived_one}
-use Rattle.irs_overnight.specs.FoundRates.{DailyPeriod, FindsRate, derived_period}
-use Rattle.irs_overnight.specs.Observations.{AreRateObservations}
-use Rattle.irs_overnight.specs.Sources.{basis_of, daily_lines}
+use Rattle.irs_overnight.specs.Overnight.{DerivedSource, IsDerivedRow}
+use Rattle.irs_overnight.specs.Observations.{DerivedGrows, derived_one, DailyPeriod, FindsRate, derived_period}
+use Rattle.irs_overnight.specs.Observations.{AreRateObservations, basis_of, daily_lines}
 use Rattle.irs_overnight.specs.declared.derived.DerivedRow.{DerivedRow}
 use Rattle.irs_overnight.specs.declared.derived.Found.TheVariants.{Rate}
 use Rattle.irs_overnight.specs.declared.observations.Observation.{Observation}

@@ -2,11 +2,11 @@
 //! Definitions, section 7.1, on compounded overnight rates). The product and its rounding are our
 //! rule.
 ghost use Rattle.std.specs.Prelude.{◌≡◌, All, List, IfOk};
-ghost use Rattle.irs_base.specs.Faults.{IfBroken};
+ghost use Rattle.irs_base.specs.Outcomes.{IfBroken};
 ghost use Rattle.irs_base.specs.declared.places.Broken.{Broken as BrokenRule};
 ghost use Rattle.irs_overnight.specs.Overnight.{IsAsked, IsFirstDerived, IsOvernight, OvernightKept, RowsReadBack};
 ghost use Rattle.irs_overnight.specs.Overnight.{asked};
-ghost use Rattle.irs_overnight.specs.Private.FileLaw.{IsInRange};
+ghost use Rattle.irs_overnight.specs.Private.Bounds.{IsInRange};
 ghost use Rattle.irs_overnight.specs.declared.derived.DerivedRow.{DerivedRow as Row};
 
 use crate::derived::Derived;

@@ -3,18 +3,13 @@
 ghost use Rattle.std.specs.Prelude.{◌≡◌, ◌+◌, ◌*◌, ◌^◌, ◌<◌, ◌≤◌, All, IfSome, IfNone, None, pos, ◌<ℤ◌, ◌+ℤ◌};
 ghost use Rattle.std.specs.Prelude.{◌-ℤ◌, ◌*ℤ◌, unsigned_abs};
 ghost use Rattle.irs_base.specs.Days.{all_days};
-ghost use Rattle.irs_base.specs.Limits.{most_rate};
+ghost use Rattle.irs_base.specs.Limits.{most_rate, Rounded};
 ghost use Rattle.irs_terms.specs.Lawful.{IsRate};
 ghost use Rattle.irs_overnight.specs.Private.Bounds.{IsSmall};
-ghost use Rattle.irs_overnight.specs.Factors.{DerivedFactorPasses, DerivedGrows, DerivedGrowsBy, IsDerivedRate};
-ghost use Rattle.irs_overnight.specs.Factors.{DerivedPassesLimit};
-ghost use Rattle.irs_overnight.specs.Factors.{most_factor};
-ghost use Rattle.irs_observed.specs.Factors.{unit_rate};
-ghost use Rattle.irs_overnight.specs.Factors.{derived_one};
-ghost use Rattle.irs_overnight.specs.FileLaw.{IsSmallFound};
-ghost use Rattle.irs_overnight.specs.FoundRates.{IsFound};
-ghost use Rattle.irs_overnight.specs.Observations.{first_absent};
-ghost use Rattle.irs_base.specs.Rounding.{Rounded};
+ghost use Rattle.irs_overnight.specs.Observations.{DerivedFactorPasses, DerivedGrows, DerivedGrowsBy, IsDerivedRate};
+ghost use Rattle.irs_overnight.specs.Observations.{DerivedPassesLimit, most_factor, derived_one, IsFound, first_absent};
+ghost use Rattle.irs_observed.specs.ObservedRates.{unit_rate};
+ghost use Rattle.irs_overnight.specs.Texts.{IsSmallFound};
 ghost use Rattle.irs_base.specs.declared.rounding.Direction.TheVariants.{Nearest};
 
 use crate::derived::Found;

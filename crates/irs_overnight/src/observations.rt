@@ -1,13 +1,11 @@
 //! The observations of a calculation period: each daily rate with the days for which it holds.
 ghost use Rattle.std.specs.Prelude.{◌≡◌, ◌<◌, length, IfOk, IfSome, All, ◌<ℤ◌};
-ghost use Rattle.irs_base.specs.Members.{day_at};
+ghost use Rattle.irs_base.specs.Lists.{day_at};
 ghost use Rattle.irs_terms.specs.Lawful.{IsRate};
 ghost use Rattle.irs_overnight.specs.Private.Bounds.{IsSmall};
 ghost use Rattle.irs_overnight.specs.Observations.{AreRateObservations, AreRatesObserved, IsRateObservation};
-ghost use Rattle.irs_overnight.specs.Observations.{first_absent};
-ghost use Rattle.irs_overnight.specs.Observations.{next_start, observed_on};
-ghost use Rattle.irs_overnight.specs.Sources.{daily_lines, rate_by};
-ghost use Rattle.irs_overnight.specs.Starts.{LacksDays};
+ghost use Rattle.irs_overnight.specs.Observations.{first_absent, next_start, observed_on, daily_lines, rate_by};
+ghost use Rattle.irs_overnight.specs.Observations.{LacksDays};
 
 use crate::starts::{days_between, leaves_cover, starts};
 use irs_base::{Day, Memory, Text};

@@ -1,20 +1,13 @@
 //! The rate of a calculation period by its daily rates.
 ghost use Rattle.std.specs.Prelude.{◌≡◌, ◌≤◌, All, Some, IfOk, IfSome, IfNone, IsTrue, ◌<ℤ◌, ◌-ℤ◌};
-ghost use Rattle.irs_base.specs.Faults.{IfBroken};
-ghost use Rattle.irs_base.specs.Order.{First};
-ghost use Rattle.irs_resets.specs.ResetDates.{IsPeriod};
-ghost use Rattle.irs_overnight.specs.DailyPeriods.{derived_period_at};
-ghost use Rattle.irs_overnight.specs.DerivedRows.{AreDerived, IsDerivedRow};
-ghost use Rattle.irs_overnight.specs.DerivedRules.{BreaksPeriod, derived_before, period_fault};
-ghost use Rattle.irs_overnight.specs.Private.Bounds.{IsSmall};
-ghost use Rattle.irs_overnight.specs.Factors.{DerivedPassesLimit};
-ghost use Rattle.irs_overnight.specs.FileLaw.{IsSmallFound};
-ghost use Rattle.irs_overnight.specs.Private.FileLaw.{IsInRange};
-ghost use Rattle.irs_overnight.specs.FoundRates.{FindsRate, IsFound};
-ghost use Rattle.irs_overnight.specs.Private.PeriodTurns.{FirstWay, NoneFails};
+ghost use Rattle.irs_base.specs.Outcomes.{IfBroken, First};
+ghost use Rattle.irs_resets.specs.Resets.{IsPeriod};
+ghost use Rattle.irs_overnight.specs.Overnight.{derived_period_at, AreDerived, IsDerivedRow, BreaksPeriod};
+ghost use Rattle.irs_overnight.specs.Overnight.{derived_before, period_fault, derived_source, fixing_at};
+ghost use Rattle.irs_overnight.specs.Private.Bounds.{IsSmall, IsInRange, FirstWay, NoneFails};
+ghost use Rattle.irs_overnight.specs.Observations.{DerivedPassesLimit, FindsRate, IsFound, basis_of, daily_lines};
+ghost use Rattle.irs_overnight.specs.Texts.{IsSmallFound};
 ghost use Rattle.irs_base.specs.Days.{IsDay};
-ghost use Rattle.irs_overnight.specs.DailySources.{derived_source, fixing_at};
-ghost use Rattle.irs_overnight.specs.Sources.{basis_of, daily_lines};
 ghost use Rattle.irs_overnight.specs.declared.periods.PeriodFault.{PeriodFault as WayToFail};
 
 use crate::derived::{Derived, DerivedRow, Found};
@@ -175,4 +168,4 @@ pub(crate) fn period_rows<G: GoodDays>(
 }
 
 ghost use Rattle.irs_base.specs.declared.places.Fault.{Fault as BrokenRule};
-ghost use Rattle.irs_overnight.specs.FoundRates.{derived_period};
+ghost use Rattle.irs_overnight.specs.Observations.{derived_period};

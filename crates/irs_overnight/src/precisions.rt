@@ -2,7 +2,7 @@
 ghost use Rattle.irs_resets.specs.Rates.{RateTable};
 ghost use Rattle.irs_observed.specs.OvernightRates.{OvernightSource};
 ghost use Rattle.irs_observed.specs.declared.method.YearDays.{YearDays};
-ghost use Rattle.irs_overnight.specs.DailySources.{DerivedSource};
+ghost use Rattle.irs_overnight.specs.Overnight.{DerivedSource};
 ghost use Rattle.irs_overnight.specs.TwoPrecisions.{AgreeAsPrinted, AgreeInStream, AgreeUnrounded, CompoundedPeriod};
 
 /// Laws. With `calculationParameters`, but without observation shift, lookback and lockout, the daily

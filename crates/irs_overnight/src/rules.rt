@@ -1,15 +1,12 @@
 //! The rules of a stream whose daily rates are compounded: its day count, and the order of its fixing
 //! dates.
 ghost use Rattle.std.specs.Prelude.{◌≡◌, All, ◌<◌, ◌≤◌, ◌^◌, IfOk, IfSome, None, Some, IsTrue, length, nat_lt};
-ghost use Rattle.irs_base.specs.Faults.{IfBroken};
-ghost use Rattle.irs_base.specs.Order.{First, IsFirst};
+ghost use Rattle.irs_base.specs.Outcomes.{IfBroken, First, IsFirst};
 ghost use Rattle.irs_base.specs.declared.places.Fault.{Fault as BrokenRule};
-ghost use Rattle.irs_overnight.specs.DerivedRows.{AreDerived};
-ghost use Rattle.irs_overnight.specs.Private.FileLaw.{IsInRange};
-ghost use Rattle.irs_overnight.specs.DerivedRules.{BreaksDerived, FixingNotAfter, derived_before, no_basis};
-ghost use Rattle.irs_overnight.specs.DerivedRules.{fixing_not_after_at};
-ghost use Rattle.irs_overnight.specs.DailySources.{derived_source};
-ghost use Rattle.irs_overnight.specs.Sources.{basis_of};
+ghost use Rattle.irs_overnight.specs.Overnight.{AreDerived, BreaksDerived, FixingNotAfter, derived_before, no_basis};
+ghost use Rattle.irs_overnight.specs.Overnight.{fixing_not_after_at, derived_source};
+ghost use Rattle.irs_overnight.specs.Private.Bounds.{IsInRange};
+ghost use Rattle.irs_overnight.specs.Observations.{basis_of};
 
 use crate::derived::Derived;
 use crate::periods::period_rows;

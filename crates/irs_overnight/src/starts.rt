@@ -2,8 +2,8 @@
 //! day after it in the period.
 ghost use Rattle.std.specs.Prelude.{◌≡◌, ◌↔◌, ◌<◌, ◌-◌, IsTrue, IfOk, pos, ◌<ℤ◌, ◌≤ℤ◌, ◌-ℤ◌, ◌+ℤ◌, unsigned_abs};
 ghost use Rattle.irs_base.specs.Days.{all_days};
-ghost use Rattle.irs_observed.specs.PeriodMembers.{LeavesCover};
-ghost use Rattle.irs_overnight.specs.Starts.{AreStarts};
+ghost use Rattle.irs_observed.specs.Observations.{LeavesCover};
+ghost use Rattle.irs_overnight.specs.Observations.{AreStarts};
 
 use irs_base::{Day, DayList, Memory, ahead};
 use irs_calendar::GoodDays;

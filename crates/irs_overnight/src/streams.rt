@@ -1,8 +1,8 @@
 //! The floating stream of a swap with a number.
 ghost use Rattle.std.specs.Prelude.{◌≡◌, ◌↔◌, ◌-◌, ◌≤◌, slice_get, Some, None, IsTrue, IfSome, IfNone, SomeIff};
 ghost use Rattle.irs_terms.specs.declared.amounts.FloatTerms.{FloatTerms as Float};
-ghost use Rattle.irs_overnight.specs.DerivedRules.{no_floating_stream};
-ghost use Rattle.irs_overnight.specs.Sources.{Floats, PaysFloating};
+ghost use Rattle.irs_overnight.specs.Overnight.{no_floating_stream};
+ghost use Rattle.irs_overnight.specs.Observations.{Floats, PaysFloating};
 
 use irs_base::{Broken, Elem, Fault, Rule};
 use irs_terms::{FloatTerms, Leg, Stream, Swap};

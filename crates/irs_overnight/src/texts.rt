@@ -4,8 +4,8 @@ ghost use Rattle.std.specs.Prelude.{◌≡◌, ◌+◌, ◌<◌, ◌≤◌, [], 
 ghost use Rattle.std.specs.Fmt.{decimal};
 ghost use Rattle.irs_base.specs.Limits.{most_index};
 ghost use Rattle.irs_base.specs.Texts.{day_text, dec_text};
-ghost use Rattle.irs_overnight.specs.Reading.{IsLawfulLine, ReadsAsRow};
-ghost use Rattle.irs_overnight.specs.Texts.{derived_text_of, derived_row_fields, tenor_text, unit_text};
+ghost use Rattle.irs_overnight.specs.Texts.{IsLawfulLine, ReadsAsRow, derived_text_of, derived_row_fields, tenor_text};
+ghost use Rattle.irs_overnight.specs.Texts.{unit_text};
 
 use crate::derived::{Derived, DerivedRow, Found};
 use irs_base::{Day, Dec, Line, Text};
@@ -118,4 +118,4 @@ pub fn rates_read_back(rows: &Derived, tenor: Option<Frequency>, index: &Text)
     let _ = (rows.len(), tenor, index.len());
 }
 
-ghost use Rattle.irs_overnight.specs.FileLaw.{AreFixings, AreKept};
+ghost use Rattle.irs_overnight.specs.Texts.{AreFixings, AreKept};

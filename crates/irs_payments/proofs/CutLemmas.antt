@@ -3,15 +3,13 @@ use Rattle.std.proofs.Common.{◌≡◌, inl, inr, ℕ, zero, suc, ◌+◌, ◌-
 use Rattle.std.proofs.Common.{sym, ◌∙◌, subst, ap, ℤ, ◌<ℤ◌}
 use Rattle.std.proofs.lemmas.Bool.{cases_lt}
 use Rattle.jiff_core.proofs.SignedLemmas.{signed_arith}
-use Rattle.irs_base.specs.Listed.{Member, AllAfter, IsRising, RunsFromTo}
+use Rattle.irs_base.specs.Lists.{Member, AllAfter, IsRising, RunsFromTo, day_at}
 use Rattle.irs_base.proofs.Rising.{member_old, member_new, rising_push, one_rising}
-use Rattle.irs_terms.specs.FirstDay.{first_day_of}
+use Rattle.irs_terms.specs.TermDates.{first_day_of}
 use Rattle.irs_terms.specs.declared.stream.Stream.{Stream}
-use Rattle.irs_payments.specs.Grouping.{pay_anchor, EndsPayment, IsPay, PayList}
-use Rattle.irs_payments.specs.Private.Cuts.{days_at, EachPlace, EndsAt, IsCut, AreCuts, cut_at}
-use Rattle.irs_payments.specs.Private.Places.{ArePlaces}
+use Rattle.irs_payments.specs.Payments.{pay_anchor, EndsPayment, IsPay, PayList}
+use Rattle.irs_payments.specs.Private.Dating.{days_at, EachPlace, EndsAt, IsCut, AreCuts, cut_at, ArePlaces}
 use Rattle.irs_payments.proofs.PlaceLemmas.{member_at, place_of, rises_at, place_below}
-use Rattle.irs_base.specs.Members.{day_at}
 
 days_at-push : (b : List ℤ) (cs : List ℕ) (c : ℕ) → days_at b (cs ++ c ∷ []) ≡ days_at b cs ++ day_at b c ∷ []
 days_at-push b [] c = refl

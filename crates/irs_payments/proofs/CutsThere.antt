@@ -3,29 +3,23 @@ use Rattle.std.proofs.Common.{◌≡◌, inl, inr, ⊎_elim, ℕ, zero, suc, ◌
 use Rattle.std.proofs.Common.{◌++◌, length, Option, Some, None, IfSome, Ok, ℤ, ◌≤ℤ◌, refl, subst, arith}
 use Rattle.irs_base.specs.Days.{IsDay}
 use Rattle.irs_base.proofs.DayListLemmas.{day_at_day}
-use Rattle.irs_base.specs.DayLists.{AreDays}
+use Rattle.irs_base.specs.Lists.{AreDays, day_at, RunsFromTo}
 use Rattle.irs_terms.specs.Lawful.{IsLawfulStream}
 use Rattle.irs_terms.specs.declared.results.Payment.{Payment}
 use Rattle.irs_terms.specs.declared.stream.Stream.{Stream}
 use Rattle.irs_calendar.specs.GoodDays.{DaySet}
 use Rattle.irs_roll.specs.Rolls.{OnGrid}
-use Rattle.irs_payments.specs.Private.Cuts.{AreCuts, EndsAt, cut_at}
-use Rattle.irs_payments.specs.Private.Dating.{ArePaid, IsCutPayment, date_place}
-use Rattle.irs_payments.specs.Grouping.{EndsPayment, IsRegularPay, payment_anchor_by, pay_anchor}
-use Rattle.irs_payments.specs.PaymentDates.{IsPaymentDate}
-use Rattle.irs_payments.specs.Private.Places.{ArePlaces}
+use Rattle.irs_payments.specs.Private.Dating.{AreCuts, EndsAt, cut_at, ArePaid, IsCutPayment, date_place, ArePlaces}
+use Rattle.irs_payments.specs.Payments.{EndsPayment, IsRegularPay, payment_anchor_by, pay_anchor, IsPaymentDate}
 use Rattle.irs_payments.proofs.CutLemmas.{no_cuts, pass_cut, take_cut}
 use Rattle.irs_payments.proofs.DateLemmas.{dated_more, none_dated}
 use Rattle.irs_payments.proofs.PlaceLemmas.{place_of}
 use Rattle.irs_adjust.proofs.FoundDays.{decides_le}
-use Rattle.irs_terms.specs.FirstDay.{first_day_of}
-use Rattle.irs_terms.specs.Lengths.{same_length}
-use Rattle.irs_base.specs.Members.{day_at}
+use Rattle.irs_terms.specs.TermDates.{first_day_of, same_length}
 use Rattle.irs_base.specs.Private.Order.{IsDecided}
 use Rattle.irs_roll.proofs.GridsDecided.{decides_on_grid}
 use Rattle.irs_base.proofs.Decided.{decides_same}
 use Rattle.irs_terms.proofs.FirstDays.{first_day_is_day}
-use Rattle.irs_base.specs.Listed.{RunsFromTo}
 
 anchor_by_day : (first : Option ℤ) (each : Bool) (one e : ℤ) → IfSome first IsDay → IsDay one → IsDay e
     → IsDay (payment_anchor_by first each one e)

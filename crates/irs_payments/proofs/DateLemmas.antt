@@ -8,18 +8,15 @@ use Rattle.irs_calendar.specs.GoodDays.{DaySet}
 use Rattle.irs_adjust.proofs.MoveLaws.{date_in_range, date_not_lacking, one_failure}
 use Rattle.irs_adjust.specs.declared.moved.NoDate.{NoDate}
 use Rattle.irs_adjust.specs.declared.moved.NoDate.TheVariants.{NoResult, OutOfRange}
-use Rattle.irs_payments.specs.Private.Cuts.{cut_at}
-use Rattle.irs_payments.specs.Private.Places.{ArePlaces}
-use Rattle.irs_payments.specs.PaymentDates.{PaymentLacksResult, PaymentLeavesRange}
-use Rattle.irs_payments.specs.Payments.{Covers}
-use Rattle.irs_payments.specs.Private.Dating.{date_place, IsCutPayment, NoneLacks, NoneLeaves, ArePaid, Dated}
-use Rattle.irs_payments.specs.Private.Dating.{LeavesAt, LeavesFirst, LacksAt, LacksFirst, Settles, IsOutcome}
-use Rattle.irs_payments.specs.Private.Dating.{IsDateFault}
+use Rattle.irs_payments.specs.Private.Dating.{cut_at, ArePlaces, date_place, IsCutPayment, NoneLacks, NoneLeaves}
+use Rattle.irs_payments.specs.Private.Dating.{ArePaid, Dated, LeavesAt, LeavesFirst, LacksAt, LacksFirst, Settles}
+use Rattle.irs_payments.specs.Private.Dating.{IsOutcome, IsDateFault}
+use Rattle.irs_payments.specs.Payments.{PaymentLacksResult, PaymentLeavesRange, Covers}
 use Rattle.irs_base.specs.Elements.{payment_dates}
-use Rattle.irs_base.specs.Faults.{fault_at}
+use Rattle.irs_base.specs.Outcomes.{fault_at}
 use Rattle.irs_base.specs.declared.places.Fault.{Fault}
 use Rattle.irs_base.specs.declared.places.Rule.TheVariants.{K33}
-use Rattle.irs_base.specs.Members.{day_at}
+use Rattle.irs_base.specs.Lists.{day_at}
 use Rattle.irs_base.proofs.Firsts.{lt_false, false_lt}
 use Rattle.irs_base.proofs.MemberLemmas.{numbered_push}
 

@@ -1,18 +1,15 @@
 -- The dates of payments and of principal exchanges are days of the range, and exchanges are few and small.
 use Rattle.std.proofs.Common.{◌≡◌, ℕ, zero, suc, ◌-◌, ◌*◌, ◌^◌, ◌≤◌, List, length, ℤ, pos, unsigned_abs, arith, sym}
 use Rattle.std.proofs.Common.{subst}
-use Rattle.irs_base.specs.DayLists.{AreDays}
+use Rattle.irs_base.specs.Lists.{AreDays, Every}
 use Rattle.irs_base.specs.Days.{IsDay}
-use Rattle.irs_base.specs.Limits.{most_exchanges, most_notional}
-use Rattle.irs_base.specs.Members.{Every}
-use Rattle.irs_base.specs.Rounding.{Rounded}
+use Rattle.irs_base.specs.Limits.{most_exchanges, most_notional, Rounded}
 use Rattle.irs_base.specs.declared.line.Dec.{Dec}
 use Rattle.irs_base.specs.declared.rounding.Direction.TheVariants.{Nearest}
 use Rattle.irs_base.proofs.DayListLemmas.{day_at_day}
 use Rattle.irs_base.proofs.EveryLemmas.{every_numbered, every_partner, pairs_length}
 use Rattle.irs_base.proofs.RoundingLaws.{rounded_size}
-use Rattle.irs_terms.specs.Currencies.{decimals_of}
-use Rattle.irs_terms.specs.Lawful.{IsLawfulStream}
+use Rattle.irs_terms.specs.Lawful.{decimals_of, IsLawfulStream}
 use Rattle.irs_terms.specs.declared.results.Exchange.{Exchange}
 use Rattle.irs_terms.specs.declared.results.Payment.{Payment}
 use Rattle.irs_terms.specs.declared.stream.Stream.{Stream}

@@ -11,8 +11,7 @@ use Rattle.std.proofs.lemmas.Int.{to_z-of_z}
 use Rattle.jiff_core.proofs.SignedLemmas.{signed_arith}
 use Rattle.irs_base.specs.declared.rounding.Direction.TheVariants.{Nearest}
 use Rattle.irs_base.proofs.RoundingLaws.{rounded_once}
-use Rattle.irs_terms.specs.Currencies.{decimals_of}
-use Rattle.irs_terms.specs.Lawful.{IsLawfulStream, IsNotional}
+use Rattle.irs_terms.specs.Lawful.{decimals_of, IsLawfulStream, IsNotional}
 use Rattle.irs_base.specs.Limits.{most_exchanges, most_notional, most_steps}
 use Rattle.irs_terms.specs.declared.step_list.Step.{Step}
 use Rattle.irs_terms.specs.declared.results.Exchange.{Exchange}
@@ -20,8 +19,7 @@ use Rattle.irs_terms.specs.declared.stream.Stream.{Stream}
 use Rattle.irs_calendar.specs.GoodDays.{DaySet}
 use Rattle.irs_adjust.proofs.CodeLaws.{one_adjusts}
 use Rattle.irs_payments.specs.declared.exchanges.Transfer.{Transfer}
-use Rattle.irs_payments.specs.Transfers.{transfer}
-use Rattle.irs_payments.specs.Exchanges.{initial_of, change, changes, intermediate_of, last_value, final_of}
+use Rattle.irs_payments.specs.Exchanges.{transfer, initial_of, change, changes, intermediate_of, last_value, final_of}
 use Rattle.irs_payments.specs.Exchanges.{transfers_of, IsExchange, AreExchanges}
 use Rattle.irs_base.proofs.MemberLemmas.{one_paired}
 

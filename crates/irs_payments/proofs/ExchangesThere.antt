@@ -11,20 +11,17 @@ use Rattle.irs_base.specs.Elements.{principal_exchanges}
 use Rattle.irs_base.specs.declared.places.Rule.TheVariants.{K33}
 use Rattle.irs_base.specs.declared.places.Fault.{Fault}
 use Rattle.irs_base.proofs.RoundingLaws.{nearest_exists}
-use Rattle.irs_terms.specs.Currencies.{decimals_of}
-use Rattle.irs_terms.specs.Lawful.{IsLawfulStream}
+use Rattle.irs_terms.specs.Lawful.{decimals_of, IsLawfulStream}
 use Rattle.irs_terms.specs.declared.step_list.Step.{Step}
 use Rattle.irs_terms.specs.declared.results.Exchange.{Exchange}
 use Rattle.irs_terms.specs.declared.stream.Stream.{Stream}
 use Rattle.irs_calendar.specs.GoodDays.{DaySet}
-use Rattle.irs_adjust.specs.Codes.{Adjusts}
+use Rattle.irs_adjust.specs.MovedDays.{Adjusts}
 use Rattle.irs_payments.specs.declared.exchanges.Transfer.{Transfer}
-use Rattle.irs_payments.specs.Transfers.{transfer}
-use Rattle.irs_base.specs.Faults.{fault_at}
-use Rattle.irs_payments.specs.Exchanges.{initial_of, change, changes, intermediate_of, last_value, final_of}
+use Rattle.irs_payments.specs.Exchanges.{transfer, initial_of, change, changes, intermediate_of, last_value, final_of}
 use Rattle.irs_payments.specs.Exchanges.{transfers_of, IsExchange, AreExchanges, LacksTransferDay, BreaksExchanges}
+use Rattle.irs_base.specs.Outcomes.{fault_at, First, comes_before}
 use Rattle.irs_adjust.proofs.FoundDays.{InRange, IsFound, decides_adjusts}
-use Rattle.irs_base.specs.Order.{First, comes_before}
 use Rattle.irs_base.specs.Private.Order.{IsDecided}
 use Rattle.irs_base.proofs.FaultOrder.{one_fault}
 use Rattle.irs_base.proofs.MemberLemmas.{pairs_there}

@@ -1,9 +1,6 @@
 -- The first of the faults of two sets, and which of two faults comes before the other.
 use Rattle.std.proofs.Common.{◌≡◌, ◌⊎◌, inl, inr, ℕ, ◌<◌, false, Result, Ok, Err, refl}
-use Rattle.irs_base.specs.Rules.{rule_number}
-use Rattle.irs_base.specs.Faults.{fault_at}
-use Rattle.irs_base.specs.Order.{First, comes_before, turn}
-use Rattle.irs_base.specs.Outcomes.{MeetsExactly, unbroken}
+use Rattle.irs_base.specs.Outcomes.{rule_number, fault_at, First, comes_before, turn, MeetsExactly, unbroken}
 use Rattle.irs_base.specs.declared.places.Rule.{Rule}
 use Rattle.irs_base.specs.declared.places.Fault.{Fault}
 use Rattle.irs_base.proofs.Firsts.{level_same, level_later, lt_false}

@@ -1,23 +1,21 @@
 -- K35: a given payment date is the first that breaks it, or none does.
 use Rattle.std.proofs.Common.{◌≡◌, inl, inr, List, Option, Some, None, ℤ, ◌<ℤ◌, false, refl, sym, ◌∙◌, subst, arith}
 use Rattle.jiff_core.proofs.SignedLemmas.{signed_arith}
-use Rattle.irs_base.specs.DayLists.{AreDays}
+use Rattle.irs_base.specs.Lists.{AreDays, Member}
 use Rattle.irs_base.specs.Elements.{first_payment_date, last_regular_payment_date}
-use Rattle.irs_base.specs.Faults.{fault_at}
-use Rattle.irs_base.specs.Listed.{Member}
-use Rattle.irs_base.specs.Order.{First, comes_before}
+use Rattle.irs_base.specs.Outcomes.{fault_at, First, comes_before}
 use Rattle.irs_base.specs.Private.Order.{IsDecided}
 use Rattle.irs_base.specs.declared.places.Rule.TheVariants.{K35}
 use Rattle.irs_base.specs.declared.places.Fault.{Fault}
 use Rattle.irs_base.proofs.Decided.{order_of, decides_same}
 use Rattle.irs_base.proofs.FaultOrder.{fault_order}
 use Rattle.irs_base.proofs.Firsts.{first_one}
-use Rattle.irs_terms.specs.FirstDay.{first_day_of}
+use Rattle.irs_terms.specs.TermDates.{first_day_of}
 use Rattle.irs_terms.specs.Lawful.{IsLawfulStream}
 use Rattle.irs_terms.specs.declared.stream.Stream.{Stream}
 use Rattle.irs_roll.specs.Rolls.{OnGrid}
 use Rattle.irs_roll.proofs.GridsDecided.{decides_on_grid}
-use Rattle.irs_payments.specs.Grouping.{pay_anchor, IsBadFirst, IsBadLast, BreaksFirst, BreaksLast, BreaksGrouping}
+use Rattle.irs_payments.specs.Payments.{pay_anchor, IsBadFirst, IsBadLast, BreaksFirst, BreaksLast, BreaksGrouping}
 use Rattle.irs_payments.proofs.CutsThere.{pay_anchor_day}
 use Rattle.irs_payments.proofs.FirstFaults.{FirstOrNone, told, first_left, first_right, first_of_both}
 use Rattle.irs_payments.proofs.FirstFaults.{not_before_element}

@@ -6,10 +6,9 @@ use Rattle.std.specs.List.{slice_get}
 use Rattle.std.proofs.lemmas.List.{take_all}
 use Rattle.std.proofs.lemmas.Option.{get_or_from_slice_get, slice_get_within}
 use Rattle.irs_base.specs.Elements.{principal_exchanges}
-use Rattle.irs_base.specs.Faults.{fault_at}
+use Rattle.irs_base.specs.Outcomes.{fault_at, First, comes_before}
 use Rattle.irs_base.specs.Limits.{most_exchanges}
-use Rattle.irs_base.specs.Members.{Pairs}
-use Rattle.irs_base.specs.Order.{First, comes_before}
+use Rattle.irs_base.specs.Lists.{Pairs}
 use Rattle.irs_base.specs.declared.places.Fault.{Fault}
 use Rattle.irs_base.specs.declared.places.Rule.TheVariants.{K33}
 use Rattle.irs_base.proofs.MemberLemmas.{none_of_more, pairs_more}
@@ -19,10 +18,8 @@ use Rattle.irs_terms.specs.declared.step_list.Step.{Step}
 use Rattle.irs_terms.specs.declared.stream.Stream.{Stream}
 use Rattle.irs_calendar.specs.GoodDays.{DaySet}
 use Rattle.irs_payments.specs.Exchanges.{AreExchanges, BreaksExchanges, IsExchange, LacksTransferDay, change, changes}
-use Rattle.irs_payments.specs.Exchanges.{final_of}
-use Rattle.irs_payments.specs.Exchanges.{initial_of, intermediate_of, transfers_of}
-use Rattle.irs_payments.specs.Private.Listing.{ListsUpTo}
-use Rattle.irs_payments.specs.Private.Transfers.{listed_transfer}
+use Rattle.irs_payments.specs.Exchanges.{final_of, initial_of, intermediate_of, transfers_of}
+use Rattle.irs_payments.specs.Private.Dating.{ListsUpTo, listed_transfer}
 use Rattle.irs_payments.specs.declared.exchanges.Listing.{Listing}
 use Rattle.irs_payments.specs.declared.exchanges.Transfer.{Transfer}
 use Rattle.irs_payments.proofs.ExchangeLemmas.{IsSmall, few_transfers, small_transfers}

@@ -1,25 +1,21 @@
 -- Each call of this crate has one outcome.
 use Rattle.std.proofs.Common.{◌≡◌, ℕ, List, ℤ, length, Result, Ok, Err}
-use Rattle.irs_base.specs.Listed.{RunsFromTo}
-use Rattle.irs_base.specs.Order.{comes_before}
-use Rattle.irs_base.specs.Outcomes.{Determined, Meets}
+use Rattle.irs_base.specs.Lists.{RunsFromTo}
+use Rattle.irs_base.specs.Outcomes.{comes_before, Determined, Meets}
 use Rattle.irs_base.proofs.Outcomes.{unbroken_determined, unless_broken_determined}
 use Rattle.irs_base.specs.declared.places.Fault.{Fault}
 use Rattle.irs_base.specs.declared.stopped.Stopped.{Stopped}
 use Rattle.irs_base.specs.declared.stopped.Stopped.TheVariants.{Broken as OfBroken, Memory as OfMemory}
-use Rattle.irs_terms.specs.FirstDay.{first_day_of}
+use Rattle.irs_terms.specs.TermDates.{first_day_of}
 use Rattle.irs_terms.specs.Lawful.{IsLawfulStream}
 use Rattle.irs_terms.specs.declared.results.Payment.{Payment}
 use Rattle.irs_terms.specs.declared.stream.Stream.{Stream}
 use Rattle.irs_calendar.specs.GoodDays.{DaySet}
 use Rattle.irs_adjust.proofs.FoundDays.{InRange}
-use Rattle.irs_payments.specs.Private.Cuts.{AreCuts}
-use Rattle.irs_payments.specs.Private.Dating.{paid_at}
-use Rattle.irs_payments.specs.Exchanges.{AreExchanges, BreaksExchanges}
-use Rattle.irs_payments.specs.Grouping.{BreaksGrouping}
-use Rattle.irs_payments.specs.Outcomes.{payments_of, principals_of, steps_of}
-use Rattle.irs_payments.specs.Payments.{ArePayments, BreaksPaymentDate, BreaksPayments}
-use Rattle.irs_payments.specs.Steps.{BreaksSteps}
+use Rattle.irs_payments.specs.Private.Dating.{AreCuts, paid_at}
+use Rattle.irs_payments.specs.Exchanges.{AreExchanges, BreaksExchanges, BreaksSteps}
+use Rattle.irs_payments.specs.Payments.{BreaksGrouping, payments_of, principals_of, steps_of, ArePayments}
+use Rattle.irs_payments.specs.Payments.{BreaksPaymentDate, BreaksPayments}
 use Rattle.irs_payments.proofs.ExchangeLemmas.{one_exchanges}
 use Rattle.irs_payments.proofs.ExchangesThere.{exchanges_decided, exchanges_there, one_exchanges_rule}
 use Rattle.irs_payments.proofs.FirstFaults.{first_right, none_of_both}

@@ -4,33 +4,28 @@ use Rattle.std.proofs.Common.{subst, ap, false, ℤ, ◌<ℤ◌, ◌≤ℤ◌}
 use Rattle.std.proofs.lemmas.Bool.{cases_lt}
 use Rattle.jiff_core.proofs.SignedLemmas.{signed_arith}
 use Rattle.irs_base.specs.Elements.{payment_dates, first_payment_date, last_regular_payment_date}
-use Rattle.irs_base.specs.Listed.{Member, IsRising, RunsFromTo}
+use Rattle.irs_base.specs.Lists.{Member, IsRising, RunsFromTo, day_at, EachNumbered}
 use Rattle.irs_base.proofs.Rising.{one_rising}
 use Rattle.irs_base.specs.declared.places.Rule.TheVariants.{K33, K35, K38}
 use Rattle.irs_base.specs.declared.places.Fault.{Fault}
 use Rattle.irs_terms.specs.declared.codes.Relative.{Relative}
 use Rattle.irs_terms.specs.declared.codes.Relative.TheVariants.{Start, End}
 use Rattle.irs_terms.specs.declared.results.Payment.{Payment}
-use Rattle.irs_terms.specs.FirstDay.{first_day_of}
+use Rattle.irs_terms.specs.TermDates.{first_day_of}
 use Rattle.irs_terms.specs.declared.stream.Stream.{Stream}
 use Rattle.irs_calendar.specs.GoodDays.{DaySet}
-use Rattle.irs_base.specs.Faults.{fault_at}
-use Rattle.irs_base.specs.Order.{First, comes_before}
-use Rattle.irs_payments.specs.Grouping.{BreaksGrouping}
-use Rattle.irs_payments.specs.Private.Cuts.{days_at, EachPlace, EndsAt, IsCut, AreCuts, cut_at}
-use Rattle.irs_payments.specs.Private.Places.{ArePlaces}
-use Rattle.irs_payments.specs.PaymentDates.{IsPaymentDate, PaymentLacksResult, PaymentLeavesRange}
+use Rattle.irs_base.specs.Outcomes.{fault_at, First, comes_before}
+use Rattle.irs_payments.specs.Payments.{BreaksGrouping, IsPaymentDate, PaymentLacksResult, PaymentLeavesRange}
 use Rattle.irs_payments.specs.Payments.{pay_place, CoversPeriods, IsPayment, ArePayments, Covers, PaysFrom, IsLacking}
 use Rattle.irs_payments.specs.Payments.{IsLeaving, BreaksPaymentDate}
-use Rattle.irs_payments.specs.Private.Dating.{date_place, IsCutPayment, NoneLacks, NoneLeaves, ArePaid, LacksFirst}
-use Rattle.irs_payments.specs.Private.Dating.{OnlyLeaves}
+use Rattle.irs_payments.specs.Private.Dating.{days_at, EachPlace, EndsAt, IsCut, AreCuts, cut_at, ArePlaces, date_place}
+use Rattle.irs_payments.specs.Private.Dating.{IsCutPayment, NoneLacks, NoneLeaves, ArePaid, LacksFirst, OnlyLeaves}
 use Rattle.irs_payments.specs.Private.Dating.{IsDateFault}
 use Rattle.irs_payments.proofs.DateLemmas.{none_lacks, none_leaves}
 use Rattle.irs_payments.proofs.PlaceLemmas.{rises_at, place_below, place_same}
 use Rattle.irs_payments.proofs.FirstFaults.{told, not_before_index, not_before_rule, not_before_turn}
 use Rattle.irs_adjust.proofs.MoveLaws.{one_date}
 use Rattle.irs_payments.proofs.CutLemmas.{pay_listed, pay_at, length-pay, cut_places, cut_last, one_pay}
-use Rattle.irs_base.specs.Members.{day_at, EachNumbered}
 use Rattle.irs_base.proofs.MemberLemmas.{numbered_map, one_numbered}
 
 -- the periods between two places

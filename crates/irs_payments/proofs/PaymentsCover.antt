@@ -1,23 +1,19 @@
 -- The payments of a stream cover its calculation periods, one after the other.
 use Rattle.std.proofs.Common.{◌≡◌, ℕ, ◌-◌, ◌<◌, ◌≤◌, List, ◌∷◌, length, ℤ, ◌<ℤ◌, sym, ◌∙◌, ap, subst}
 use Rattle.std.proofs.Common.{arith}
-use Rattle.irs_base.specs.DayLists.{AreDays}
-use Rattle.irs_base.specs.Listed.{Member, IsRising, RunsFromTo}
+use Rattle.irs_base.specs.Lists.{AreDays, Member, IsRising, RunsFromTo, day_at}
 use Rattle.irs_terms.specs.Lawful.{IsLawfulStream}
 use Rattle.irs_terms.specs.declared.results.Payment.{Payment}
 use Rattle.irs_terms.specs.declared.stream.Stream.{Stream}
 use Rattle.irs_calendar.specs.GoodDays.{DaySet}
-use Rattle.irs_payments.specs.Private.Cuts.{EachPlace, EndsAt, IsCut, cut_at, days_at}
-use Rattle.irs_payments.specs.Private.Dating.{date_place}
-use Rattle.irs_payments.specs.PaymentDates.{IsPaymentDate}
-use Rattle.irs_payments.specs.Payments.{ArePayments, Covers, IsPayment, pay_place}
+use Rattle.irs_payments.specs.Private.Dating.{EachPlace, EndsAt, IsCut, cut_at, days_at, date_place}
+use Rattle.irs_payments.specs.Payments.{IsPaymentDate, ArePayments, Covers, IsPayment, pay_place}
 use Rattle.irs_payments.proofs.CutLemmas.{cut_places, length-pay, one_pay, pay_at}
 use Rattle.irs_payments.proofs.PaymentLemmas.{cuts_places, one_payments, payments_are, payments_cover, place_low}
 use Rattle.irs_payments.proofs.PaymentLemmas.{some_cuts}
 use Rattle.irs_payments.proofs.PlaceLemmas.{place_same}
 use Rattle.irs_payments.proofs.CutsThere.{cuts_there, paid_there}
-use Rattle.irs_terms.specs.FirstDay.{first_day_of}
-use Rattle.irs_base.specs.Members.{day_at}
+use Rattle.irs_terms.specs.TermDates.{first_day_of}
 use Rattle.irs_base.proofs.MemberLemmas.{numbered_has}
 
 -- each payment has a date from the start at its place

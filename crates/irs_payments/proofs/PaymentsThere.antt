@@ -1,19 +1,16 @@
 -- A rule of a stream's payments is the first that is broken, or none is and there are payments.
 use Rattle.std.proofs.Common.{◌≡◌, ◌⊎◌, inl, inr, ℕ, zero, suc, ◌<◌, ◌≤◌, List, length, ℤ, refl, arith}
 use Rattle.std.proofs.lemmas.Bool.{cases_lt}
-use Rattle.irs_base.specs.DayLists.{AreDays}
+use Rattle.irs_base.specs.Lists.{AreDays, RunsFromTo, day_at}
 use Rattle.irs_base.specs.Elements.{payment_dates}
-use Rattle.irs_base.specs.Faults.{fault_at}
-use Rattle.irs_base.specs.Listed.{RunsFromTo}
-use Rattle.irs_base.specs.Members.{day_at}
-use Rattle.irs_base.specs.Order.{First, comes_before}
+use Rattle.irs_base.specs.Outcomes.{fault_at, First, comes_before}
 use Rattle.irs_base.specs.Private.Order.{IsDecided}
 use Rattle.irs_base.specs.declared.places.Rule.TheVariants.{K33, K38}
 use Rattle.irs_base.specs.declared.places.Fault.{Fault}
 use Rattle.irs_base.proofs.DayListLemmas.{day_at_day}
 use Rattle.irs_base.proofs.FaultOrder.{one_fault}
-use Rattle.irs_terms.specs.DayTypes.{IsSaid}
-use Rattle.irs_terms.specs.FirstDay.{first_day_of}
+use Rattle.irs_terms.specs.Centers.{IsSaid}
+use Rattle.irs_terms.specs.TermDates.{first_day_of}
 use Rattle.irs_terms.specs.Lawful.{IsLawfulStream}
 use Rattle.irs_terms.specs.declared.dates.PayTerms.{PayTerms}
 use Rattle.irs_terms.specs.declared.results.Payment.{Payment}
@@ -21,11 +18,9 @@ use Rattle.irs_terms.specs.declared.stream.Stream.{Stream}
 use Rattle.irs_calendar.specs.GoodDays.{DaySet}
 use Rattle.irs_adjust.proofs.FoundDays.{InRange}
 use Rattle.irs_adjust.proofs.MoveLaws.{DateOrFailure, date_in_range, date_not_lacking, date_or_failure, one_failure}
-use Rattle.irs_payments.specs.Private.Cuts.{AreCuts}
-use Rattle.irs_payments.specs.Private.Dating.{NoneLacks, NoneLeaves, LacksFirst, LeavesFirst, date_place}
+use Rattle.irs_payments.specs.Private.Dating.{AreCuts, NoneLacks, NoneLeaves, LacksFirst, LeavesFirst, date_place}
 use Rattle.irs_payments.proofs.DateLemmas.{lacks_first, leaves_first}
-use Rattle.irs_payments.specs.Grouping.{BreaksGrouping}
-use Rattle.irs_payments.specs.PaymentDates.{IsPaymentDate, PaymentLacksResult, PaymentLeavesRange}
+use Rattle.irs_payments.specs.Payments.{BreaksGrouping, IsPaymentDate, PaymentLacksResult, PaymentLeavesRange}
 use Rattle.irs_payments.specs.Payments.{ArePayments, BreaksPaymentDate, BreaksPayments}
 use Rattle.irs_payments.proofs.CutsThere.{cuts_there, paid_there}
 use Rattle.irs_payments.proofs.FirstFaults.{FirstOrNone, first_of_both}

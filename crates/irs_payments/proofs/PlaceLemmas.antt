@@ -4,10 +4,8 @@ use Rattle.std.proofs.Common.{◌≤ℤ◌, refl, sym, subst, arith}
 use Rattle.std.proofs.lemmas.Bool.{cases_lt}
 use Rattle.jiff_core.proofs.SignedLemmas.{signed_arith}
 use Rattle.irs_base.specs.Days.{IsDay, all_days, last_day}
-use Rattle.irs_base.specs.DayLists.{AreDays}
-use Rattle.irs_base.specs.Listed.{Member, AllAfter, IsRising}
+use Rattle.irs_base.specs.Lists.{AreDays, Member, AllAfter, IsRising, day_at}
 use Rattle.irs_base.proofs.Rising.{member_after}
-use Rattle.irs_base.specs.Members.{day_at}
 
 -- the element at a place of the list is a member
 pub member_at : (xs : List ℤ) (i : ℕ) → i < length xs → Member (day_at xs i) xs

@@ -8,9 +8,8 @@ use Rattle.std.specs.Ordering.{int_cmp, ordering_index}
 use Rattle.std.specs.declared.cmp.Ordering.TheVariants.{Less, Equal, Greater}
 use Rattle.std.specs.List.Sorted.{IsBinarySearchResult}
 use Rattle.jiff_core.proofs.SignedLemmas.{signed_arith}
-use Rattle.irs_base.specs.Listed.{Member, IsRising}
+use Rattle.irs_base.specs.Lists.{Member, IsRising, day_at}
 use Rattle.irs_payments.proofs.PlaceLemmas.{member_at, place_of, rises_at}
-use Rattle.irs_base.specs.Members.{day_at}
 
 equal_is : (a b : ℤ) → int_cmp a b ≡ Equal → a ≡ b
 equal_is a b h = grind (arith, signed_arith)

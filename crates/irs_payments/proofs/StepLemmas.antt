@@ -1,9 +1,8 @@
 -- Steps on boundaries: a step is the first whose date is no boundary, or the date of each is one.
 use Rattle.std.proofs.Common.{◌≡◌, ℕ, ◌<◌, List, [], ◌∷◌, ℤ, false, inl, inr, arith}
 use Rattle.irs_base.specs.Elements.{notional_step_date, fixed_rate_step_date, multiplier_step_date, spread_step_date}
-use Rattle.irs_base.specs.Listed.{Member}
-use Rattle.irs_base.specs.Faults.{fault_at}
-use Rattle.irs_base.specs.Order.{First, comes_before}
+use Rattle.irs_base.specs.Lists.{Member}
+use Rattle.irs_base.specs.Outcomes.{fault_at, First, comes_before}
 use Rattle.irs_base.specs.Private.Order.{IsDecided}
 use Rattle.irs_base.specs.declared.places.Rule.TheVariants.{K36}
 use Rattle.irs_base.specs.declared.places.Fault.{Fault}
@@ -13,7 +12,7 @@ use Rattle.irs_terms.specs.declared.amounts.Leg.{Leg}
 use Rattle.irs_terms.specs.declared.amounts.Leg.TheVariants.{Fixed, Floating}
 use Rattle.irs_terms.specs.declared.step_list.Step.{Step}
 use Rattle.irs_terms.specs.declared.stream.Stream.{Stream}
-use Rattle.irs_payments.specs.Steps.{IsOff, BreaksUnder, BreaksRateSteps, BreaksSteps}
+use Rattle.irs_payments.specs.Exchanges.{IsOff, BreaksUnder, BreaksRateSteps, BreaksSteps}
 use Rattle.irs_payments.proofs.FirstFaults.{FirstOrNone, told, first_of_both, not_before_element}
 use Rattle.irs_payments.proofs.NumberLemmas.{decides_in}
 

@@ -1,9 +1,3 @@
-pub mod Faults
-pub mod Steps
-pub mod Transfers
 pub mod Exchanges
-pub mod Grouping
-pub mod PaymentDates
 pub mod Payments
-pub mod Outcomes
 pub mod Private

@@ -1,5 +1,1 @@
-pub mod Transfers
-pub mod Cuts
-pub mod Places
 pub mod Dating
-pub mod Listing

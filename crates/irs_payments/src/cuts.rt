@@ -1,8 +1,8 @@
 //! The places at which payment periods end. One pass over the boundaries finds them.
 ghost use Rattle.std.specs.Prelude.{◌<◌, length, IfOk};
-ghost use Rattle.irs_base.specs.Listed.{IsRising};
+ghost use Rattle.irs_base.specs.Lists.{IsRising};
 ghost use Rattle.irs_terms.specs.Lawful.{IsLawfulStream};
-ghost use Rattle.irs_payments.specs.Private.Cuts.{AreCuts};
+ghost use Rattle.irs_payments.specs.Private.Dating.{AreCuts};
 
 use crate::grouping::{ends_payment, payment_anchor};
 use irs_base::{Day, Memory};

@@ -6,18 +6,16 @@
 //! changes at a step. The payer pays what the notional falls by, and receives what it rises by.
 ghost use Rattle.std.specs.Prelude.{◌≡◌, ◌-◌, ◌^◌, ◌≤◌, ◌++◌, [], ◌∷◌, ℤ, pos, ◌<ℤ◌, ◌≤ℤ◌, unsigned_abs, List};
 ghost use Rattle.std.specs.Prelude.{IfNone, IfSome, Some};
-ghost use Rattle.irs_base.specs.Limits.{most_exchanges, most_notional};
+ghost use Rattle.irs_base.specs.Limits.{most_exchanges, most_notional, Rounded};
 ghost use Rattle.irs_base.specs.Outcomes.{Determined, IfMemory, Meets, MeetsExactly};
-ghost use Rattle.irs_base.specs.Rounding.{Rounded};
 ghost use Rattle.irs_base.specs.declared.places.Fault.{Fault};
 ghost use Rattle.irs_base.specs.declared.rounding.Direction.TheVariants.{Nearest};
 ghost use Rattle.irs_terms.specs.Lawful.{IsLawfulStream, IsLawfulValues, IsNotional};
 ghost use Rattle.irs_terms.specs.declared.results.Exchange.{Exchange};
 ghost use Rattle.irs_payments.specs.Exchanges.{initial_of, change, intermediate_of, last_value, final_of};
 ghost use Rattle.irs_payments.specs.Exchanges.{BreaksExchanges, IsExchange, LacksTransferDay};
-ghost use Rattle.irs_payments.specs.Private.Listing.{ListsUpTo, listing_to};
-ghost use Rattle.irs_payments.specs.Outcomes.{principals_of};
-ghost use Rattle.irs_payments.specs.Private.Transfers.{listed_transfer};
+ghost use Rattle.irs_payments.specs.Private.Dating.{ListsUpTo, listing_to, listed_transfer};
+ghost use Rattle.irs_payments.specs.Payments.{principals_of};
 ghost use Rattle.irs_payments.specs.declared.exchanges.Transfer.{Transfer};
 
 use crate::PayErr;

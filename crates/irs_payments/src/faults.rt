@@ -1,6 +1,6 @@
 //! Broken rules of a stream, with their elements and indices.
 ghost use Rattle.std.specs.Prelude.{◌≡◌, ◌<◌, ◌^◌};
-ghost use Rattle.irs_base.specs.Faults.{fault_at};
+ghost use Rattle.irs_base.specs.Outcomes.{fault_at};
 
 use irs_base::{Elem, Fault, Rule};
 

@@ -7,14 +7,13 @@
 //! the first day of the first calculation period, which may be before the effective date. The
 //! anchor need not be a roll day.
 ghost use Rattle.std.specs.Prelude.{◌≡◌, ◌↔◌, ◌<◌, ◌<ℤ◌, ◌≤ℤ◌, IsTrue, IfSome, length};
-ghost use Rattle.irs_base.specs.Listed.{Member, IsRising};
-ghost use Rattle.irs_base.specs.Order.{comes_before};
-ghost use Rattle.irs_base.specs.Outcomes.{MeetsExactly, unbroken};
-ghost use Rattle.irs_terms.specs.FirstDay.{first_day_of};
+ghost use Rattle.irs_base.specs.Lists.{Member, IsRising};
+ghost use Rattle.irs_base.specs.Outcomes.{comes_before, MeetsExactly, unbroken};
+ghost use Rattle.irs_terms.specs.TermDates.{first_day_of};
 ghost use Rattle.irs_terms.specs.Lawful.{IsLawfulStream, IsLawfulFrequency, IsLawfulRoll};
 ghost use Rattle.irs_roll.specs.Rolls.{OnGrid};
-ghost use Rattle.irs_payments.specs.Grouping.{pay_anchor, IsRegularPay, EndsPayment, IsBadFirst, IsBadLast};
-ghost use Rattle.irs_payments.specs.Grouping.{BreaksGrouping};
+ghost use Rattle.irs_payments.specs.Payments.{pay_anchor, IsRegularPay, EndsPayment, IsBadFirst, IsBadLast};
+ghost use Rattle.irs_payments.specs.Payments.{BreaksGrouping};
 
 use crate::faults::fault;
 use crate::steps::has_day;

@@ -4,18 +4,14 @@ ghost use Rattle.std.specs.Prelude.{◌≡◌, ◌+◌, ◌-◌, ◌^◌, ◌<�
 ghost use Rattle.irs_base.specs.Elements.{payment_dates};
 ghost use Rattle.irs_base.specs.declared.places.Rule.TheVariants.{K33};
 ghost use Rattle.irs_base.specs.declared.places.Fault.{Fault};
-ghost use Rattle.irs_base.specs.Faults.{fault_at, IfBroken};
-ghost use Rattle.irs_base.specs.Outcomes.{Determined, IfMemory, Meets};
-ghost use Rattle.irs_terms.specs.FirstDay.{first_day_of};
+ghost use Rattle.irs_base.specs.Outcomes.{fault_at, IfBroken, Determined, IfMemory, Meets};
+ghost use Rattle.irs_terms.specs.TermDates.{first_day_of};
 ghost use Rattle.irs_terms.specs.Lawful.{IsLawfulStream};
-ghost use Rattle.irs_payments.specs.Grouping.{BreaksGrouping};
-ghost use Rattle.irs_payments.specs.Private.Dating.{IsOutcome, Settles, earliest, paid_at};
-ghost use Rattle.irs_payments.specs.Outcomes.{payments_of};
-ghost use Rattle.irs_payments.specs.Payments.{ArePayments, Covers};
+ghost use Rattle.irs_payments.specs.Payments.{BreaksGrouping, payments_of, ArePayments, Covers};
+ghost use Rattle.irs_payments.specs.Private.Dating.{IsOutcome, Settles, earliest, paid_at, ArePlaces};
 ghost use Rattle.irs_terms.specs.declared.results.Payment.{Payment};
-ghost use Rattle.irs_payments.specs.Private.Places.{ArePlaces};
-ghost use Rattle.irs_terms.specs.DayTypes.{IsSaid};
-ghost use Rattle.irs_base.specs.Listed.{RunsFromTo};
+ghost use Rattle.irs_terms.specs.Centers.{IsSaid};
+ghost use Rattle.irs_base.specs.Lists.{RunsFromTo};
 
 use crate::PayErr;
 use crate::cuts::payment_places;

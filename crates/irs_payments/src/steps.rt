@@ -1,13 +1,12 @@
 //! Steps begin at boundaries: a notional, rate, multiplier or spread changes only on the first day
 //! of a calculation period (K36). It is our rule: the amount of a period then has one value of each.
 ghost use Rattle.std.specs.Prelude.{◌↔◌, ◌≤◌, IsTrue, length};
-ghost use Rattle.irs_base.specs.Listed.{Member, IsRising};
-ghost use Rattle.irs_base.specs.Order.{comes_before};
-ghost use Rattle.irs_base.specs.Outcomes.{Determined, MeetsExactly, unbroken};
+ghost use Rattle.irs_base.specs.Lists.{Member, IsRising};
+ghost use Rattle.irs_base.specs.Outcomes.{comes_before, Determined, MeetsExactly, unbroken};
 ghost use Rattle.irs_terms.specs.Lawful.{IsLawfulStream, IsLawfulLeg};
 ghost use Rattle.irs_base.specs.Limits.{most_steps};
-ghost use Rattle.irs_payments.specs.Outcomes.{steps_of};
-ghost use Rattle.irs_payments.specs.Steps.{BreaksUnder, BreaksRateSteps};
+ghost use Rattle.irs_payments.specs.Payments.{steps_of};
+ghost use Rattle.irs_payments.specs.Exchanges.{BreaksUnder, BreaksRateSteps};
 
 use crate::faults::fault;
 use irs_base::{Day, DayList, Elem, Fault, Rule};

@@ -2,14 +2,13 @@
 use Rattle.std.proofs.Common.{inl, inr, ℕ, zero, suc, ◌<◌, List, [], ◌∷◌, length, ℤ, Bool, true, false, if◌then◌else◌}
 use Rattle.std.proofs.Common.{◌==◌, arith}
 use Rattle.irs_base.specs.Days.{IsDay}
-use Rattle.irs_base.specs.DayLists.{AreDays}
+use Rattle.irs_base.specs.Lists.{AreDays, day_at}
 use Rattle.irs_terms.specs.declared.stream.Stream.{Stream}
 use Rattle.irs_calendar.specs.GoodDays.{DaySet}
-use Rattle.irs_periods.specs.Adjusting.{BoundaryDays, last_of, code_at, boundary_days_at, AdjustsAt, AdjustedList}
-use Rattle.irs_periods.specs.Adjusting.{NoResult}
+use Rattle.irs_periods.specs.Boundaries.{BoundaryDays, last_of, code_at, boundary_days_at, AdjustsAt, AdjustedList}
+use Rattle.irs_periods.specs.Boundaries.{NoResult}
 use Rattle.irs_periods.proofs.AdjustedLemmas.{adjusted_exists}
 use Rattle.irs_adjust.proofs.FoundDays.{InRange, IsFound, decides_adjusts, adjusts_day}
-use Rattle.irs_base.specs.Members.{day_at}
 
 -- the days at the places of a list of days are days in range, and the other way round
 pub day_of_days : (b : List ℤ) (i : ℕ) → AreDays b → i < length b → IsDay (day_at b i)

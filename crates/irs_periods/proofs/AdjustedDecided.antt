@@ -4,19 +4,17 @@ use Rattle.std.proofs.Common.{ℤ, ◌≤ℤ◌, ◌<ℤ◌, false, refl, sym, s
 use Rattle.jiff_core.proofs.SignedLemmas.{signed_arith}
 use Rattle.irs_base.specs.declared.stopped.Stopped.{Stopped}
 use Rattle.std.proofs.lemmas.Bool.{cases_lt}
-use Rattle.irs_base.specs.DayLists.{AreDays}
-use Rattle.irs_base.specs.Listed.{AllAfter, IsRising}
-use Rattle.irs_base.specs.Members.{day_at}
-use Rattle.irs_base.specs.Order.{First, comes_before}
+use Rattle.irs_base.specs.Lists.{AreDays, AllAfter, IsRising, day_at}
+use Rattle.irs_base.specs.Outcomes.{First, comes_before}
 use Rattle.irs_base.specs.Private.Order.{IsDecided}
 use Rattle.irs_base.specs.declared.places.Fault.{Fault}
 use Rattle.irs_base.proofs.FaultOrder.{one_fault}
 use Rattle.irs_terms.specs.declared.stream.Stream.{Stream}
 use Rattle.irs_adjust.proofs.FoundDays.{InRange, IsFound, decides_adjusts, decides_le}
-use Rattle.irs_periods.specs.Adjusting.{AdjustedList, AdjustsAt, BoundaryDays, BreaksAdjusted, DoesNotRise}
-use Rattle.irs_periods.specs.Adjusting.{MissesResult, NoResult, NotAfter, code_at}
-use Rattle.irs_periods.specs.Private.Adjusting.{FirstNoResult, FirstNotAfter}
-use Rattle.irs_periods.specs.Adjusting.{boundary_days_at, last_of, no_result_at, not_after_at}
+use Rattle.irs_periods.specs.Boundaries.{AdjustedList, AdjustsAt, BoundaryDays, BreaksAdjusted, DoesNotRise}
+use Rattle.irs_periods.specs.Boundaries.{MissesResult, NoResult, NotAfter, code_at, boundary_days_at, last_of}
+use Rattle.irs_periods.specs.Boundaries.{no_result_at, not_after_at}
+use Rattle.irs_periods.specs.Private.Spans.{FirstNoResult, FirstNotAfter}
 use Rattle.irs_periods.proofs.AdjustedBoundaries.{day_of_days, days_range, adjusted_there}
 use Rattle.irs_periods.proofs.AdjustedLemmas.{one_adjusted, rising_of}
 use Rattle.irs_periods.proofs.FirstAmong.{Among, first_among}

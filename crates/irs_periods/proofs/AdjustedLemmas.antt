@@ -4,18 +4,14 @@ use Rattle.std.proofs.Common.{◌≡◌, inl, inr, ℕ, zero, suc, ◌-◌, ◌<
 use Rattle.std.proofs.Common.{ap₂, subst, ℤ, pos, ◌+ℤ◌, ◌≤ℤ◌, ◌<ℤ◌}
 use Rattle.jiff_core.proofs.SignedLemmas.{signed_arith}
 use Rattle.irs_base.specs.Days.{last_day, all_days}
-use Rattle.irs_base.specs.DayLists.{AreDays}
-use Rattle.irs_base.specs.Listed.{Member, AllAfter, IsRising}
+use Rattle.irs_base.specs.Lists.{AreDays, Member, AllAfter, IsRising, day_at}
 use Rattle.irs_terms.specs.declared.stream.Stream.{Stream}
 use Rattle.irs_terms.specs.declared.results.Span.{Span}
 use Rattle.irs_adjust.proofs.CodeLaws.{one_adjusts}
-use Rattle.irs_terms.specs.FirstDay.{first_day_of}
-use Rattle.irs_periods.specs.Boundaries.{Boundaries}
-use Rattle.irs_periods.specs.Adjusting.{BoundaryDays, AdjustedList, AdjustsAt, NotAfter, code_at, boundary_days_at}
-use Rattle.irs_periods.specs.Adjusting.{last_of}
+use Rattle.irs_terms.specs.TermDates.{first_day_of, termination_of}
+use Rattle.irs_periods.specs.Boundaries.{Boundaries, BoundaryDays, AdjustedList, AdjustsAt, NotAfter, code_at}
+use Rattle.irs_periods.specs.Boundaries.{boundary_days_at, last_of}
 use Rattle.irs_periods.proofs.GridDays.{cases_ltz}
-use Rattle.irs_terms.specs.TermDates.{termination_of}
-use Rattle.irs_base.specs.Members.{day_at}
 
 same_days : (xs ys : List ℤ) → length xs ≡ length ys → ((i : ℕ) → i < length xs → day_at xs i ≡ day_at ys i) → xs ≡ ys
 same_days [] [] e h = refl

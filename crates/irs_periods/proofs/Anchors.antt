@@ -3,8 +3,7 @@ use Rattle.std.proofs.Common.{◌≡◌, inl, inr, ℕ, ◌*◌, Bool, true, fal
 use Rattle.std.proofs.Common.{arith}
 use Rattle.std.proofs.lemmas.Bool.{cases_lt}
 use Rattle.jiff_core.proofs.SignedLemmas.{signed_arith}
-use Rattle.irs_base.specs.Civils.{place_in_week}
-use Rattle.irs_base.specs.Days.{IsDay, weekday_at}
+use Rattle.irs_base.specs.Days.{place_in_week, IsDay, weekday_at}
 use Rattle.irs_terms.specs.Lawful.{IsLawfulFrequency, IsLawfulRoll, IsLawfulStream}
 use Rattle.irs_terms.specs.declared.codes.RollCode.{RollCode}
 use Rattle.irs_terms.specs.declared.codes.RollCode.TheVariants.{Eom, Dom, Imm, OnWeekday, NoRoll}
@@ -14,12 +13,9 @@ use Rattle.irs_terms.specs.declared.frequency.Frequency.{Frequency}
 use Rattle.irs_terms.specs.declared.frequency.Unit.{Unit as FrequencyUnit}
 use Rattle.irs_terms.specs.declared.frequency.Unit.TheVariants.{D, W, M, Y, T}
 use Rattle.irs_terms.specs.declared.stream.Stream.{Stream}
-use Rattle.irs_roll.specs.Grids.{IsMultiple, OnMonths, OnRollDay}
-use Rattle.irs_roll.specs.Rolls.{Fits, FitsBy, FitsWeek, IsRollDay, OnGrid, OnGridBy}
+use Rattle.irs_roll.specs.Rolls.{IsMultiple, OnMonths, OnRollDay, Fits, FitsBy, FitsWeek, IsRollDay, OnGrid, OnGridBy}
 use Rattle.irs_periods.specs.Spans.{period_anchor_by, anchor_of, is_term, stub_anchor}
-use Rattle.irs_terms.specs.FirstDay.{first_day_of}
-use Rattle.irs_terms.specs.Suiting.{IsWholeTerm}
-use Rattle.irs_terms.specs.TermDates.{termination_of}
+use Rattle.irs_terms.specs.TermDates.{first_day_of, IsWholeTerm, termination_of}
 use Rattle.irs_base.specs.Private.Order.{IsDecided}
 use Rattle.irs_roll.proofs.GridsDecided.{decides_on_grid}
 use Rattle.irs_terms.proofs.FirstDays.{first_day_is_day}

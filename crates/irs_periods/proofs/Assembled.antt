@@ -2,10 +2,10 @@
 use Rattle.std.proofs.Common.{◌≡◌, ◌⊎◌, ◌↔◌, inl, inr, ⊎_elim, Bool, true, false, is_lt, int_cmp, List, [], ◌∷◌, ◌++◌}
 use Rattle.std.proofs.Common.{ℤ, ◌<ℤ◌, ◌≤ℤ◌, refl, sym, subst, ◌∙◌, arith, append-nil}
 use Rattle.jiff_core.proofs.SignedLemmas.{signed_arith}
-use Rattle.irs_base.specs.Listed.{Member, AllAfter, Lists}
+use Rattle.irs_base.specs.Lists.{Member, AllAfter, Lists}
 use Rattle.irs_base.proofs.Rising.{member_old, member_new, member_cases, rising_push, one_rising}
 use Rattle.irs_periods.specs.Boundaries.{OnSpan, IsBoundaryBy}
-use Rattle.irs_periods.specs.Private.GridLists.{where_before}
+use Rattle.irs_periods.specs.Private.Spans.{where_before}
 
 all_after : (e : ℤ) (xs : List ℤ) → ((d : ℤ) → Member d xs → e <ℤ d) → AllAfter e xs
 all_after e [] h = tt

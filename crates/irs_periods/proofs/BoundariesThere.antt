@@ -3,23 +3,20 @@
 use Rattle.std.proofs.Common.{inl, inr, ⊎_elim, List, [], ◌∷◌, ℤ, ◌≤ℤ◌, refl, sym, subst, arith}
 use Rattle.jiff_core.proofs.SignedLemmas.{signed_arith}
 use Rattle.irs_base.specs.Days.{IsDay}
-use Rattle.irs_base.specs.DayLists.{AreDays}
-use Rattle.irs_base.specs.Listed.{Member, RunsFromTo}
+use Rattle.irs_base.specs.Lists.{AreDays, Member, RunsFromTo}
 use Rattle.irs_terms.specs.Lawful.{IsLawfulStream}
 use Rattle.irs_terms.specs.declared.results.Span.{Span}
 use Rattle.irs_terms.specs.declared.stream.Stream.{Stream}
 use Rattle.irs_roll.specs.Rolls.{OnGrid}
 use Rattle.irs_periods.specs.Boundaries.{Boundaries, IsBoundary, IsBoundaryBy, OnSpan}
-use Rattle.irs_periods.specs.SpanRules.{SpanKept}
-use Rattle.irs_periods.specs.Spans.{Regular}
+use Rattle.irs_periods.specs.Spans.{SpanKept, Regular}
 use Rattle.irs_periods.proofs.Assembled.{lists_same}
 use Rattle.irs_periods.proofs.Anchors.{anchor_day}
 use Rattle.irs_adjust.proofs.FoundDays.{decides_le}
 use Rattle.irs_periods.proofs.Ranges.{listed_between}
 use Rattle.irs_periods.proofs.SpanThere.{LiesInTerm, lies_in_term, term_day}
-use Rattle.irs_terms.specs.FirstDay.{first_day_of}
+use Rattle.irs_terms.specs.TermDates.{first_day_of, DatesInOrder, termination_of}
 use Rattle.irs_periods.proofs.TermOrder.{begins_before_end}
-use Rattle.irs_terms.specs.TermDates.{DatesInOrder, termination_of}
 use Rattle.irs_base.specs.Private.Order.{IsDecided}
 use Rattle.irs_roll.proofs.GridsDecided.{decides_on_grid}
 use Rattle.irs_base.proofs.Decided.{decides_same}

@@ -7,10 +7,8 @@ use Rattle.irs_base.specs.Elements.{effective_date, termination_date, period_dat
 use Rattle.irs_terms.specs.declared.adjustments.AdjustableDate.{AdjustableDate}
 use Rattle.irs_terms.specs.declared.stream.Stream.{Stream}
 use Rattle.irs_base.proofs.Firsts.{level_later, level_same, lt_false}
-use Rattle.irs_periods.specs.Adjusting.{BoundaryDays}
-use Rattle.irs_periods.specs.Private.Adjusting.{FirstLaterNoResult, FirstNoResult, FirstNotAfter, HasResult}
-use Rattle.irs_periods.specs.Adjusting.{NoResult, NotAfter, boundary_index, last_of}
-use Rattle.irs_periods.specs.Private.Adjusting.{named_before}
+use Rattle.irs_periods.specs.Boundaries.{BoundaryDays, NoResult, NotAfter, boundary_index, last_of}
+use Rattle.irs_periods.specs.Private.Spans.{FirstLaterNoResult, FirstNoResult, FirstNotAfter, HasResult, named_before}
 use Rattle.irs_terms.specs.TermDates.{first_day_element, first_day_element_by}
 
 -- the element by which a boundary is named, `start` being that of boundary 0

@@ -4,10 +4,10 @@ use Rattle.std.proofs.Common.{◌≤ℤ◌, refl, sym, ap, subst, ◌∙◌, ari
 use Rattle.std.proofs.lemmas.Bool.{cases_lt}
 use Rattle.jiff_core.proofs.SignedLemmas.{signed_arith}
 use borrow.Author.Differences.{up, down}
-use Rattle.irs_base.specs.Listed.{Member, IsRising, Lists}
+use Rattle.irs_base.specs.Lists.{Member, IsRising, Lists}
 use Rattle.irs_base.proofs.Rising.{member_old, member_new, member_cases, rising_push}
 use Rattle.irs_periods.specs.Boundaries.{OnSpan}
-use Rattle.irs_periods.specs.Private.GridLists.{days_from, where_before, all_boundaries}
+use Rattle.irs_periods.specs.Private.Spans.{days_from, where_before, all_boundaries}
 use Rattle.irs_periods.proofs.GridDays.{no_earlier, number_order}
 
 -- a list of n grid days has n days

@@ -1,7 +1,7 @@
 -- Neighbours among the numbers of a grid are neighbours among its days.
 use Rattle.std.proofs.Common.{◌≡◌, inl, inr, arith, ℤ, pos, ◌+ℤ◌, ◌-ℤ◌, ◌≤ℤ◌, ◌<ℤ◌}
 use Rattle.jiff_core.proofs.SignedLemmas.{signed_arith}
-use Rattle.irs_periods.specs.Nearest.{FirstFrom, FirstAfter, LastUpTo, LastBefore}
+use Rattle.irs_periods.specs.Spans.{FirstFrom, FirstAfter, LastUpTo, LastBefore}
 use Rattle.irs_periods.proofs.GridDays.{cases_ltz, no_earlier}
 
 module _ (f : ℤ → ℤ) (rises : (j k : ℤ) → j <ℤ k → f j <ℤ f k) (on : ℤ → Type 0) (nth_is_on : (k : ℤ)

@@ -6,10 +6,9 @@ use Rattle.irs_terms.specs.declared.codes.StubKind.TheVariants.{ShortInitial, Lo
 use Rattle.irs_terms.specs.declared.stream.Stream.{Stream}
 use Rattle.irs_terms.specs.declared.results.Span.{Span}
 use Rattle.irs_roll.specs.Rolls.{OnGrid}
-use Rattle.irs_periods.specs.Nearest.{FirstFrom, FirstAfter, LastUpTo, LastBefore, LongFirst, LongLast}
-use Rattle.irs_terms.specs.FirstDay.{first_day_of}
-use Rattle.irs_periods.specs.Spans.{StubSpan, SpanBy, Regular, is_term}
-use Rattle.irs_terms.specs.TermDates.{termination_of}
+use Rattle.irs_periods.specs.Spans.{FirstFrom, FirstAfter, LastUpTo, LastBefore, LongFirst, LongLast, StubSpan, SpanBy}
+use Rattle.irs_periods.specs.Spans.{Regular, is_term}
+use Rattle.irs_terms.specs.TermDates.{first_day_of, termination_of}
 
 module _ (on : ℤ → Type 0) where
   one_from : (d r q : ℤ) → FirstFrom on d r → FirstFrom on d q → r ≡ q

@@ -1,21 +1,16 @@
 -- Each call of this crate has one outcome.
 use Rattle.std.proofs.Common.{List, [], ◌∷◌, ℤ, arith}
-use Rattle.irs_base.specs.DayLists.{AreDays}
-use Rattle.irs_base.specs.Order.{comes_before}
-use Rattle.irs_base.specs.Outcomes.{Determined}
+use Rattle.irs_base.specs.Lists.{AreDays}
+use Rattle.irs_base.specs.Outcomes.{comes_before, Determined}
 use Rattle.irs_base.proofs.Outcomes.{unless_broken_determined}
 use Rattle.irs_terms.specs.Lawful.{IsLawfulStream}
-use Rattle.irs_terms.specs.FirstDay.{first_day_of}
-use Rattle.irs_terms.specs.Suiting.{IsWholeTerm}
-use Rattle.irs_terms.specs.TermDates.{DatesInOrder, termination_of}
+use Rattle.irs_terms.specs.TermDates.{first_day_of, IsWholeTerm, DatesInOrder, termination_of}
 use Rattle.irs_terms.specs.declared.results.Span.{Span}
 use Rattle.irs_terms.specs.declared.stream.Stream.{Stream}
 use Rattle.irs_adjust.proofs.FoundDays.{InRange}
-use Rattle.irs_periods.specs.Adjusting.{BoundaryDays, BreaksAdjusted}
-use Rattle.irs_periods.specs.Boundaries.{Boundaries, BreaksPeriods}
-use Rattle.irs_periods.specs.Outcomes.{AreAdjusted, IsRegularSpan, adjusted_of, boundaries_of, regular_span_of}
-use Rattle.irs_periods.specs.SpanRules.{BreaksSpan, SpanKept}
-use Rattle.irs_periods.specs.Spans.{Regular}
+use Rattle.irs_periods.specs.Boundaries.{BoundaryDays, BreaksAdjusted, Boundaries, BreaksPeriods, AreAdjusted}
+use Rattle.irs_periods.specs.Boundaries.{IsRegularSpan, adjusted_of, boundaries_of, regular_span_of}
+use Rattle.irs_periods.specs.Spans.{BreaksSpan, SpanKept, Regular}
 use Rattle.irs_periods.proofs.AdjustedDecided.{adjusted_decided, one_adjusted_rule, rising_there}
 use Rattle.irs_periods.proofs.AdjustedLemmas.{one_adjusted}
 use Rattle.irs_periods.proofs.BoundariesThere.{boundaries_there}

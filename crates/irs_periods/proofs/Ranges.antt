@@ -2,9 +2,9 @@
 use Rattle.std.proofs.Common.{◌≡◌, ◌⊎◌, inl, inr, ⊎_elim, ℕ, zero, suc, List, [], ◌∷◌, ◌++◌, ℤ, pos, negsuc, ◌+ℤ◌, ◌-ℤ◌}
 use Rattle.std.proofs.Common.{◌≤ℤ◌, ◌<ℤ◌, refl, sym, subst, arith}
 use Rattle.jiff_core.proofs.SignedLemmas.{signed_arith}
-use Rattle.irs_base.specs.Listed.{Member, Lists}
+use Rattle.irs_base.specs.Lists.{Member, Lists}
 use Rattle.irs_base.proofs.Rising.{member_old, member_new, member_cases, rising_push}
-use Rattle.irs_periods.specs.Nearest.{FirstFrom, FirstAfter, LastUpTo, LastBefore}
+use Rattle.irs_periods.specs.Spans.{FirstFrom, FirstAfter, LastUpTo, LastBefore}
 use Rattle.irs_periods.proofs.GridDays.{cases_ltz}
 use Rattle.irs_periods.proofs.Assembled.{lists_same}
 use Rattle.irs_base.specs.Private.Order.{IsDecided}

@@ -1,14 +1,12 @@
 -- The last regular period ends at the last boundary, or at the last but one before a final stub.
 use Rattle.std.proofs.Common.{◌≡◌, inl, inr, suc, ◌-◌, ◌≤◌, List, [], ◌∷◌, length, ℤ, ◌≤ℤ◌, ◌<ℤ◌, refl, sym, ap, ◌∙◌, arith}
 use Rattle.jiff_core.proofs.SignedLemmas.{signed_arith}
-use Rattle.irs_base.specs.Listed.{IsRising, Member}
-use Rattle.irs_base.specs.Members.{day_at}
+use Rattle.irs_base.specs.Lists.{IsRising, Member, day_at}
 use Rattle.irs_terms.specs.TermDates.{DatesInOrder, termination_of}
 use Rattle.irs_terms.specs.declared.results.Span.{Span}
 use Rattle.irs_terms.specs.declared.stream.Stream.{Stream}
 use Rattle.irs_periods.specs.Boundaries.{Boundaries, IsBoundary, RegularEnd}
-use Rattle.irs_periods.specs.SpanRules.{SpanKept}
-use Rattle.irs_periods.specs.Spans.{Regular}
+use Rattle.irs_periods.specs.Spans.{SpanKept, Regular}
 use Rattle.irs_periods.proofs.BoundariesThere.{boundary_in_term}
 use Rattle.irs_periods.proofs.RegularStarts.{after_member}
 use Rattle.irs_periods.proofs.SpanThere.{LiesInTerm, lies_in_term, last_is_boundary}

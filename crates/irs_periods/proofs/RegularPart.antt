@@ -2,24 +2,21 @@
 use Rattle.std.proofs.Common.{◌≡◌, ◌↔◌, ℕ, ◌+◌, ◌≤◌, false, ℤ, pos, ◌+ℤ◌, ◌≤ℤ◌, ◌<ℤ◌, refl, subst, arith}
 use Rattle.jiff_core.proofs.SignedLemmas.{signed_arith}
 use Rattle.irs_base.specs.Days.{IsDay}
-use Rattle.irs_base.specs.Listed.{Lists}
+use Rattle.irs_base.specs.Lists.{Lists}
 use Rattle.irs_terms.specs.declared.frequency.Unit.{Unit as FrequencyUnit}
 use Rattle.irs_terms.specs.declared.frequency.Unit.TheVariants.{D, W, M, Y, T}
 use Rattle.irs_terms.specs.declared.stream.Stream.{Stream}
 use Rattle.irs_terms.specs.declared.results.Span.{Span}
 use Rattle.irs_roll.specs.Rolls.{OnGrid}
-use Rattle.irs_terms.specs.FirstDay.{first_day_of}
-use Rattle.irs_periods.specs.Spans.{Regular, GivenSpan, given_anchor, is_term}
-use Rattle.irs_periods.specs.SpanRules.{SpanKept}
+use Rattle.irs_terms.specs.TermDates.{first_day_of, IsWholeTerm, DatesInOrder, termination_of}
+use Rattle.irs_periods.specs.Spans.{Regular, GivenSpan, given_anchor, is_term, SpanKept}
 use Rattle.irs_periods.specs.Boundaries.{Boundaries, OnSpan}
-use Rattle.irs_periods.specs.Private.GridLists.{all_boundaries, days_from}
+use Rattle.irs_periods.specs.Private.Spans.{all_boundaries, days_from}
 use Rattle.irs_periods.proofs.TermOrder.{begins_before_end}
 use Rattle.irs_periods.proofs.GridDays.{no_earlier, number_order}
 use Rattle.irs_periods.proofs.GridSpans.{span_days}
 use Rattle.irs_periods.proofs.SpanOrder.{InTerm, given_in_term}
 use Rattle.irs_periods.proofs.Assembled.{assembled, same_boundaries}
-use Rattle.irs_terms.specs.Suiting.{IsWholeTerm}
-use Rattle.irs_terms.specs.TermDates.{DatesInOrder, termination_of}
 
 -- a unit that isn't the term is a unit of time
 pub timed_unit : (unit : FrequencyUnit) → (unit ≡ T → ⊥) → is_term unit ≡ false

@@ -1,15 +1,12 @@
 -- The first regular period starts at boundary 0, or at boundary 1 after an initial stub.
 use Rattle.std.proofs.Common.{◌≡◌, inl, inr, List, [], ◌∷◌, ℤ, ◌≤ℤ◌, ◌<ℤ◌, refl, sym, ◌∙◌, arith}
 use Rattle.jiff_core.proofs.SignedLemmas.{signed_arith}
-use Rattle.irs_base.specs.Listed.{Member, AllAfter, IsRising}
-use Rattle.irs_base.specs.Members.{day_at}
-use Rattle.irs_terms.specs.FirstDay.{first_day_of}
-use Rattle.irs_terms.specs.TermDates.{DatesInOrder}
+use Rattle.irs_base.specs.Lists.{Member, AllAfter, IsRising, day_at}
+use Rattle.irs_terms.specs.TermDates.{first_day_of, DatesInOrder}
 use Rattle.irs_terms.specs.declared.results.Span.{Span}
 use Rattle.irs_terms.specs.declared.stream.Stream.{Stream}
 use Rattle.irs_periods.specs.Boundaries.{Boundaries, IsBoundary, RegularStart}
-use Rattle.irs_periods.specs.SpanRules.{SpanKept}
-use Rattle.irs_periods.specs.Spans.{Regular}
+use Rattle.irs_periods.specs.Spans.{SpanKept, Regular}
 use Rattle.irs_periods.proofs.BoundariesThere.{boundary_in_term}
 use Rattle.irs_periods.proofs.SpanThere.{LiesInTerm, lies_in_term, first_is_boundary}
 

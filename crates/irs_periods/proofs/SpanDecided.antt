@@ -1,18 +1,17 @@
 -- K30 or K31 is the first rule that the span of a stream breaks, or it breaks none.
 use Rattle.std.proofs.Common.{◌≡◌, ◌⊎◌, inl, inr, ⊎_elim, false, refl, sym, subst}
 use Rattle.irs_base.specs.Days.{IsDay}
-use Rattle.irs_base.specs.Order.{First, comes_before}
+use Rattle.irs_base.specs.Outcomes.{First, comes_before}
 use Rattle.irs_base.specs.Private.Order.{IsDecided}
 use Rattle.irs_base.specs.declared.places.Fault.{Fault}
 use Rattle.irs_base.proofs.FaultOrder.{fault_order, one_fault}
 use Rattle.irs_terms.specs.Lawful.{IsLawfulStream}
-use Rattle.irs_terms.specs.Suiting.{IsWholeTerm}
-use Rattle.irs_terms.specs.TermDates.{DatesInOrder}
+use Rattle.irs_terms.specs.TermDates.{IsWholeTerm, DatesInOrder}
 use Rattle.irs_terms.specs.declared.results.Span.{Span}
 use Rattle.irs_terms.specs.declared.stream.Stream.{Stream}
 use Rattle.irs_roll.specs.Rolls.{Fits, OnGrid}
 use Rattle.irs_roll.proofs.GridsDecided.{decides_on_grid}
-use Rattle.irs_periods.specs.SpanRules.{BreaksSpan, LastOffGrid, RollMisfits, SpanKept, last_off_grid, roll_misfits}
+use Rattle.irs_periods.specs.Spans.{BreaksSpan, LastOffGrid, RollMisfits, SpanKept, last_off_grid, roll_misfits}
 use Rattle.irs_periods.specs.Spans.{Regular, anchor_of}
 use Rattle.irs_periods.proofs.Anchors.{anchor_day, decides_fits, decides_term}
 use Rattle.irs_periods.proofs.OneSpan.{one_span}

@@ -2,8 +2,8 @@
 use Rattle.std.proofs.Common.{inl, inr, ⊎_elim, ◌↔◌, Option, Some, None, ℤ}
 use Rattle.irs_terms.specs.declared.codes.StubKind.{StubKind}
 use Rattle.irs_terms.specs.declared.codes.StubKind.TheVariants.{ShortInitial, LongInitial, ShortFinal, LongFinal}
-use Rattle.irs_periods.specs.Nearest.{FirstFrom, FirstAfter, LastUpTo, LastBefore, LongFirst, LongLast}
-use Rattle.irs_periods.specs.Spans.{StubSpan, GivenSpan}
+use Rattle.irs_periods.specs.Spans.{FirstFrom, FirstAfter, LastUpTo, LastBefore, LongFirst, LongLast, StubSpan}
+use Rattle.irs_periods.specs.Spans.{GivenSpan}
 
 module _ (p q : ℤ → Type 0) (same : (d : ℤ) → p d ↔ q d) where
   first_from_same : (d r : ℤ) → FirstFrom p d r → FirstFrom q d r

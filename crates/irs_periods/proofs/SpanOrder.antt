@@ -3,8 +3,7 @@ use Rattle.std.proofs.Common.{◌≡◌, ⊎_elim, Option, Some, None, IfSome, �
 use Rattle.jiff_core.proofs.SignedLemmas.{signed_arith}
 use Rattle.irs_terms.specs.declared.codes.StubKind.{StubKind}
 use Rattle.irs_terms.specs.declared.codes.StubKind.TheVariants.{ShortInitial, LongInitial, ShortFinal, LongFinal}
-use Rattle.irs_periods.specs.Nearest.{LongFirst, LongLast}
-use Rattle.irs_periods.specs.Spans.{StubSpan, GivenSpan, stub_anchor, given_anchor}
+use Rattle.irs_periods.specs.Spans.{LongFirst, LongLast, StubSpan, GivenSpan, stub_anchor, given_anchor}
 use Rattle.irs_terms.specs.TermDates.{given_or}
 
 -- the span from first to last lies in the term from e to t, and begins on the grid

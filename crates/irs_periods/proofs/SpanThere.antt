@@ -10,18 +10,16 @@ use Rattle.irs_terms.specs.declared.codes.StubKind.TheVariants.{ShortInitial, Lo
 use Rattle.irs_terms.specs.declared.results.Span.{Span}
 use Rattle.irs_terms.specs.declared.stream.Stream.{Stream}
 use Rattle.irs_roll.specs.Rolls.{Fits, OnGrid}
-use Rattle.irs_periods.specs.Nearest.{FirstFrom, LastUpTo, LongFirst, LongLast}
-use Rattle.irs_periods.specs.SpanRules.{BreaksSpan, RollMisfits, SpanKept, roll_misfits, last_off_grid}
+use Rattle.irs_periods.specs.Spans.{FirstFrom, LastUpTo, LongFirst, LongLast, BreaksSpan, RollMisfits, SpanKept}
+use Rattle.irs_periods.specs.Spans.{roll_misfits, last_off_grid, GivenSpan, Regular, SpanBy, StubSpan, anchor_of}
+use Rattle.irs_periods.specs.Spans.{given_anchor, stub_anchor}
 use Rattle.irs_periods.specs.Boundaries.{IsBoundary}
-use Rattle.irs_periods.specs.Spans.{GivenSpan, Regular, SpanBy, StubSpan, anchor_of, given_anchor, stub_anchor}
 use Rattle.irs_periods.proofs.RegularPart.{timed_unit}
 use Rattle.irs_periods.proofs.SpanOrder.{InTerm, given_in_term}
 use Rattle.irs_periods.proofs.Anchors.{anchor_day, decides_fits, decides_term, own_grid}
 use Rattle.irs_periods.proofs.Ranges.{first_between, last_between, after_between, before_between}
-use Rattle.irs_terms.specs.FirstDay.{first_day_of}
+use Rattle.irs_terms.specs.TermDates.{first_day_of, IsWholeTerm, DatesInOrder, termination_of, given_or}
 use Rattle.irs_periods.proofs.TermOrder.{begins_before_end}
-use Rattle.irs_terms.specs.Suiting.{IsWholeTerm}
-use Rattle.irs_terms.specs.TermDates.{DatesInOrder, termination_of, given_or}
 use Rattle.irs_base.specs.Private.Order.{IsDecided}
 use Rattle.irs_roll.proofs.GridsDecided.{decides_on_grid}
 use Rattle.irs_base.proofs.Decided.{decides_same}

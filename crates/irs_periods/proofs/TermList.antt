@@ -1,13 +1,11 @@
 -- A stream whose frequency is the term has two boundaries.
 use Rattle.std.proofs.Common.{inl, inr, ⊎_elim, [], ◌∷◌, ℤ, ◌<ℤ◌}
-use Rattle.irs_base.specs.Listed.{Member}
+use Rattle.irs_base.specs.Lists.{Member}
 use Rattle.irs_terms.specs.declared.stream.Stream.{Stream}
 use Rattle.irs_terms.specs.declared.results.Span.{Span}
 use Rattle.irs_roll.specs.Rolls.{OnGrid}
-use Rattle.irs_terms.specs.FirstDay.{first_day_of}
+use Rattle.irs_terms.specs.TermDates.{first_day_of, IsWholeTerm, termination_of}
 use Rattle.irs_periods.specs.Boundaries.{Boundaries, IsBoundary}
-use Rattle.irs_terms.specs.Suiting.{IsWholeTerm}
-use Rattle.irs_terms.specs.TermDates.{termination_of}
 
 no_grid : (s : Stream) (a d : ℤ) → IsWholeTerm s.freq → OnGrid s.freq s.roll a d → ⊥
 no_grid s a d term on = rw term at on

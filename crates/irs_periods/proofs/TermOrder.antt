@@ -3,8 +3,7 @@ use Rattle.std.proofs.Common.{Option, Some, None, IfSome, unwrap_or, ℤ, ◌<�
 use Rattle.jiff_core.proofs.SignedLemmas.{signed_arith}
 use Rattle.irs_terms.specs.declared.adjustments.AdjustableDate.{AdjustableDate}
 use Rattle.irs_terms.specs.declared.stream.Stream.{Stream}
-use Rattle.irs_terms.specs.FirstDay.{first_day_of}
-use Rattle.irs_terms.specs.TermDates.{DatesInOrder, termination_of}
+use Rattle.irs_terms.specs.TermDates.{first_day_of, DatesInOrder, termination_of}
 
 runs : (start : Option AdjustableDate) (v : AdjustableDate) (t : ℤ) → IfSome start (λ d. d.day <ℤ v.day) → v.day <ℤ t
     → (unwrap_or start v).day <ℤ t

@@ -4,8 +4,8 @@ use Rattle.jiff_core.proofs.SignedLemmas.{signed_arith}
 use Rattle.irs_base.specs.Days.{IsDay, all_days}
 use Rattle.irs_periods.specs.declared.nearest.Way.{Way}
 use Rattle.irs_periods.specs.declared.nearest.Way.TheVariants.{Back, Ahead}
-use Rattle.irs_periods.specs.Nearest.{FirstAfter, LastBefore}
-use Rattle.irs_periods.specs.Private.Ways.{steps, Within, ShortEnd, LongEnd}
+use Rattle.irs_periods.specs.Spans.{FirstAfter, LastBefore}
+use Rattle.irs_periods.specs.Private.Spans.{steps, Within, ShortEnd, LongEnd}
 use Rattle.irs_periods.proofs.GridDays.{cases_ltz, grows, no_earlier}
 use Rattle.irs_periods.proofs.NearestLemmas.{first_from, last_up_to, first_after, last_before}
 

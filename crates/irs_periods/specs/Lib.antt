@@ -1,7 +1,3 @@
-pub mod Nearest
 pub mod Spans
-pub mod SpanRules
 pub mod Boundaries
-pub mod Adjusting
-pub mod Outcomes
 pub mod Private

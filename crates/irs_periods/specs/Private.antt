@@ -1,4 +1,1 @@
 pub mod Spans
-pub mod Adjusting
-pub mod Ways
-pub mod GridLists

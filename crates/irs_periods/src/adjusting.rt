@@ -4,17 +4,14 @@
 //! `calculationPeriodDatesAdjustments`; 2006 ISDA Definitions, 4.10 and 4.12). That they have to
 //! rise is our rule.
 ghost use Rattle.std.specs.Prelude.{◌≡◌, ◌<◌, ◌≤◌, ◌^◌, ℕ, ℤ, length, IfSome, IfNone};
-ghost use Rattle.irs_base.specs.Faults.{fault_at};
+ghost use Rattle.irs_base.specs.Outcomes.{fault_at, Determined, IfMemory, Meets};
 ghost use Rattle.irs_base.specs.declared.places.Rule.TheVariants.{K33};
-ghost use Rattle.irs_base.specs.Outcomes.{Determined, IfMemory, Meets};
 ghost use Rattle.irs_terms.specs.TermDates.{DatesInOrder};
 ghost use Rattle.irs_terms.specs.declared.results.Span.{Span};
-ghost use Rattle.irs_periods.specs.Adjusting.{AdjustedList, AdjustsAt};
-ghost use Rattle.irs_periods.specs.Private.Adjusting.{FirstLaterNoResult, FirstNoResult, FirstNotAfter, EachHasResult};
-ghost use Rattle.irs_periods.specs.Private.Adjusting.{EachLaterHasResult};
-ghost use Rattle.irs_periods.specs.Adjusting.{MissesResult, NotAfter, boundary_days_by, no_result_at, not_after_at};
-ghost use Rattle.irs_periods.specs.Boundaries.{Boundaries};
-ghost use Rattle.irs_periods.specs.Outcomes.{adjusted_of};
+ghost use Rattle.irs_periods.specs.Boundaries.{AdjustedList, AdjustsAt, MissesResult, NotAfter, boundary_days_by};
+ghost use Rattle.irs_periods.specs.Boundaries.{no_result_at, not_after_at, Boundaries, adjusted_of};
+ghost use Rattle.irs_periods.specs.Private.Spans.{FirstLaterNoResult, FirstNoResult, FirstNotAfter, EachHasResult};
+ghost use Rattle.irs_periods.specs.Private.Spans.{EachLaterHasResult};
 
 use crate::PerErr;
 use crate::span::first_day_elem;

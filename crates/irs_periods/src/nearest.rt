@@ -2,7 +2,7 @@
 //! found by halving the number of steps from the anchor.
 ghost use Rattle.std.specs.Prelude.{◌≡◌, ◌↔◌, ◌+◌, ◌≤◌, pos, IsTrue, SomeIff};
 ghost use Rattle.irs_base.specs.Days.{IsDay, all_days};
-ghost use Rattle.irs_periods.specs.Private.Ways.{steps, Within, ShortEnd, LongEnd};
+ghost use Rattle.irs_periods.specs.Private.Spans.{steps, Within, ShortEnd, LongEnd};
 
 use irs_base::{ALL_DAYS, Day};
 use irs_roll::Grid;

@@ -18,15 +18,12 @@ ghost use Rattle.std.specs.Prelude.{◌≡◌, ◌↔◌, false, true, pos, ◌<
 ghost use Rattle.irs_base.specs.Days.{IsDay};
 ghost use Rattle.irs_base.specs.Outcomes.{Determined, MeetsExactly};
 ghost use Rattle.irs_terms.specs.Lawful.{IsLawfulStream};
-ghost use Rattle.irs_terms.specs.FirstDay.{first_day_of};
-ghost use Rattle.irs_periods.specs.Outcomes.{regular_span_of};
-ghost use Rattle.irs_periods.specs.Spans.{Regular, StubSpan, anchor_of, given_anchor_of, is_term};
+ghost use Rattle.irs_terms.specs.TermDates.{first_day_of, IsWholeTerm, FrequencySuits, DatesInOrder, first_day_element};
+ghost use Rattle.irs_terms.specs.TermDates.{termination_of};
+ghost use Rattle.irs_periods.specs.Boundaries.{regular_span_of};
+ghost use Rattle.irs_periods.specs.Spans.{Regular, StubSpan, anchor_of, given_anchor_of, is_term, stub_anchor};
+ghost use Rattle.irs_periods.specs.Spans.{anchor_element, last_element, last_off_grid, roll_misfits};
 ghost use Rattle.irs_periods.specs.Private.Spans.{GivenSpanOf};
-ghost use Rattle.irs_periods.specs.Spans.{stub_anchor};
-ghost use Rattle.irs_periods.specs.SpanRules.{anchor_element, last_element, last_off_grid};
-ghost use Rattle.irs_periods.specs.SpanRules.{roll_misfits};
-ghost use Rattle.irs_terms.specs.Suiting.{IsWholeTerm, FrequencySuits};
-ghost use Rattle.irs_terms.specs.TermDates.{DatesInOrder, first_day_element, termination_of};
 
 use crate::nearest::{Way, long_end, short_end};
 use irs_base::{Day, Elem, Fault, Rule};

@@ -1,9 +1,9 @@
 -- Texts that are kept as they are, and lists of centres: what is read of a clean one is what it says, and nothing
 -- else is.
 use Rattle.irs_base.specs.Limits.{most_centers}
-use Rattle.irs_elements.specs.Find.{leaf_text_in}
+use Rattle.irs_elements.specs.Elements.{leaf_text_in}
 use Rattle.irs_elements.specs.Lines.{object}
-use Rattle.irs_elements.specs.Words.{is_center_name}
+use Rattle.irs_elements.specs.Leaves.{is_center_name}
 use Rattle.irs_elements.specs.declared.table.Count.TheVariants.{OneTo}
 use Rattle.irs_elements.specs.declared.table.Leaf.{Leaf as LeafKind}
 use Rattle.irs_elements.specs.declared.table.Leaf.TheVariants.{CenterName}

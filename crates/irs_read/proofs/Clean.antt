@@ -5,9 +5,8 @@ use Rattle.irs_base.specs.declared.places.Rule.TheVariants.{K2, K3, K5, K6, K7}
 use Rattle.irs_elements.proofs.Exact.{both_true}
 use Rattle.irs_elements.proofs.Steps.{choice_kept}
 use Rattle.irs_elements.specs.Elements.{FaultAt, IsMemberRow, absent_index, index_in, is_chosen, inside, is_element}
-use Rattle.irs_elements.specs.Elements.{is_required}
-use Rattle.irs_elements.specs.Elements.{missing, most, name_at, own, place, shape, too_many, under, unmet}
-use Rattle.irs_elements.specs.Find.{member, once, values_in, values_of}
+use Rattle.irs_elements.specs.Elements.{is_required, missing, most, name_at, own, place, shape, too_many, under, unmet}
+use Rattle.irs_elements.specs.Elements.{member, once, values_in, values_of}
 use Rattle.irs_elements.specs.Leaves.{has_value, leaf_rule, out_of_profile, text_of_leaf, text_rule}
 use Rattle.irs_elements.specs.declared.table.Choice.{Choice}
 use Rattle.irs_elements.specs.declared.table.Choice.TheVariants.{ExactlyOne}
@@ -15,10 +14,7 @@ use Rattle.irs_elements.specs.declared.table.Kind.{Kind}
 use Rattle.irs_elements.specs.declared.table.Kind.TheVariants.{Object, Leaf, Passed, Refused}
 use Rattle.irs_elements.specs.declared.table.Leaf.{Leaf as LeafKind}
 use Rattle.irs_elements.specs.declared.table.Row.{Row}
-use Rattle.irs_json.specs.Carrier.{child_of, present}
-use Rattle.irs_json.specs.Leaves.{Leaf as LeafSaid, leaf_of}
-use Rattle.irs_json.specs.Names.{element_names}
-use Rattle.irs_json.specs.Values.{items_of}
+use Rattle.irs_json.specs.Leaves.{child_of, present, Leaf as LeafSaid, leaf_of, element_names, items_of}
 use Rattle.serde_json.specs.Data.{Data, null, boolean, number, string, array, object, no_items, item}
 use Rattle.serde_json.specs.Find.{get}
 use Rattle.std.proofs.Common.{◌≡◌, ℕ, ◌<◌, ◌≤◌, nat_lt, Bool, true, false, ◌&&◌, ◌==◌, true≢false, ◌⊎◌, inl, inr, List}

@@ -3,12 +3,10 @@ use Rattle.irs_base.specs.Elements.{swap_stream}
 use Rattle.irs_base.specs.declared.places.Broken.{Broken}
 use Rattle.irs_base.specs.declared.places.Rule.TheVariants.{K2, K7}
 use Rattle.irs_elements.proofs.First.{Below, first_is, first_more, first_one, first_or, first_same}
-use Rattle.irs_elements.specs.Elements.{FaultAt}
-use Rattle.irs_elements.specs.Find.{values_in}
-use Rattle.irs_json.specs.Names.{element_names}
-use Rattle.irs_read.specs.StreamLines.{swap_names, swap_rows}
-use Rattle.irs_read.specs.Swaps.{Among, StreamFault, StreamsFault, SwapFault, in_stream, many_streams, no_stream}
-use Rattle.irs_read.specs.Swaps.{outside}
+use Rattle.irs_elements.specs.Elements.{FaultAt, values_in}
+use Rattle.irs_json.specs.Leaves.{element_names}
+use Rattle.irs_read.specs.Documents.{swap_names, swap_rows, Among, StreamFault, StreamsFault, SwapFault, in_stream}
+use Rattle.irs_read.specs.Documents.{many_streams, no_stream, outside}
 use Rattle.irs_read.specs.declared.table.TheConstants.{SWAP}
 use Rattle.irs_base.specs.Limits.{most_streams}
 use Rattle.serde_json.specs.Data.{Data}
@@ -18,7 +16,7 @@ use Rattle.std.proofs.Common.{◌≡◌, ℕ, ◌+◌, ◌<◌, ◌≤◌, true,
 use Rattle.std.proofs.Common.{None, option_map, refl, sym, ap, ◌∙◌, subst, arith}
 use Rattle.std.proofs.lemmas.Option.{slice_get_within, slice_get-map}
 use Rattle.std.specs.Prelude.{slice_get, is_some, codes}
-use Rattle.irs_base.specs.Order.{IsFirstBroken, earlier_broken}
+use Rattle.irs_base.specs.Outcomes.{IsFirstBroken, earlier_broken}
 
 module _ (P : ℕ → Data → Broken → Type 0) where
   -- the rules that the value at a place breaks

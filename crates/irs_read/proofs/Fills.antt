@@ -1,7 +1,6 @@
 -- What is read of a clean value is what the value says, and nothing else is: for leaves, members and lists.
 use Prim.Native.String.{String}
-use Rattle.irs_elements.specs.Elements.{name_at}
-use Rattle.irs_elements.specs.Find.{member, once, values_in}
+use Rattle.irs_elements.specs.Elements.{name_at, member, once, values_in}
 use Rattle.irs_elements.specs.Leaves.{has_value, text_of_leaf}
 use Rattle.irs_elements.specs.Lines.{Form}
 use Rattle.irs_elements.specs.declared.table.Count.{Count}

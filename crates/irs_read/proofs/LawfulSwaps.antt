@@ -3,23 +3,20 @@ use Rattle.irs_base.specs.Elements.{swap_stream}
 use Rattle.irs_base.specs.declared.places.Broken.{Broken}
 use Rattle.irs_base.specs.declared.places.Rule.TheVariants.{K2, K3, K7}
 use Rattle.irs_elements.specs.Elements.{own, place}
-use Rattle.irs_json.specs.Names.{element_names}
+use Rattle.irs_json.specs.Leaves.{element_names}
 use Rattle.irs_read.proofs.Clean.{clean_from, le_or_lt}
 use Rattle.irs_read.proofs.Fills.{each_gives, each_only}
 use Rattle.irs_read.proofs.Rows.{At, at_top}
 use Rattle.irs_read.proofs.StreamReads.{stream_gives, stream_only}
-use Rattle.irs_read.specs.Reading.{Means}
+use Rattle.irs_read.specs.Documents.{Means, DocumentFault, below, the_swap, EachStated, IsStated, stream_names}
+use Rattle.irs_read.specs.Documents.{stream_rows, swap_rows, StreamsFault, SwapFault, in_stream, many_streams}
+use Rattle.irs_read.specs.Documents.{no_stream, outside}
 use Rattle.irs_read.specs.StreamElements.{StreamSays, SwapSays}
 use Rattle.irs_read.proofs.Streams.{GoodLists, all_good, stream_lawful}
-use Rattle.irs_read.specs.Documents.{DocumentFault, below, the_swap}
 use Rattle.irs_read.specs.Private.Meaning.{stream_in, swap_in}
-use Rattle.irs_read.specs.References.{streams_in}
-use Rattle.irs_read.specs.References.{lists_of}
-use Rattle.irs_read.specs.Stated.{EachStated, IsStated}
+use Rattle.irs_read.specs.Readings.{streams_in, lists_of}
 use Rattle.irs_read.proofs.StatedTables.{stated}
 use Rattle.irs_read.proofs.TableLaws.{code_names, stream_fault}
-use Rattle.irs_read.specs.StreamLines.{stream_names, stream_rows, swap_rows}
-use Rattle.irs_read.specs.Swaps.{StreamsFault, SwapFault, in_stream, many_streams, no_stream, outside}
 use Rattle.irs_read.specs.declared.table.TheConstants.{ROWS, SWAP}
 use Rattle.irs_terms.specs.Lawful.{IsLawfulSwap, IsLawfulStream}
 use Rattle.irs_base.specs.Limits.{most_streams}

@@ -1,6 +1,6 @@
 -- The lists of centres of one stream more.
-use Rattle.irs_elements.specs.Find.{seen}
-use Rattle.irs_read.specs.References.{lists_in, lists_of}
+use Rattle.irs_elements.specs.Elements.{seen}
+use Rattle.irs_read.specs.Readings.{lists_in, lists_of}
 use Rattle.serde_json.specs.Data.{Data}
 use Rattle.serde_json.specs.View.{view}
 use Rattle.serde_json.specs.declared.value.Value.{Value}

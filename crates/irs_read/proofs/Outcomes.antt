@@ -2,16 +2,13 @@
 use Rattle.std.proofs.Common.{◌≡◌, Result, Ok, Err, refl, sym, ap, ◌∙◌}
 use Rattle.std.specs.Borrow.{Bor}
 use Rattle.std.specs.Prelude.{IfErr, IfOk}
-use Rattle.irs_base.specs.Order.{First, is_before}
-use Rattle.irs_base.specs.Outcomes.{Determined, answered, refused}
+use Rattle.irs_base.specs.Outcomes.{First, is_before, Determined, answered, refused}
 use Rattle.irs_base.specs.declared.places.Broken.{Broken}
 use Rattle.irs_base.proofs.FaultOrder.{broken_ties}
 use Rattle.irs_base.proofs.Firsts.{one_first}
 use Rattle.irs_read.proofs.LawfulSwaps.{document_means, means_read}
-use Rattle.irs_read.specs.Documents.{DocumentFault, Way, the_swap}
+use Rattle.irs_read.specs.Documents.{DocumentFault, Way, the_swap, swap_of_document, Means}
 use Rattle.irs_read.specs.Private.Meaning.{swap_in}
-use Rattle.irs_read.specs.Outcomes.{swap_of_document}
-use Rattle.irs_read.specs.Reading.{Means}
 use Rattle.irs_terms.specs.declared.stream_list.Swap.{Swap}
 use Rattle.serde_json.specs.Data.{Data}
 use Rattle.serde_json.specs.View.{view}

@@ -4,11 +4,10 @@ use Rattle.irs_elements.proofs.Exact.{both_true}
 use Rattle.irs_elements.specs.Codes.{among, day_number_at, day_roll_at, first_there, is_first_digit, named_roll_at}
 use Rattle.irs_elements.specs.Codes.{roll_at}
 use Rattle.irs_elements.specs.Codes.{tenor_unit_at}
-use Rattle.irs_elements.specs.Decimals.{dec_at}
-use Rattle.irs_elements.specs.Find.{leaf_text_in}
-use Rattle.irs_elements.specs.Numbers.{multiplier_at, notional_at, observation_days_at, offset_at, precision_at}
+use Rattle.irs_elements.specs.Numbers.{dec_at, multiplier_at, notional_at, observation_days_at, offset_at, precision_at}
 use Rattle.irs_elements.specs.Numbers.{leaf_rate_at, whole_at, within}
-use Rattle.irs_elements.specs.Words.{currency_at, is_capital, is_currency}
+use Rattle.irs_elements.specs.Elements.{leaf_text_in}
+use Rattle.irs_elements.specs.Leaves.{currency_at, is_capital, is_currency}
 use Rattle.irs_read.specs.Readings.{said}
 use Rattle.irs_read.specs.Private.Meaning.{scale_at}
 use Rattle.irs_read.specs.declared.leaf_values.Scale.{Scale}

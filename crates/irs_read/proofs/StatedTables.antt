@@ -1,21 +1,18 @@
 -- In a value that breaks no rule of a table of elements nothing is wanting.
 use Rattle.irs_elements.proofs.Steps.{choice_kept}
 use Rattle.irs_elements.specs.Elements.{IsMemberRow, is_chosen, has_odd, index_in, inside, is_element, is_odd}
-use Rattle.irs_elements.specs.Elements.{is_required}
-use Rattle.irs_elements.specs.Elements.{most, name_at, no_href, odd, shape, under, unmet}
-use Rattle.irs_elements.specs.Find.{once, leaf_text_in}
+use Rattle.irs_elements.specs.Elements.{is_required, most, name_at, no_href, odd, shape, under, unmet, once}
+use Rattle.irs_elements.specs.Elements.{leaf_text_in}
 use Rattle.irs_elements.specs.declared.table.Choice.{Choice}
 use Rattle.irs_elements.specs.declared.table.Choice.TheVariants.{Free, Reference}
 use Rattle.irs_elements.specs.declared.table.Kind.{Kind}
 use Rattle.irs_elements.specs.declared.table.Kind.TheVariants.{Object, Leaf}
 use Rattle.irs_elements.specs.declared.table.Leaf.{Leaf as LeafKind}
 use Rattle.irs_elements.specs.declared.table.Row.{Row}
-use Rattle.irs_json.specs.Carrier.{child_of}
-use Rattle.irs_json.specs.Leaves.{leaf_of}
-use Rattle.irs_json.specs.Values.{items_of}
+use Rattle.irs_json.specs.Leaves.{child_of, leaf_of, items_of}
 use Rattle.irs_read.proofs.Clean.{Unbroken, few_by, filled, head_of, le_or_lt, names_by, said_by, there_by}
-use Rattle.irs_read.specs.References.{attribute}
-use Rattle.irs_read.specs.Stated.{IsStated, Stands, element, has_said, whole}
+use Rattle.irs_read.specs.Readings.{attribute}
+use Rattle.irs_read.specs.Documents.{IsStated, Stands, element, has_said, whole}
 use Rattle.irs_elements.specs.Leaves.{leaf_rule}
 use Rattle.serde_json.specs.Data.{Data}
 use Rattle.serde_json.specs.Find.{as_str, get}

@@ -4,13 +4,10 @@ use Rattle.irs_base.specs.declared.rounding.Direction.TheVariants.{Nearest}
 use Rattle.irs_elements.specs.Codes.{calculation_method_at, compounding_at, convention_at, day_count_at, day_kind_at}
 use Rattle.irs_elements.specs.Codes.{direction_at, relative_at, roll_at, stub_kind_at, tenor_unit_at, treatment_at}
 use Rattle.irs_elements.specs.Codes.{truth_at, period_unit_at}
-use Rattle.irs_elements.specs.Dates.{leaf_date_at}
-use Rattle.irs_elements.specs.Elements.{name_at}
-use Rattle.irs_elements.specs.Find.{member, once}
+use Rattle.irs_elements.specs.Leaves.{leaf_date_at, currency_at, is_index_name}
+use Rattle.irs_elements.specs.Elements.{name_at, member, once}
 use Rattle.irs_elements.specs.Lines.{object}
-use Rattle.irs_elements.specs.Numbers.{multiplier_at, observation_days_at, offset_at, precision_at}
-use Rattle.irs_elements.specs.Numbers.{leaf_rate_at}
-use Rattle.irs_elements.specs.Words.{currency_at, is_index_name}
+use Rattle.irs_elements.specs.Numbers.{multiplier_at, observation_days_at, offset_at, precision_at, leaf_rate_at}
 use Rattle.irs_elements.specs.declared.table.Choice.TheVariants.{ExactlyOne}
 use Rattle.irs_elements.specs.declared.table.Count.TheVariants.{UpTo}
 use Rattle.irs_elements.specs.declared.table.Kind.TheVariants.{Object}
@@ -35,20 +32,14 @@ use Rattle.irs_read.proofs.Rows.{most_of, row_of}
 use Rattle.irs_read.proofs.Streams.{AdjustingRows, GoodList, GoodLists, calculation_path, dates_path, floating_path}
 use Rattle.irs_read.proofs.Streams.{good_below, one_good, parameters_path, payments_path, resets_path, stubs_path}
 use Rattle.irs_read.proofs.TableLaws.{code_names as row_names}
-use Rattle.irs_read.specs.Private.Meaning.{adjustments_in, applicable_in, centers_by, dated_in, exchanges_in}
-use Rattle.irs_read.specs.Private.Meaning.{fix_in}
+use Rattle.irs_read.specs.Private.Meaning.{adjustments_in, applicable_in, centers_by, dated_in, exchanges_in, fix_in}
 use Rattle.irs_read.specs.Private.Meaning.{float_in, frequency_in, leg_by, maybe_dated_in, named_centers, names_in}
-use Rattle.irs_read.specs.Private.Meaning.{number_in}
-use Rattle.irs_read.specs.Private.Meaning.{observation_days_in, observation_offset_by, offset_in, own_centers}
-use Rattle.irs_read.specs.Private.Meaning.{parameters_in}
-use Rattle.irs_read.specs.Private.Meaning.{pay_in, reset_in, rounding_in, schedule_in, schedule_or, step_in, stub_by}
+use Rattle.irs_read.specs.Private.Meaning.{number_in, observation_days_in, observation_offset_by, offset_in}
+use Rattle.irs_read.specs.Private.Meaning.{own_centers, parameters_in, pay_in, reset_in, rounding_in, schedule_in}
+use Rattle.irs_read.specs.Private.Meaning.{schedule_or, step_in, stub_by, no_currency, scale_at, stream_in}
+use Rattle.irs_read.specs.Private.Meaning.{stream_parts, stub_in, stubs_in, tenor_in, truth_in, word_in, reference_in}
 use Rattle.irs_read.specs.StreamElements.{places_by}
-use Rattle.irs_read.specs.Private.Meaning.{no_currency, scale_at, stream_in, stream_parts, stub_in, stubs_in}
-use Rattle.irs_read.specs.Private.Meaning.{tenor_in, truth_in}
-use Rattle.irs_read.specs.Private.Meaning.{word_in}
-use Rattle.irs_read.specs.Readings.{Says, holds, maybe, one, or_by, said, text}
-use Rattle.irs_read.specs.References.{href_of, the_one}
-use Rattle.irs_read.specs.Private.References.{reference_in}
+use Rattle.irs_read.specs.Readings.{Says, holds, maybe, one, or_by, said, text, href_of, the_one}
 use Rattle.irs_read.specs.StreamElements.{StreamSays, adjustable, adjusting, adjustments, always, calculation}
 use Rattle.irs_read.specs.StreamElements.{stream_by}
 use Rattle.irs_read.specs.StreamElements.{center_list, date, exchanges, fixing_dates, floating, frequency, index_name}

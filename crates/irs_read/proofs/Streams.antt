@@ -1,11 +1,9 @@
 -- What a stream says that breaks no rule lies in the ranges of its terms.
 use Rattle.irs_base.specs.Days.{IsDay, first_day}
 use Rattle.irs_elements.specs.Codes.{roll_at, tenor_unit_at}
-use Rattle.irs_elements.specs.Dates.{leaf_date_at}
-use Rattle.irs_elements.specs.Elements.{name_at}
-use Rattle.irs_elements.specs.Find.{member, once, values_in}
+use Rattle.irs_elements.specs.Leaves.{leaf_date_at, currency_at}
+use Rattle.irs_elements.specs.Elements.{name_at, member, once, values_in}
 use Rattle.irs_elements.specs.Numbers.{multiplier_at, observation_days_at, offset_at, precision_at, leaf_rate_at}
-use Rattle.irs_elements.specs.Words.{currency_at}
 use Prim.Native.String.{String}
 use Rattle.irs_elements.specs.declared.table.Leaf.TheVariants.{CenterName, Convention, IndexName}
 use Rattle.irs_read.proofs.CenterLists.{names_reads}
@@ -19,24 +17,22 @@ use Rattle.irs_read.proofs.Ranges.{tenor_unit_range, zero_range}
 use Rattle.irs_read.proofs.Rows.{At, AtMost, LeafRow, May, Must, Path, RowIs, facts, is_leaf, is_member, is_named}
 use Rattle.irs_read.proofs.Rows.{is_needed, most_of, row_of}
 use Rattle.irs_read.proofs.Words.{center_lawful, index_word}
-use Rattle.irs_read.specs.Private.Meaning.{adjustments_in, centers_by, dated_in, day_in, fix_in, float_in}
-use Rattle.irs_read.specs.Private.Meaning.{frequency_in, leg_by}
-use Rattle.irs_read.specs.Private.Meaning.{maybe_dated_in, named_centers, names_in, no_currency, number_in, offset_in}
-use Rattle.irs_read.specs.Private.Meaning.{applicable_in, observation_days_in, observation_offset_by, parameters_in}
+use Rattle.irs_read.specs.Private.Meaning.{adjustments_in, centers_by, dated_in, day_in, fix_in, float_in, frequency_in}
+use Rattle.irs_read.specs.Private.Meaning.{leg_by, maybe_dated_in, named_centers, names_in, no_currency, number_in}
+use Rattle.irs_read.specs.Private.Meaning.{offset_in, applicable_in, observation_days_in, observation_offset_by}
+use Rattle.irs_read.specs.Private.Meaning.{parameters_in, own_centers, pay_in, reset_in, scale_at, schedule_in}
+use Rattle.irs_read.specs.Private.Meaning.{schedule_or, step_in, stream_in, stream_parts, stub_by, stub_in, stubs_in}
+use Rattle.irs_read.specs.Private.Meaning.{tenor_in, word_in}
 use Rattle.irs_read.specs.StreamElements.{places_by}
-use Rattle.irs_read.specs.Private.Meaning.{own_centers, pay_in, reset_in, scale_at, schedule_in, schedule_or, step_in}
-use Rattle.irs_read.specs.Readings.{said}
-use Rattle.irs_read.specs.Private.Meaning.{stream_in, stream_parts, stub_by, stub_in, stubs_in, tenor_in, word_in}
-use Rattle.irs_read.specs.References.{found_value, has_id, href_of, lists_in, lists_of, the_one}
+use Rattle.irs_read.specs.Readings.{said, found_value, has_id, href_of, lists_in, lists_of, the_one}
 use Rattle.irs_read.specs.StreamElements.{center_list}
 use Rattle.irs_read.proofs.TableLaws.{code_names as row_names}
 use Rattle.irs_read.specs.declared.leaf_values.Scale.{Scale}
 use Rattle.irs_read.specs.declared.leaf_values.Scale.TheVariants.{Notionals, Rates}
 use Rattle.irs_read.specs.declared.table.TheConstants.{ROWS}
 use Rattle.irs_terms.specs.Lawful.{IsLawfulCenters, IsLawfulCurrency, IsLawfulAdjustableDate, IsLawfulFix}
-use Rattle.irs_terms.specs.Lawful.{IsLawfulFloat}
-use Rattle.irs_terms.specs.Lawful.{IsLawfulFrequency, IsLawfulIndex, IsLawfulLeg, IsLawfulName, IsLawfulNames}
-use Rattle.irs_terms.specs.Lawful.{IsLawfulObservationOffset, IsLawfulParameters, IsObservationDays}
+use Rattle.irs_terms.specs.Lawful.{IsLawfulFloat, IsLawfulFrequency, IsLawfulIndex, IsLawfulLeg, IsLawfulName}
+use Rattle.irs_terms.specs.Lawful.{IsLawfulNames, IsLawfulObservationOffset, IsLawfulParameters, IsObservationDays}
 use Rattle.irs_terms.specs.Lawful.{IsLawfulOffset, IsLawfulPay, IsLawfulReset, IsLawfulRoll, IsLawfulStream}
 use Rattle.irs_terms.specs.Lawful.{IsLawfulStubRate, IsLawfulStubs, IsLawfulTenor, IsLawfulValues, IsRate}
 use Rattle.irs_base.specs.Limits.{most_centers, most_multiplier, most_offset, most_steps}

@@ -1,11 +1,10 @@
 -- The first rule that a document breaks, from where the way to its swap leads.
 use Rattle.irs_base.specs.declared.places.Broken.{Broken}
 use Rattle.irs_elements.proofs.First.{first_one, first_same}
-use Rattle.irs_read.specs.Documents.{DocumentFault, below, ended, the_swap}
-use Rattle.irs_read.specs.Swaps.{SwapFault}
+use Rattle.irs_read.specs.Documents.{DocumentFault, below, ended, the_swap, SwapFault}
 use Rattle.serde_json.specs.Data.{Data}
 use Rattle.std.proofs.Common.{◌≡◌, Option, Some, Ok, Err, subst}
-use Rattle.irs_base.specs.Order.{IsFirstBroken}
+use Rattle.irs_base.specs.Outcomes.{IsFirstBroken}
 
 -- what ends the way to the swap is the first broken rule
 pub ended_first : (d : Data) (f : Broken) → the_swap d ≡ Err f → IsFirstBroken (DocumentFault d) (Some f)

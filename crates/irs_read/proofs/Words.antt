@@ -1,12 +1,9 @@
 -- The texts of leaves that name a centre or an index are lawful.
 use Rattle.irs_base.specs.Limits.{most_index, most_name}
-use Rattle.irs_elements.specs.Leaves.{text_of_leaf}
-use Rattle.irs_elements.specs.Words.{is_center_name, is_index_name, is_no_control, is_visible}
+use Rattle.irs_elements.specs.Leaves.{text_of_leaf, is_center_name, is_index_name, is_no_control, is_visible}
 use Rattle.irs_elements.specs.declared.table.Leaf.TheVariants.{CenterName, IndexName}
-use Rattle.irs_json.specs.Carrier.{child_of}
-use Rattle.irs_json.specs.Leaves.{Leaf, word, whole, truth, bare_leaf, is_beside, leaf_among, leaf_of, whole_leaf}
-use Rattle.irs_json.specs.Names.{element_names}
-use Rattle.irs_json.specs.Trim.{is_white_space, trim, trim_back, trim_front}
+use Rattle.irs_json.specs.Leaves.{child_of, Leaf, word, whole, truth, bare_leaf, is_beside, leaf_among, leaf_of}
+use Rattle.irs_json.specs.Leaves.{whole_leaf, element_names, is_white_space, trim, trim_back, trim_front}
 use Rattle.irs_read.proofs.Clean.{Said}
 use Rattle.irs_read.specs.Private.Meaning.{word_in}
 use Rattle.irs_terms.specs.Lawful.{IsLawfulIndex, IsLawfulName}

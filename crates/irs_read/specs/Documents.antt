@@ -1,17 +1,145 @@
--- The way from the root of a document to its swap, and the rules that a document breaks.
-use Rattle.irs_base.specs.Elements.{document, swap}
-use Rattle.irs_base.specs.declared.places.Broken.{Broken}
-use Rattle.irs_base.specs.declared.places.Rule.TheVariants.{K2, K3, K7}
-use Rattle.irs_elements.specs.Find.{values_in}
-use Rattle.irs_json.specs.Carrier.{child_of}
-use Rattle.irs_json.specs.Names.{element_names}
-use Rattle.irs_read.specs.Swaps.{SwapFault, outside}
+-- A document: the way to its swap, the swap that it spells, and the rules that it breaks.
+use Rattle.std.specs.Prelude.{ℕ, ◌-◌, List, [], ◌∷◌, None, drop, take, ◌≡◌, ◌+◌, ◌<◌, ◌≤◌, ◌⊎◌, true, length, Some}
+use Rattle.std.specs.Prelude.{is_some, slice_get, codes, Bool, false, Result, Ok, Err, if◌then◌else◌, Option, nat_lt}
+use Rattle.std.specs.Prelude.{not, ◌&&◌, ◌||◌, ◌==◌, map}
 use Rattle.serde_json.specs.Data.{Data}
 use Rattle.serde_json.specs.View.{view}
 use Rattle.serde_json.specs.declared.value.Value.{Value}
 use Rattle.std.specs.Borrow.{Bor}
-use Rattle.std.specs.Prelude.{◌≡◌, ℕ, Bool, true, false, List, [], ◌∷◌, Some, is_some, codes, Result, Ok, Err}
-use Rattle.std.specs.Prelude.{if◌then◌else◌}
+use Rattle.std.specs.Str.{bytes_eq}
+use Rattle.irs_base.specs.Elements.{calculation_period_dates, cashflows, swap_stream, document, swap}
+use Rattle.irs_base.specs.Paths.{printed_paths}
+use Rattle.irs_base.specs.declared.places.Broken.{Broken}
+use Rattle.irs_base.specs.declared.places.Rule.{Rule}
+use Rattle.irs_base.specs.declared.places.Rule.TheVariants.{K2, K7, K3}
+use Rattle.irs_base.specs.Limits.{most_streams}
+use Rattle.irs_base.specs.Outcomes.{First, is_before, Spec}
+use Rattle.irs_terms.specs.declared.stream_list.Swap.{Swap}
+use Rattle.irs_json.specs.Leaves.{element_names, child_of, items_of}
+use Rattle.irs_elements.specs.Lines.{Line, Others, Table, others_at, table_names, table_rows}
+use Rattle.irs_elements.specs.declared.table.Row.{Row}
+use Rattle.irs_elements.specs.Elements.{FaultAt, values_in, IsMemberRow, is_chosen, is_element, is_required, name_at}
+use Rattle.irs_elements.specs.Elements.{once, leaf_text_in}
+use Rattle.irs_elements.specs.declared.table.Choice.TheVariants.{Free, Reference, AtMostOne, AtMostOneOfThree}
+use Rattle.irs_elements.specs.declared.table.Choice.TheVariants.{ExactlyOne}
+use Rattle.irs_elements.specs.declared.table.Kind.TheVariants.{Object, Leaf, Passed, Refused}
+use Rattle.irs_elements.specs.Leaves.{has_value}
+use Rattle.irs_elements.specs.declared.table.Choice.{Choice}
+use Rattle.irs_elements.specs.declared.table.Kind.{Kind}
+use Rattle.irs_elements.specs.declared.table.Leaf.{Leaf as LeafKind}
+use Rattle.irs_read.specs.StreamElements.{stream_by, SwapSays}
+use Rattle.irs_read.specs.Readings.{attribute, streams_in}
+
+-- ---- the tables of a swap and of its streams: the elements of a stream, and the members that are passed over or out
+-- of the profile
+-- Which these are is our rule.
+
+-- the line of each element of a stream
+abbrev lines : List Line
+lines = (stream_by [] None).lines
+
+-- the elements of a stream in the table of paths: those up to the cash flows, but for
+-- `payerPartyReference`, which is passed over
+unfoldable pub stream_elements : List (List ℕ)
+stream_elements = take (cashflows - calculation_period_dates) (drop calculation_period_dates printed_paths)
+
+-- the members that are passed over unread
+abbrev passed : List Others
+passed =
+    others_at "" ("payerPartyReference" ∷ "payerAccountReference" ∷ "receiverPartyReference" ∷ "receiverAccountReference"
+    ∷ "cashflows" ∷ [])
+    ∷ others_at "resetDates/resetFrequency" ("weeklyRollConvention" ∷ [])
+    ∷ []
+
+-- the members that are out of the profile
+abbrev refused : List Others
+refused =
+    others_at "" ("settlementProvision" ∷ "formula" ∷ [])
+    ∷ others_at "calculationPeriodDates" ("relativeEffectiveDate" ∷ "relativeTerminationDate"
+    ∷ "firstCompoundingPeriodEndDate" ∷ [])
+    ∷ others_at "calculationPeriodDates/effectiveDate" ("adjustedDate" ∷ [])
+    ∷ others_at "calculationPeriodDates/terminationDate" ("adjustedDate" ∷ [])
+    ∷ others_at "calculationPeriodDates/firstPeriodStartDate" ("adjustedDate" ∷ [])
+    ∷ others_at "paymentDates" ("resetDatesReference" ∷ "valuationDatesReference" ∷ [])
+    ∷ others_at "resetDates" ("initialFixingDate" ∷ "rateCutOffDaysOffset" ∷ [])
+    ∷ others_at "calculationPeriodAmount" ("knownAmountSchedule" ∷ [])
+    ∷ others_at "calculationPeriodAmount/calculation" ("fxLinkedNotionalSchedule" ∷ "discounting" ∷ [])
+    ∷ others_at "calculationPeriodAmount/calculation/notionalSchedule" ("notionalStepParameters" ∷ [])
+    ∷ others_at "calculationPeriodAmount/calculation/floatingRateCalculation"
+    ("rateTreatment" ∷ "capRateSchedule" ∷ "floorRateSchedule" ∷ "averagingMethod" ∷ [])
+    ∷ others_at "calculationPeriodAmount/calculation/floatingRateCalculation/calculationParameters"
+    ("observationParameters" ∷ [])
+    ∷ others_at "stubCalculationPeriodAmount/initialStub/floatingRate"
+    ("floatingRateMultiplierSchedule" ∷ "spreadSchedule" ∷ "rateTreatment" ∷ "capRateSchedule"
+    ∷ "floorRateSchedule" ∷ "calculationParameters" ∷ [])
+    ∷ others_at "stubCalculationPeriodAmount/finalStub/floatingRate"
+    ("floatingRateMultiplierSchedule" ∷ "spreadSchedule" ∷ "rateTreatment" ∷ "capRateSchedule"
+    ∷ "floorRateSchedule" ∷ "calculationParameters" ∷ [])
+    ∷ others_at "stubCalculationPeriodAmount/initialStub" ("stubAmount" ∷ [])
+    ∷ others_at "stubCalculationPeriodAmount/finalStub" ("stubAmount" ∷ [])
+    ∷ []
+
+-- the table of a stream
+unfoldable pub stream_table : Table
+stream_table = record { whole = "swapStream"; top = ""; lines = lines; passed = passed; refused = refused }
+
+-- the table of a swap; its streams are skipped here, and each is checked with its own number
+unfoldable pub swap_table : Table
+swap_table = record {
+  whole = "swap";
+  top = "";
+  lines = [];
+  passed = others_at "" ("swapStream" ∷ "productType" ∷ "productId" ∷ "primaryAssetClass" ∷ "secondaryAssetClass"
+      ∷ "assetClass" ∷ []) ∷ [];
+  refused = others_at "" ("additionalPayment" ∷ "additionalTerms" ∷ "earlyTerminationProvision" ∷ "cancelableProvision"
+      ∷ "extendibleProvision" ∷ []) ∷ [];
+}
+
+-- their rows and names
+unfoldable pub stream_rows : List Row
+stream_rows = table_rows printed_paths stream_table
+
+-- the names and rows that the lines of the tables give
+unfoldable pub stream_names : List (List ℕ)
+stream_names = table_names stream_table
+
+-- those of the table of the swap
+unfoldable pub swap_rows : List Row
+swap_rows = table_rows printed_paths swap_table
+
+-- and its names
+unfoldable pub swap_names : List (List ℕ)
+swap_names = table_names swap_table
+
+-- ---- the rules that a swap breaks by the table of elements
+
+-- a rule that is broken outside the streams
+abbrev pub outside : Rule → ℕ → Broken
+outside rule elem = record { rule = rule; place = record { stream = 0; elem = elem; index = 0 } }
+
+-- what P says of some value of a list, with its position from 0
+abbrev pub Among : (ℕ → Data → Broken → Type 0) → List Data → Broken → Type 0
+Among P ds f = (j : ℕ) × ((x : Data) × ((slice_get ds j ≡ Some x) × P j x f))
+
+-- the rules that the j-th stream breaks, from 0
+abbrev pub StreamFault : ℕ → Data → Broken → Type 0
+StreamFault j d f = FaultAt stream_rows stream_names (j + 1) 0 (Object Free) 0 d f
+
+-- those of the streams of a swap
+pub data StreamsFault (ds : List Data) : Broken → Type 0 where
+  -- there is none
+  no_stream : length ds ≡ 0 → StreamsFault ds (outside K2 swap_stream)
+  -- there are more than eight
+  many_streams : most_streams < length ds → StreamsFault ds (outside K7 swap_stream)
+  -- there are one to eight, and one of them breaks a rule
+  in_stream : (f : Broken) → 0 < length ds → length ds ≤ most_streams → Among StreamFault ds f → StreamsFault ds f
+
+-- those of a swap: its own, and where it is an object those of its streams
+abbrev pub SwapFault : Data → Broken → Type 0
+SwapFault d f = FaultAt swap_rows swap_names 0 0 (Object Free) 0 d f
+    ⊎ ((is_some (element_names d) ≡ true) × StreamsFault (values_in (codes "swapStream") (Some d)) f)
+
+-- ---- the way from the root of a document to its swap, and the rules that a document breaks
 
 -- where the way leads: to a value, or to the rule that ends it
 abbrev pub Way : Type 0
@@ -77,3 +205,98 @@ pub data DocumentFault (d : Data) : Broken → Type 0 where
   ended : (f : Broken) → the_swap d ≡ Err f → DocumentFault d f
   -- the swap breaks one
   below : (s : Data) (f : Broken) → the_swap d ≡ Ok s → SwapFault s f → DocumentFault d f
+
+-- ---- the swap that a document spells, and the first rule that it breaks
+
+-- the document breaks no rule, and its swap says this one
+pub record Means (d : Data) (s : Swap) : Type 0 where
+  pub clean : (f : Broken) → DocumentFault d f → ⊥
+  pub at : Data
+  pub found : the_swap d ≡ Ok at
+  pub says : SwapSays at s
+
+-- ---- what the call of this crate answers, and what it refuses
+
+-- the swap that the document means, or the first rule of K2 to K7 that the document breaks
+abbrev pub swap_of_document : Data → Spec Swap Broken
+swap_of_document d = record {
+  Answers = Means d;
+  Refuses = First is_before (DocumentFault d);
+}
+
+-- ---- the values inside a value, by a table of elements, and that nothing is missing among them
+-- Required elements are present, and each leaf has a value of its kind. Each choice between members is kept, and each
+-- reference has its `@href`. So no default replaces a leaf that is present or required.
+
+-- x is a value inside d, at a row of the table and with the kind of the row
+pub data Stands (rows : List Row) (names : List (List ℕ)) (d : Data) : ℕ → Kind → Data → Type 0 where
+  -- d itself
+  whole : Stands rows names d 0 (Object Free) d
+  -- a value of a member of an object inside d
+  element : (r c j : ℕ) (choice : Choice) (row : Row) (y m x : Data) → Stands rows names d r (Object choice) y
+      → IsMemberRow rows names r c row → is_element row.kind ≡ true
+      → child_of (name_at names c) y ≡ Some m → slice_get (items_of m) j ≡ Some x → Stands rows names d c row.kind x
+
+-- whether a text has a value of the kind
+abbrev pub has_said : LeafKind → Option (List ℕ) → Bool
+has_said leaf None = false
+has_said leaf (Some s) = has_value leaf s
+
+-- nothing is missing in d
+pub record IsStated (rows : List Row) (names : List (List ℕ)) (d : Data) : Type 0 where
+  -- each required element of an object is present
+  pub there : (r c : ℕ) (choice : Choice) (row : Row) (y : Data) → Stands rows names d r (Object choice) y
+      → IsMemberRow rows names r c row → is_element row.kind ≡ true → is_required row.count ≡ true
+      → is_some (once (name_at names c) y) ≡ true
+  -- each leaf has a value of its kind
+  pub said : (r : ℕ) (leaf : LeafKind) (x : Data) → Stands rows names d r (Leaf leaf) x
+      → has_said leaf (leaf_text_in (Some x)) ≡ true
+  -- if an object must have exactly one of two members, or at most one, it has
+  pub chosen : (r : ℕ) (choice : Choice) (y : Data) → Stands rows names d r (Object choice) y
+      → is_chosen names choice y ≡ true
+  -- if an object names another by `@href`, that attribute is present and a text
+  pub named : (r : ℕ) (y : Data) → Stands rows names d r (Object Reference) y
+      → is_some (attribute (codes "@href") (Some y)) ≡ true
+
+-- nothing is missing in the streams of a document
+abbrev pub EachStated : Data → Type 0
+EachStated d = (at : Data) → the_swap d ≡ Ok at → (j : ℕ) (x : Data) → slice_get (streams_in at) j ≡ Some x
+    → IsStated stream_rows stream_names x
+
+-- ---- when the rows of a table fit together
+
+-- no later row of the same parent has the name
+abbrev no_twin : ℕ → List ℕ → List ℕ → List (List ℕ) → Bool
+no_twin parent name [] names = true
+no_twin parent name (p ∷ ps) [] = true
+no_twin parent name (p ∷ ps) (n ∷ ns) = (not (p == parent) || not (bytes_eq n name)) && no_twin parent name ps ns
+
+-- the row exists and its parent is row r
+abbrev stands_below : ℕ → Option Row → Bool
+stands_below r None = false
+stands_below r (Some row) = row.parent == r
+
+-- the rows of a choice at row r are members of that row
+abbrev chooses : List Row → ℕ → Choice → Bool
+chooses rows r Free = true
+chooses rows r Reference = true
+chooses rows r (AtMostOne a b) = stands_below r (slice_get rows a) && stands_below r (slice_get rows b)
+chooses rows r (AtMostOneOfThree a b c) =
+    stands_below r (slice_get rows a) && stands_below r (slice_get rows b) && stands_below r (slice_get rows c)
+chooses rows r (ExactlyOne a b) = stands_below r (slice_get rows a) && stands_below r (slice_get rows b)
+
+-- an object chooses only among its own members
+abbrev kind_fits : List Row → ℕ → Kind → Bool
+kind_fits rows r (Object choice) = chooses rows r choice
+kind_fits rows r (Leaf leaf) = true
+kind_fits rows r Passed = true
+kind_fits rows r Refused = true
+
+-- from row r on, each row comes after its parent, and its choice is among its members. No later row of the
+-- same parent has its name
+abbrev pub is_whole_table : List Row → ℕ → List Row → List (List ℕ) → Bool
+is_whole_table all r [] [] = true
+is_whole_table all r (row ∷ rows) (name ∷ names) =
+    nat_lt row.parent r && kind_fits all r row.kind && no_twin row.parent name (map (λ (x : Row). x.parent) rows) names
+    && is_whole_table all (r + 1) rows names
+is_whole_table all r rows names = false

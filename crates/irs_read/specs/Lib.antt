@@ -1,11 +1,4 @@
-pub mod References
 pub mod Readings
 pub mod StreamElements
-pub mod Tables
-pub mod StreamLines
-pub mod Swaps
 pub mod Documents
-pub mod Reading
-pub mod Stated
-pub mod Outcomes
 pub mod Private

@@ -1,13 +1,20 @@
--- What it is to read a value: its lines in the table of elements, and what it says of what is read from it. There is no
--- value for an element that must occur and doesn't, nor for a leaf whose text has none.
+-- What it is to read a value, and references between values.
 use Prim.Native.String.{String}
-use Rattle.irs_elements.specs.Find.{once, leaf_text_in, values_in}
-use Rattle.irs_elements.specs.Lines.{Form, Line, leaf, line, path_above}
+use Rattle.serde_json.specs.Data.{Data}
+use Rattle.std.specs.Prelude.{◌≡◌, ℕ, List, [], ◌∷◌, ◌++◌, map, Option, Some, None, option_and_then, codes, Bool, false}
+use Rattle.std.specs.Prelude.{◌==◌, unwrap_or, count_by, find, if◌then◌else◌}
+use Rattle.serde_json.specs.Find.{as_str}
+use Rattle.std.specs.List.{flat_map}
+use Rattle.std.specs.Str.{bytes_eq}
+use Rattle.irs_json.specs.Leaves.{child_of}
+use Rattle.irs_elements.specs.Elements.{once, leaf_text_in, values_in, member}
+use Rattle.irs_elements.specs.Lines.{Form, Line, leaf, line, path_above, last_name}
 use Rattle.irs_elements.specs.declared.table.Count.{Count}
 use Rattle.irs_elements.specs.declared.table.Count.TheVariants.{One, Maybe}
 use Rattle.irs_elements.specs.declared.table.Leaf.{Leaf as LeafKind}
-use Rattle.serde_json.specs.Data.{Data}
-use Rattle.std.specs.Prelude.{◌≡◌, ℕ, List, [], ◌∷◌, ◌++◌, map, Option, Some, None, option_and_then, codes}
+
+-- ---- what it is to read a value: its lines in the table of elements, and what it says of what is read from it
+-- There is no value for an element that must occur and doesn't, nor for a leaf whose text has none.
 
 -- a value of an element: what is there, the lines of its members, and what it says
 pub record Value (A : Type 0) : Type 1 where
@@ -113,3 +120,76 @@ either_member a v make b w build = record {
   says =
       λ d. Says (once (codes a) d) v.says make (Says (once (codes b) d) w.says build (λ _. ⊥));
 }
+
+-- ---- references by `@href`, and the lists of centres that they may name
+
+-- the text of an attribute, unchanged
+abbrev pub attribute : List ℕ → Option Data → Option (List ℕ)
+attribute name o = option_and_then as_str (option_and_then (child_of name) o)
+
+-- the text is there, and is this one
+abbrev pub is_text : List ℕ → Option (List ℕ) → Bool
+is_text id None = false
+is_text id (Some s) = bytes_eq s id
+
+-- whether the element has that `@id`
+abbrev pub has_id : List ℕ → Option Data → Bool
+has_id id o = is_text id (attribute (codes "@id") o)
+
+-- the text of a reference's `@href`
+abbrev pub href_of : Data → List ℕ
+href_of d = unwrap_or (attribute (codes "@href") (Some d)) []
+
+-- the value that a search found, if any
+abbrev pub found_value : Option (Option Data) → Option Data
+found_value None = None
+found_value (Some o) = o
+
+-- the list that has the id, where exactly one has it
+abbrev pub the_one : List ℕ → List (Option Data) → Option Data
+the_one id lists = if count_by (has_id id) lists == 1 then found_value (find (has_id id) lists) else None
+
+-- where a stream may have a list of centres
+abbrev pub lists_in : Data → List (Option Data)
+lists_in d =
+    let dates = once (codes "calculationPeriodDates") d in
+    let resets = once (codes "resetDates") d in
+    member (codes "businessCenters") (member (codes "dateAdjustments") (member (codes "effectiveDate") dates))
+    ∷ member (codes "businessCenters") (member (codes "dateAdjustments") (member (codes "terminationDate") dates))
+    ∷ member (codes "businessCenters") (member (codes "calculationPeriodDatesAdjustments") dates)
+    ∷ member (codes "businessCenters") (member (codes "dateAdjustments") (member (codes "firstPeriodStartDate") dates))
+    ∷ member (codes "businessCenters") (member (codes "paymentDatesAdjustments") (once (codes "paymentDates") d))
+    ∷ member (codes "businessCenters") (member (codes "fixingDates") resets)
+    ∷ member (codes "businessCenters") (member (codes "resetDatesAdjustments") resets)
+    ∷ []
+
+-- the streams of a swap
+abbrev pub streams_in : Data → List Data
+streams_in d = values_in (codes "swapStream") (Some d)
+
+-- the lists of centres of all streams
+abbrev pub lists_of : List Data → List (Option Data)
+lists_of streams = flat_map lists_in streams
+
+-- ---- the same by paths
+
+-- one byte more in front of the first name
+abbrev before_first : ℕ → List (List ℕ) → List (List ℕ)
+before_first c [] = (c ∷ []) ∷ []
+before_first c (n ∷ ns) = (c ∷ n) ∷ ns
+
+-- the names of a path
+abbrev pub names_on : List ℕ → List (List ℕ)
+names_on [] = [] ∷ []
+names_on (c ∷ p) = if c == 47 then [] ∷ names_on p else before_first c (names_on p)
+
+-- the value that these names lead to
+abbrev pub value_on : List (List ℕ) → Option Data → Option Data
+value_on [] o = o
+value_on (n ∷ ns) o = value_on ns (member n o)
+
+-- the lines of lists of centres
+abbrev pub list_lines : List Line → List Line
+list_lines [] = []
+list_lines (l ∷ ls) =
+    if bytes_eq (last_name l.path) (codes "businessCenters") then l ∷ list_lines ls else list_lines ls

@@ -6,13 +6,12 @@ use Rattle.irs_base.specs.declared.rounding.Direction.TheVariants.{Nearest}
 use Rattle.irs_elements.specs.Codes.{calculation_method_at, compounding_at, convention_at, day_count_at, day_kind_at}
 use Rattle.irs_elements.specs.Codes.{direction_at, offset_unit_at, relative_at, roll_at, stub_kind_at, tenor_unit_at}
 use Rattle.irs_elements.specs.Codes.{treatment_at, truth_at, period_unit_at}
-use Rattle.irs_elements.specs.Dates.{leaf_date_at}
-use Rattle.irs_elements.specs.Find.{once}
+use Rattle.irs_elements.specs.Leaves.{leaf_date_at, currency_at, is_center_name, is_index_name}
+use Rattle.irs_elements.specs.Elements.{once}
 use Rattle.irs_elements.specs.Lines.{at_most_one, at_most_one_of_three, exactly_one, object}
 use Rattle.irs_elements.specs.Lines.{reference as reference_form}
 use Rattle.irs_elements.specs.Numbers.{multiplier_at, notional_at, observation_days_at, offset_at, precision_at}
 use Rattle.irs_elements.specs.Numbers.{leaf_rate_at}
-use Rattle.irs_elements.specs.Words.{currency_at, is_center_name, is_index_name}
 use Rattle.irs_elements.specs.declared.table.Count.TheVariants.{Maybe, OneTo, UpTo}
 use Rattle.irs_elements.specs.declared.table.Leaf.TheVariants.{CalculationMethod as MethodKind, CenterName}
 use Rattle.irs_elements.specs.declared.table.Leaf.TheVariants.{Compounding as CompoundingKind, Convention}
@@ -24,12 +23,8 @@ use Rattle.irs_elements.specs.declared.table.Leaf.TheVariants.{PeriodUnit, Preci
 use Rattle.irs_elements.specs.declared.table.Leaf.TheVariants.{StubType}
 use Rattle.irs_elements.specs.declared.table.Leaf.TheVariants.{TenorUnit, Treatment as TreatmentKind, Truth}
 use Rattle.irs_read.specs.Readings.{EachSays, ReadPart, Says, Value, each, either_member, holds, member_lines, maybe}
-use Rattle.irs_read.specs.Readings.{one}
-use Rattle.irs_read.specs.Readings.{or}
-use Rattle.irs_read.specs.Readings.{or_by}
-use Rattle.irs_read.specs.Readings.{text}
-use Rattle.irs_read.specs.Readings.{unread, ◌also◌, ◌gives◌}
-use Rattle.irs_read.specs.References.{has_id, href_of, lists_of, streams_in, the_one}
+use Rattle.irs_read.specs.Readings.{one, or, or_by, text, unread, ◌also◌, ◌gives◌, has_id, href_of, lists_of}
+use Rattle.irs_read.specs.Readings.{streams_in, the_one}
 use Rattle.irs_terms.specs.declared.adjustments.AdjustableDate.{AdjustableDate}
 use Rattle.irs_terms.specs.declared.adjustments.Adjustments.{Adjustments}
 use Rattle.irs_terms.specs.declared.adjustments.Centers.{Centers}

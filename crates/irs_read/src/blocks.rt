@@ -1,10 +1,9 @@
 //! The blocks of a stream: frequencies, offsets, adjustments, schedules of values.
-ghost use Rattle.irs_elements.specs.Find.{seen, values_in};
+ghost use Rattle.irs_elements.specs.Elements.{seen, values_in};
 ghost use Rattle.irs_read.specs.Private.Meaning.{adjustments_in, centers_by, dated_in, frequency_in, maybe_dated_in};
 ghost use Rattle.irs_read.specs.Private.Meaning.{named_centers as named_centers_in, names_in, offset_in};
 ghost use Rattle.irs_read.specs.Private.Meaning.{own_centers as own_centers_in, schedule_in};
-ghost use Rattle.irs_read.specs.Private.Meaning.{schedule_or as schedule_or_in};
-ghost use Rattle.irs_read.specs.Private.Meaning.{step_in, tenor_in};
+ghost use Rattle.irs_read.specs.Private.Meaning.{schedule_or as schedule_or_in, step_in, tenor_in};
 ghost use Rattle.serde_json.specs.View.{view};
 ghost use Rattle.std.specs.Prelude.{◌≡◌, IfOk, Some, codes, map};
 

@@ -7,7 +7,7 @@ ghost use Rattle.irs_read.specs.Documents.{swap_below as swap_below_of, the_swap
 ghost use Rattle.irs_read.specs.Documents.{trade_below as trade_below_of, way_seen};
 ghost use Rattle.serde_json.specs.View.{view};
 ghost use Rattle.std.specs.Prelude.{◌≡◌, IfErr, IfOk, Ok, map};
-ghost use Rattle.irs_base.specs.Order.{First, IsFirstBroken, is_before};
+ghost use Rattle.irs_base.specs.Outcomes.{First, IsFirstBroken, is_before};
 ghost use Rattle.irs_base.specs.declared.places.Broken.{Broken as BrokenRule};
 
 use crate::swap::{first_in_swap, outside};

@@ -3,13 +3,12 @@ ghost use Rattle.irs_elements.specs.Codes.{calculation_method_at, compounding_at
 ghost use Rattle.irs_elements.specs.Codes.{day_kind_at, direction_at};
 ghost use Rattle.irs_elements.specs.Codes.{relative_at, roll_at, stub_kind_at, tenor_unit_at, treatment_at, truth_at};
 ghost use Rattle.irs_elements.specs.Codes.{period_unit_at};
-ghost use Rattle.irs_elements.specs.Dates.{leaf_date_at};
-ghost use Rattle.irs_elements.specs.Find.{seen};
+ghost use Rattle.irs_elements.specs.Leaves.{leaf_date_at, currency_at};
+ghost use Rattle.irs_elements.specs.Elements.{seen};
 ghost use Rattle.irs_elements.specs.Numbers.{multiplier_at, observation_days_at, offset_at, precision_at, leaf_rate_at};
-ghost use Rattle.irs_elements.specs.Words.{currency_at};
 ghost use Rattle.irs_read.specs.Private.Meaning.{day_in, number_in, relative_in, scale_at, treatment_in, truth_in};
-ghost use Rattle.irs_read.specs.Readings.{said};
 ghost use Rattle.irs_read.specs.Private.Meaning.{word_in};
+ghost use Rattle.irs_read.specs.Readings.{said};
 ghost use Rattle.std.specs.Prelude.{◌≡◌, IfOk};
 
 use irs_base::{Day, Direction, Memory, Text};

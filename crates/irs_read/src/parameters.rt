@@ -1,5 +1,5 @@
 //! How daily rates become the rate of a calculation period (FpML `calculationParameters`).
-ghost use Rattle.irs_elements.specs.Find.{seen};
+ghost use Rattle.irs_elements.specs.Elements.{seen};
 ghost use Rattle.irs_read.specs.Private.Meaning.{applicable_in, observation_days_in, observation_offset_by};
 ghost use Rattle.irs_read.specs.Private.Meaning.{parameters_in};
 ghost use Rattle.serde_json.specs.View.{view};

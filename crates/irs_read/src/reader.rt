@@ -1,12 +1,7 @@
 //! Reading a trade's document: the swap that it spells, or the first rule that it breaks.
-ghost use Rattle.irs_base.specs.Faults.{IfBroken};
-ghost use Rattle.irs_base.specs.Order.{First, is_before};
-ghost use Rattle.irs_base.specs.Outcomes.{Determined, IfMemory};
+ghost use Rattle.irs_base.specs.Outcomes.{IfBroken, First, is_before, Determined, IfMemory};
 ghost use Rattle.irs_base.specs.declared.places.Broken.{Broken as BrokenRule};
-ghost use Rattle.irs_read.specs.Documents.{DocumentFault};
-ghost use Rattle.irs_read.specs.Outcomes.{swap_of_document};
-ghost use Rattle.irs_read.specs.Reading.{Means};
-ghost use Rattle.irs_read.specs.Stated.{EachStated};
+ghost use Rattle.irs_read.specs.Documents.{DocumentFault, swap_of_document, Means, EachStated};
 ghost use Rattle.irs_terms.specs.Lawful.{IsLawfulSwap};
 ghost use Rattle.irs_terms.specs.declared.stream_list.Swap.{Swap as MeantSwap};
 ghost use Rattle.serde_json.specs.Data.{Data};

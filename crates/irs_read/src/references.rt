@@ -1,9 +1,9 @@
 //! References by `@href`: a reference names the element that has its text as `@id`. What is in the
 //! profile are references to business centres of any stream of the swap, and to dates of the stream.
-ghost use Rattle.irs_elements.specs.Find.{member as member_of, seen};
-ghost use Rattle.irs_read.specs.References.{attribute as attribute_of, found_value, has_id as has_id_of, href_of};
-ghost use Rattle.irs_read.specs.References.{lists_in, lists_of, the_one};
-ghost use Rattle.irs_read.specs.Private.References.{reference_in};
+ghost use Rattle.irs_elements.specs.Elements.{member as member_of, seen};
+ghost use Rattle.irs_read.specs.Readings.{attribute as attribute_of, found_value, has_id as has_id_of, href_of};
+ghost use Rattle.irs_read.specs.Readings.{lists_in, lists_of, the_one};
+ghost use Rattle.irs_read.specs.Private.Meaning.{reference_in};
 ghost use Rattle.serde_json.specs.View.{view};
 ghost use Rattle.std.specs.Prelude.{◌≡◌, ◌++◌, IfOk, codes, count_by, find, map, option_map};
 

@@ -1,12 +1,11 @@
 //! The stream that a value says, where it breaks no rule.
-ghost use Rattle.irs_elements.specs.Find.{member as member_of, seen};
+ghost use Rattle.irs_elements.specs.Elements.{member as member_of, seen};
 ghost use Rattle.irs_read.specs.Private.Meaning.{adjustments_in, dated_in, exchanges_in, fix_in, float_in, leg_by};
-ghost use Rattle.irs_read.specs.Private.Meaning.{maybe_dated_in, number_in, pay_in, reset_in, rounding_in};
-ghost use Rattle.irs_read.specs.StreamElements.{places_by};
-ghost use Rattle.irs_read.specs.Private.Meaning.{schedule_in};
+ghost use Rattle.irs_read.specs.Private.Meaning.{maybe_dated_in, number_in, pay_in, reset_in, rounding_in, schedule_in};
 ghost use Rattle.irs_read.specs.Private.Meaning.{stream_in, stream_parts, stub_by, stub_in, stubs_in, swap_in};
 ghost use Rattle.irs_read.specs.Private.Meaning.{tenor_in};
-ghost use Rattle.irs_read.specs.References.{lists_of};
+ghost use Rattle.irs_read.specs.StreamElements.{places_by};
+ghost use Rattle.irs_read.specs.Readings.{lists_of};
 ghost use Rattle.serde_json.specs.View.{view};
 ghost use Rattle.irs_read.specs.declared.leaf_values.Scale.TheVariants.{Notionals};
 ghost use Rattle.std.specs.Prelude.{◌≡◌, IfOk, codes, map, option_map};

@@ -1,9 +1,9 @@
 //! The first rule that a swap breaks: its own, and those of its one to eight streams.
-ghost use Rattle.irs_read.specs.Swaps.{Among, StreamFault, StreamsFault, SwapFault, outside as outside_of};
+ghost use Rattle.irs_read.specs.Documents.{Among, StreamFault, StreamsFault, SwapFault, outside as outside_of};
 ghost use Rattle.irs_base.specs.Limits.{most_streams};
 ghost use Rattle.serde_json.specs.View.{view};
 ghost use Rattle.std.specs.Prelude.{◌≡◌, ◌≤◌, length, map};
-ghost use Rattle.irs_base.specs.Order.{IsFirstBroken};
+ghost use Rattle.irs_base.specs.Outcomes.{IsFirstBroken};
 
 use crate::table::{ENDS, NAMES, ROWS, STREAM, SWAP, SWAP_ENDS, SWAP_NAMES, SWAP_ROWS};
 use irs_base::{Broken, Elem, MOST_STREAMS, Place, Rule};

@@ -4,10 +4,9 @@
 //! rows are the elements of a stream in the order of the table of paths. After them come the members
 //! that are passed over, `payerPartyReference` among them, and those that are out of the profile.
 ghost use Rattle.irs_elements.specs.Lines.{Line};
-ghost use Rattle.irs_read.specs.References.{list_lines, lists_in, names_on, value_on};
-ghost use Rattle.irs_read.specs.StreamLines.{stream_elements, stream_names, stream_rows, stream_table, swap_names};
-ghost use Rattle.irs_read.specs.StreamLines.{swap_rows};
-ghost use Rattle.irs_read.specs.Tables.{is_whole_table};
+ghost use Rattle.irs_read.specs.Readings.{list_lines, lists_in, names_on, value_on};
+ghost use Rattle.irs_read.specs.Documents.{stream_elements, stream_names, stream_rows, stream_table, swap_names};
+ghost use Rattle.irs_read.specs.Documents.{swap_rows, is_whole_table};
 ghost use Rattle.serde_json.specs.Data.{Data};
 ghost use Rattle.std.specs.Prelude.{◌≡◌, Some, drop, map, true};
 

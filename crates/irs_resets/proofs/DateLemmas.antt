@@ -10,9 +10,9 @@ use Rattle.irs_adjust.proofs.CodeLaws.{one_adjusts}
 use Rattle.irs_adjust.proofs.MoveLaws.{date_in_range, date_not_lacking, one_date, one_failure}
 use Rattle.irs_resets.specs.declared.dates.DateFault.{DateFault}
 use Rattle.irs_resets.specs.declared.dates.DateFault.TheVariants.{NoReset, NoFixing, OutOfRange}
-use Rattle.irs_resets.specs.ResetDates.{ResetDays, IsPeriod, base_day, ResetsOn, FixesBy, FixesOn, IsDates, FixFails}
-use Rattle.irs_resets.specs.ResetDates.{FixingFails, HasFixingFault, DatesFail}
-use Rattle.irs_resets.specs.Private.ResetDates.{HasDates, fault_of}
+use Rattle.irs_resets.specs.Resets.{ResetDays, IsPeriod, base_day, ResetsOn, FixesBy, FixesOn, IsDates, FixFails}
+use Rattle.irs_resets.specs.Resets.{FixingFails, HasFixingFault, DatesFail}
+use Rattle.irs_resets.specs.Private.Resets.{HasDates, fault_of}
 
 -- period i has its dates, or they fail in one of the ways
 abbrev pub DatesOrFailure : ResetTerms → ResetDays → ℕ → Type 0

@@ -1,9 +1,8 @@
 -- The dates of resets are days of the range, and what they observe are rates.
 use Rattle.std.proofs.Common.{ℕ, zero, suc, ◌-◌, List, [], ◌∷◌, Option, Some, None, IfSome, option_and_then, slice_get}
 use Rattle.std.proofs.Common.{ℤ, sym, subst}
-use Rattle.irs_base.specs.DayLists.{AreDays}
+use Rattle.irs_base.specs.Lists.{AreDays, Every}
 use Rattle.irs_base.specs.Days.{IsDay}
-use Rattle.irs_base.specs.Members.{Every}
 use Rattle.irs_base.proofs.DayListLemmas.{day_at_day}
 use Rattle.irs_base.proofs.EveryLemmas.{every_numbered}
 use Rattle.irs_terms.specs.Lawful.{IsRate}
@@ -19,8 +18,7 @@ use Rattle.irs_calendar.specs.GoodDays.{DaySet}
 use Rattle.irs_adjust.proofs.FoundDays.{InRange, adjusts_day}
 use Rattle.irs_adjust.proofs.MovedDays.{moves_day}
 use Rattle.irs_resets.specs.Rates.{RateTable}
-use Rattle.irs_resets.specs.ResetDates.{FixesOn, IsDates, base_day}
-use Rattle.irs_resets.specs.Resets.{IsReset, IsResets, IsResetsOf, ResetSource}
+use Rattle.irs_resets.specs.Resets.{FixesOn, IsDates, base_day, IsReset, IsResets, IsResetsOf, ResetSource}
 use Rattle.irs_resets.proofs.ResetsThere.{InDays}
 
 -- the observed rate of a reset is a rate

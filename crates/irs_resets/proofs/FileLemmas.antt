@@ -7,23 +7,19 @@ use Rattle.std.specs.Str.{bytes_eq}
 use Rattle.irs_base.proofs.DecimalLemmas.{one_decimal}
 use Rattle.std.specs.Prelude.{if◌then◌else◌}
 use Rattle.std.proofs.lemmas.Bool.Decides.{nat_tests}
-use Rattle.irs_base.specs.Fields.{is_space_or_tab}
-use Rattle.irs_base.specs.Dates.{date_at, date_of_parts, digit_pair}
+use Rattle.irs_base.specs.Texts.{is_space_or_tab, date_at, date_of_parts, digit_pair, lines_of}
 use Rattle.irs_terms.specs.declared.frequency.Frequency.{Frequency}
 use Rattle.irs_resets.specs.declared.store.Slot.{Slot}
-use Rattle.irs_resets.specs.Words.{word, is_passed}
+use Rattle.irs_resets.specs.FixingFiles.{word, is_passed, SpellsRate, second_text, IsBadLine, line_at, IsLine, Fixes}
+use Rattle.irs_resets.specs.FixingFiles.{IsBad, Repeats, IsFaulty, IsFirstFaultyLine, IsFixingFile, StopsAt}
 use Rattle.std.proofs.lemmas.Slice.Eq.{bytes_eq-Decides}
 use Rattle.std.proofs.lemmas.Bool.{cases_Bool}
 use Rattle.irs_base.proofs.Firsts.{lt_false}
 use Rattle.irs_base.proofs.Orders.{both_true}
 use Rattle.irs_resets.proofs.SlotLemmas.{slot_same, slot_itself}
-use Rattle.irs_base.specs.Lines.{lines_of}
-use Rattle.irs_calendar.specs.EndLines.{seen_from, seen_lines}
-use Rattle.irs_base.specs.Order.{First}
+use Rattle.irs_calendar.specs.Grammar.{seen_from, seen_lines}
+use Rattle.irs_base.specs.Outcomes.{First}
 use Rattle.irs_resets.specs.Rates.{RateTable, rate_at, is_slot}
-use Rattle.irs_resets.specs.FixingLines.{SpellsRate, second_text}
-use Rattle.irs_resets.specs.FixingFiles.{IsBadLine, line_at, IsLine, Fixes, IsBad, Repeats, IsFaulty, IsFirstFaultyLine}
-use Rattle.irs_resets.specs.FixingFiles.{IsFixingFile, StopsAt}
 use Rattle.irs_resets.specs.Private.FixingFiles.{HasNewRate, HasOldRate, ReadsLine, TakesLine}
 
 -- the lines before number were read into the table, and these are left

@@ -7,17 +7,15 @@ use Rattle.std.specs.Map.{lookup}
 use Rattle.std.specs.Str.{bytes_eq}
 use Rattle.std.proofs.lemmas.Bool.{cases_Bool}
 use Rattle.std.proofs.lemmas.Slice.Eq.{bytes_eq-Decides}
-use Rattle.irs_base.specs.Lines.{lines_of}
-use Rattle.irs_calendar.specs.EndLines.{bad_line, is_false_end, is_none, line_seen, seen_from, seen_lines}
+use Rattle.irs_base.specs.Texts.{lines_of}
+use Rattle.irs_calendar.specs.Grammar.{bad_line, is_false_end, is_none, line_seen, seen_from, seen_lines}
 use Rattle.irs_base.specs.Private.Order.{IsDecided}
 use Rattle.irs_base.proofs.Firsts.{one_first, tied_last}
 use Rattle.irs_resets.specs.FixingFiles.{IsBad, IsFaulty, IsFirstFaultyLine, IsFixingFault, IsFixingFile, Repeats}
-use Rattle.irs_resets.specs.Private.FixingFiles.{IsSpelt}
-use Rattle.irs_resets.specs.Outcomes.{DeterminedUpTo, MeetsFile, answered, fixings_of, refused}
-use Rattle.irs_resets.specs.Private.Outcomes.{line_of}
+use Rattle.irs_resets.specs.FixingFiles.{is_passed}
+use Rattle.irs_resets.specs.Private.FixingFiles.{IsSpelt, line_of, Adds}
+use Rattle.irs_resets.specs.Resets.{DeterminedUpTo, MeetsFile, answered, fixings_of, refused}
 use Rattle.irs_resets.specs.Rates.{RateTable, SameRates, SlotRates, is_slot, rate_at, rate_of}
-use Rattle.irs_resets.specs.Private.Rates.{Adds}
-use Rattle.irs_resets.specs.Words.{is_passed}
 use Rattle.irs_resets.specs.declared.fixings.FixErr.{FixErr}
 use Rattle.irs_resets.specs.declared.fixings.FixErr.TheVariants.{Syntax, Repeat, Memory}
 use Rattle.irs_resets.specs.declared.store.Slot.{Slot}

@@ -2,9 +2,8 @@
 use Rattle.std.proofs.Common.{◌≡◌, ℕ, ◌+◌, ◌/◌, ◌%◌, ◌<◌, true, false, ◌==◌, List, [], ◌∷◌, take, drop}
 use Rattle.std.proofs.Common.{length, get_or, arith, refl, sym, ap, subst, zero, suc, ℤ}
 use Rattle.std.proofs.lemmas.Bool.Decides.{nat_tests}
-use Rattle.irs_base.specs.Fields.{is_space_or_tab}
-use Rattle.irs_base.specs.Texts.{date_text, IsPlainDate}
-use Rattle.irs_resets.specs.Words.{word, behind_word}
+use Rattle.irs_base.specs.Texts.{is_space_or_tab, date_text, IsPlainDate}
+use Rattle.irs_resets.specs.FixingFiles.{word, behind_word}
 
 -- no byte is a space
 abbrev AreSolid : List ℕ → Type 0

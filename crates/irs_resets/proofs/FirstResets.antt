@@ -6,19 +6,15 @@ use Rattle.std.proofs.lemmas.Bool.{cases_order}
 use Rattle.irs_base.specs.declared.places.Rule.TheVariants.{K37}
 use Rattle.irs_base.specs.declared.places.Fault.{Fault}
 use Rattle.irs_base.specs.Elements.{initial_stub, final_stub}
-use Rattle.irs_base.specs.Faults.{fault_at}
-use Rattle.irs_base.specs.Order.{First, IsFirst, level, comes_before}
+use Rattle.irs_base.specs.Outcomes.{fault_at, First, IsFirst, level, comes_before}
 use Rattle.irs_base.proofs.Firsts.{level_same, level_later}
 use Rattle.irs_terms.specs.declared.dates.ResetTerms.{ResetTerms}
 use Rattle.irs_terms.specs.declared.stream.Stream.{Stream}
 use Rattle.irs_terms.specs.declared.results.Span.{Span}
 use Rattle.irs_resets.specs.declared.dates.DateFault.{DateFault}
 use Rattle.irs_resets.specs.declared.dates.DateFault.TheVariants.{NoReset, NoFixing, OutOfRange}
-use Rattle.irs_resets.specs.ResetDates.{ResetDays, DatesFail}
-use Rattle.irs_resets.specs.Resets.{ResetSource}
-use Rattle.irs_resets.specs.ResetRules.{InitialUnmet, FinalUnmet, BreaksStubs, date_fault, BreaksResetDates}
-use Rattle.irs_resets.specs.ResetRules.{BreaksDatesIn}
-use Rattle.irs_resets.specs.ResetRules.{BreaksResets}
+use Rattle.irs_resets.specs.Resets.{ResetDays, DatesFail, ResetSource, InitialUnmet, FinalUnmet, BreaksStubs}
+use Rattle.irs_resets.specs.Resets.{date_fault, BreaksResetDates, BreaksDatesIn, BreaksResets}
 
 -- ---- dates
 

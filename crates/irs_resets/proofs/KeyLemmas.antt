@@ -13,7 +13,7 @@ use Rattle.std.proofs.lemmas.Bool.{cases_Bool}
 use Rattle.std.specs.declared.vec.Vec.{Vec}
 use Rattle.irs_resets.specs.declared.store.Slot.{Slot}
 use Rattle.irs_resets.specs.Rates.{RateTable, SlotRates, by_bytes}
-use Rattle.irs_resets.specs.Private.Rates.{AddsNew, AddsNewAt}
+use Rattle.irs_resets.specs.Private.FixingFiles.{AddsNew, AddsNewAt}
 
 apart : (bs cs ks : List ℕ) → bytes_eq bs cs ≡ false → is_eq (slice_cmp nat_cmp bs ks) ≡ true
     → is_eq (slice_cmp nat_cmp cs ks) ≡ false

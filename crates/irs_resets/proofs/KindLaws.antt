@@ -6,11 +6,11 @@ use Rattle.irs_base.specs.Private.Order.{IsDecided}
 use Rattle.irs_base.proofs.Decided.{order_of}
 use Rattle.irs_terms.specs.declared.results.Span.{Span}
 use Rattle.irs_terms.specs.declared.stream.Stream.{Stream}
-use Rattle.irs_terms.specs.FirstDay.{first_day_of}
+use Rattle.irs_terms.specs.TermDates.{first_day_of}
 use Rattle.irs_resets.specs.declared.observed.PeriodKind.{PeriodKind}
 use Rattle.irs_resets.specs.declared.observed.PeriodKind.TheVariants.{InitialStub, FinalStub, FirstRegular}
 use Rattle.irs_resets.specs.declared.observed.PeriodKind.TheVariants.{LaterRegular}
-use Rattle.irs_resets.specs.ObservedRates.{IsInitialStub, IsFinal, FollowsStub, IsFirstRegular, IsPeriodKind}
+use Rattle.irs_resets.specs.Rates.{IsInitialStub, IsFinal, FollowsStub, IsFirstRegular, IsPeriodKind}
 
 -- whether a number is less is decided
 pub decides_less : (a b : ℤ) → IsDecided (a <ℤ b)

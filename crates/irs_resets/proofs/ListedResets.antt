@@ -2,14 +2,14 @@
 use Rattle.std.proofs.Common.{is_some, false, true≢false, ◌≡◌, inl, inr, ◌+◌, ◌<◌, List, length, Option}
 use Rattle.std.proofs.Common.{Some, None, subst, arith}
 use Rattle.irs_base.proofs.MemberLemmas.{numbered_has}
-use Rattle.irs_base.specs.Order.{IsFirst, comes_before}
+use Rattle.irs_base.specs.Outcomes.{IsFirst, comes_before}
 use Rattle.irs_base.specs.declared.places.Fault.{Fault}
 use Rattle.irs_terms.specs.declared.amounts.FloatTerms.{FloatTerms}
 use Rattle.irs_terms.specs.declared.dates.ResetTerms.{ResetTerms}
 use Rattle.irs_terms.specs.declared.results.Reset.{Reset}
 use Rattle.irs_resets.specs.Rates.{RateTable}
-use Rattle.irs_resets.specs.ResetRules.{BreaksResetDates, BreaksDatesIn, BreaksResets, BreaksStubs}
-use Rattle.irs_resets.specs.Resets.{HasResets, IsReset, ResetSource}
+use Rattle.irs_resets.specs.Resets.{BreaksResetDates, BreaksDatesIn, BreaksResets, BreaksStubs, HasResets, IsReset}
+use Rattle.irs_resets.specs.Resets.{ResetSource}
 use Rattle.irs_resets.proofs.DateLemmas.{dates_stand, period_of}
 
 dates_kept : (source : ResetSource) (float : FloatTerms) (t : ResetTerms) (rates : RateTable) (rows : List Reset)

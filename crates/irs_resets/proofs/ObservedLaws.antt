@@ -8,11 +8,10 @@ use Rattle.irs_resets.specs.declared.observed.PeriodKind.{PeriodKind}
 use Rattle.irs_resets.specs.declared.observed.PeriodKind.TheVariants.{InitialStub, FinalStub, FirstRegular}
 use Rattle.irs_resets.specs.declared.observed.PeriodKind.TheVariants.{LaterRegular}
 use Rattle.irs_resets.specs.declared.store.Slot.{Slot}
-use Rattle.irs_resets.specs.Rates.{RateTable, rate_at}
-use Rattle.irs_resets.specs.ObservedRates.{RateSource, Stated, Line, GivesStub, ComesFrom, own_rate, own_index}
-use Rattle.irs_resets.specs.ObservedRates.{initial_rate, stream_index, rate_from, IsObserved}
-use Rattle.irs_resets.specs.Private.ObservedRates.{own_source, index_source, own_or_index, initial_or_index, source_by}
-use Rattle.irs_resets.specs.Private.ObservedRates.{observed_rate}
+use Rattle.irs_resets.specs.Rates.{RateTable, rate_at, RateSource, Stated, Line, GivesStub, ComesFrom, own_rate}
+use Rattle.irs_resets.specs.Rates.{own_index, initial_rate, stream_index, rate_from, IsObserved}
+use Rattle.irs_resets.specs.Private.Resets.{own_source, index_source, own_or_index, initial_or_index, source_by}
+use Rattle.irs_resets.specs.Private.Resets.{observed_rate}
 
 not_first_initial : InitialStub ≡ FirstRegular → ⊥
 not_first_initial e = cc (e)

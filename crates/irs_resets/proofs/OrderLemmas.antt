@@ -15,7 +15,7 @@ use Rattle.std.proofs.lemmas.Map.Entries.{lookup_at_gap, lookup_from_place}
 use Rattle.std.proofs.lemmas.Map.Keys.{IsDistinct-from_sorted, Less-from_sorted}
 use Rattle.std.proofs.lemmas.Option.{get_or_from_slice_get, same_Some, slice_get-map, slice_get_within}
 use Rattle.irs_resets.specs.Rates.{SlotRates, is_slot}
-use Rattle.irs_resets.specs.Private.Rates.{AddsNew, AddsTo}
+use Rattle.irs_resets.specs.Private.FixingFiles.{AddsNew, AddsTo}
 use Rattle.irs_resets.specs.SlotOrder.{AreInOrder, slot_cmp}
 use Rattle.irs_resets.specs.Private.SlotOrder.{ComesAfter, IsPlace}
 use Rattle.irs_resets.specs.contracts.store.SlotOrd.TheImpl.Laws.{total-law}

@@ -1,15 +1,13 @@
 -- Each call of this crate has one outcome.
 use Rattle.std.proofs.Common.{inl, inr}
-use Rattle.irs_base.specs.Order.{comes_before}
-use Rattle.irs_base.specs.Outcomes.{Determined, Spec, ◌>>=◌, answered, refused}
+use Rattle.irs_base.specs.Outcomes.{comes_before, Determined, Spec, ◌>>=◌, answered, refused}
 use Rattle.irs_base.proofs.FaultOrder.{one_fault}
 use Rattle.irs_base.proofs.Outcomes.{unless_broken_determined}
-use Rattle.irs_terms.specs.DayTypes.{IsSaidReset}
-use Rattle.irs_terms.specs.Legs.{FitsLeg}
-use Rattle.irs_resets.specs.Outcomes.{DeterminedUpTo, answered as answered_up_to, refused as refused_up_to, resets_of}
+use Rattle.irs_terms.specs.Centers.{IsSaidReset}
+use Rattle.irs_terms.specs.Lawful.{FitsLeg}
+use Rattle.irs_resets.specs.Resets.{DeterminedUpTo, answered as answered_up_to, refused as refused_up_to, resets_of}
+use Rattle.irs_resets.specs.Resets.{BreaksResets, IsResets, ResetSource}
 use Rattle.irs_resets.specs.Rates.{RateTable}
-use Rattle.irs_resets.specs.ResetRules.{BreaksResets}
-use Rattle.irs_resets.specs.Resets.{IsResets, ResetSource}
 use Rattle.irs_resets.proofs.ResetsThere.{InDays, resets_decided, resets_there}
 use Rattle.irs_resets.proofs.RowLemmas.{one_resets}
 

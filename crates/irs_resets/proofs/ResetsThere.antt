@@ -4,8 +4,8 @@ use Rattle.std.proofs.Common.{arith, rules, refl, ap, subst, IsSome, IfSome}
 use Rattle.std.specs.Prelude.{nat_lt}
 use Rattle.std.proofs.lemmas.Bool.{cases_lt, cases_eq}
 use Rattle.irs_base.specs.Days.{IsDay}
-use Rattle.irs_base.specs.DayLists.{AreDays}
-use Rattle.irs_base.specs.Order.{First, comes_before}
+use Rattle.irs_base.specs.Lists.{AreDays}
+use Rattle.irs_base.specs.Outcomes.{First, comes_before}
 use Rattle.irs_base.specs.Private.Order.{IsDecided}
 use Rattle.irs_base.specs.declared.places.Fault.{Fault}
 use Rattle.irs_base.proofs.DayListLemmas.{day_at_day}
@@ -21,20 +21,19 @@ use Rattle.irs_terms.specs.declared.amounts.StubTerms.{StubTerms}
 use Rattle.irs_terms.specs.declared.stream.Stream.{Stream}
 use Rattle.irs_terms.specs.declared.results.Span.{Span}
 use Rattle.irs_terms.specs.declared.results.Reset.{Reset}
-use Rattle.irs_terms.specs.DayTypes.{IsSaidFixing, IsSaidReset}
-use Rattle.irs_terms.specs.FirstDay.{first_day_of}
-use Rattle.irs_terms.specs.Legs.{FitsResets, FitsLeg}
+use Rattle.irs_terms.specs.Centers.{IsSaidFixing, IsSaidReset}
+use Rattle.irs_terms.specs.TermDates.{first_day_of}
+use Rattle.irs_terms.specs.Lawful.{FitsResets, FitsLeg}
 use Rattle.irs_calendar.specs.GoodDays.{DaySet}
 use Rattle.irs_adjust.proofs.FoundDays.{InRange, IsFound, decides_adjusts, adjusts_day}
 use Rattle.irs_adjust.proofs.MoveLaws.{DateOrFailure, date_or_failure}
 use Rattle.irs_resets.specs.declared.dates.DateFault.{DateFault}
 use Rattle.irs_resets.specs.declared.dates.DateFault.TheVariants.{NoReset, NoFixing, OutOfRange}
-use Rattle.irs_resets.specs.ResetDates.{ResetDays, IsPeriod, base_day, ResetsOn, FixesOn, FixingFails, DatesFail}
-use Rattle.irs_resets.specs.Private.ResetDates.{HasDates}
-use Rattle.irs_resets.specs.ResetRules.{GivesInitial, GivesFinal, InitialUnmet, FinalUnmet, BreaksStubs, date_fault}
-use Rattle.irs_resets.specs.ResetRules.{BreaksResetDates, BreaksDatesIn, BreaksResets}
+use Rattle.irs_resets.specs.Resets.{ResetDays, IsPeriod, base_day, ResetsOn, FixesOn, FixingFails, DatesFail}
+use Rattle.irs_resets.specs.Resets.{GivesInitial, GivesFinal, InitialUnmet, FinalUnmet, BreaksStubs, date_fault}
+use Rattle.irs_resets.specs.Resets.{BreaksResetDates, BreaksDatesIn, BreaksResets, ResetSource, IsResetsOf, IsResets}
+use Rattle.irs_resets.specs.Private.Resets.{HasDates}
 use Rattle.irs_resets.specs.Rates.{RateTable}
-use Rattle.irs_resets.specs.Resets.{ResetSource, IsResetsOf, IsResets}
 use Rattle.irs_resets.proofs.DateLemmas.{dates_stand, one_way, period_of, DatesOrFailure}
 use Rattle.irs_resets.proofs.FirstResets.{rank, same_rank, NoneFails, first_reset, first_fixing, first_range}
 use Rattle.irs_resets.proofs.FirstResets.{dates_unbroken, none_fails, first_initial, first_final, stubs_unbroken}

@@ -3,8 +3,7 @@ use Rattle.std.proofs.Common.{◌≡◌, inl, inr, ℕ, ◌+◌, ◌-◌, ◌<�
 use Rattle.std.proofs.Common.{None, ℤ, pos, ◌≤ℤ◌, ◌-ℤ◌, sym, ap, ap₂, subst, ◌∙◌, arith}
 use Rattle.jiff_core.proofs.SignedLemmas.{signed_arith}
 use Rattle.irs_base.specs.Days.{all_days, first_day, last_day}
-use Rattle.irs_base.specs.DayLists.{AreDays}
-use Rattle.irs_base.specs.Listed.{AllAfter, IsRising}
+use Rattle.irs_base.specs.Lists.{AreDays, AllAfter, IsRising}
 use Rattle.irs_base.proofs.MemberLemmas.{one_numbered, numbered_map, numbered_there}
 use Rattle.irs_terms.specs.declared.dates.ResetTerms.{ResetTerms}
 use Rattle.irs_terms.specs.declared.amounts.FloatTerms.{FloatTerms}
@@ -13,12 +12,10 @@ use Rattle.irs_terms.specs.declared.amounts.Leg.TheVariants.{Fixed, Floating}
 use Rattle.irs_terms.specs.declared.results.Reset.{Reset}
 use Rattle.irs_resets.specs.declared.dates.DateFault.{DateFault}
 use Rattle.irs_resets.specs.declared.dates.DateFault.TheVariants.{NoReset, NoFixing, OutOfRange}
-use Rattle.irs_resets.specs.ResetDates.{ResetDays, IsPeriod, DatesFail}
-use Rattle.irs_resets.specs.Private.ResetDates.{HasDates}
-use Rattle.irs_resets.specs.ObservedRates.{IsObserved}
-use Rattle.irs_resets.specs.Private.ObservedRates.{observed_rate}
-use Rattle.irs_resets.specs.Rates.{RateTable, rate_at}
-use Rattle.irs_resets.specs.Resets.{ResetSource, source_period_count, IsReset, HasResets, IsResetsOf, IsResets}
+use Rattle.irs_resets.specs.Resets.{ResetDays, IsPeriod, DatesFail, ResetSource, source_period_count, IsReset}
+use Rattle.irs_resets.specs.Resets.{HasResets, IsResetsOf, IsResets}
+use Rattle.irs_resets.specs.Private.Resets.{HasDates, observed_rate}
+use Rattle.irs_resets.specs.Rates.{IsObserved, RateTable, rate_at}
 use Rattle.irs_resets.specs.declared.observed.PeriodKind.{PeriodKind}
 use Rattle.irs_resets.specs.declared.store.Slot.{Slot}
 use Rattle.irs_resets.proofs.DateLemmas.{one_dates, DatesOrFailure}

@@ -1,8 +1,8 @@
 -- Where a word ends.
 use Rattle.std.proofs.Common.{◌≡◌, ℕ, zero, suc, ◌-◌, ◌<◌, ◌≤◌, Bool, true, false, ◌&&◌, List, [], ◌∷◌, take, drop}
 use Rattle.std.proofs.Common.{length, get_or, arith, refl, ap}
-use Rattle.irs_base.specs.Fields.{is_space_or_tab}
-use Rattle.irs_resets.specs.Words.{word, behind_word, trimmed, is_blank}
+use Rattle.irs_base.specs.Texts.{is_space_or_tab}
+use Rattle.irs_resets.specs.FixingFiles.{word, behind_word, trimmed, is_blank}
 
 -- no byte before the place is a space
 abbrev pub NoneBefore : List ℕ → ℕ → Type 0

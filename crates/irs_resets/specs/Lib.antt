@@ -1,12 +1,5 @@
-pub mod Words
-pub mod Tenors
+pub mod FixingFiles
 pub mod Rates
 pub mod SlotOrder
-pub mod FixingLines
-pub mod FixingFiles
-pub mod ResetDates
-pub mod ObservedRates
 pub mod Resets
-pub mod ResetRules
-pub mod Outcomes
 pub mod Private

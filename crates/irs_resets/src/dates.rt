@@ -4,12 +4,11 @@
 //! date is the reset date moved by the offset of `fixingDates` and then adjusted, or the reset date
 //! itself. The order of these steps is our rule.
 ghost use Rattle.std.specs.Prelude.{◌≡◌, ◌↔◌, ◌<◌, ◌^◌, length, IsTrue, IfOk, IfErr, nat_lt};
-ghost use Rattle.irs_base.specs.Order.{IsFirst};
-ghost use Rattle.irs_resets.specs.ResetDates.{reset_days_by, base_day, IsPeriod, FixesOn, FixesBy, IsDates};
-ghost use Rattle.irs_resets.specs.ResetDates.{FixingFails};
-ghost use Rattle.irs_resets.specs.ResetDates.{FixFails, DatesFail};
-ghost use Rattle.irs_resets.specs.Private.ResetDates.{fault_of};
-ghost use Rattle.irs_terms.specs.DayTypes.{IsSaidFixing, IsSaid};
+ghost use Rattle.irs_base.specs.Outcomes.{IsFirst};
+ghost use Rattle.irs_resets.specs.Resets.{reset_days_by, base_day, IsPeriod, FixesOn, FixesBy, IsDates, FixingFails};
+ghost use Rattle.irs_resets.specs.Resets.{FixFails, DatesFail};
+ghost use Rattle.irs_resets.specs.Private.Resets.{fault_of};
+ghost use Rattle.irs_terms.specs.Centers.{IsSaidFixing, IsSaid};
 
 use irs_adjust::{NoDate, adjust_by, move_and_adjust};
 use irs_base::Day;

@@ -4,11 +4,10 @@
 //! or a frequency other than the term. INDEX is the rest of the line, at least one byte and at most
 //! [`MOST_INDEX`], none of them a control byte. The format is our rule.
 ghost use Rattle.std.specs.Prelude.{◌≡◌, ◌≢◌, ◌↔◌, ◌≤◌, ℕ, ℤ, List, Option, Some, All, IsTrue, IfSome, IfNone};
-ghost use Rattle.irs_base.specs.Dates.{date_at};
+ghost use Rattle.irs_base.specs.Texts.{date_at};
 ghost use Rattle.irs_terms.specs.declared.frequency.Frequency.{Frequency as AtTenor};
-ghost use Rattle.irs_resets.specs.Words.{behind_gap, word};
-ghost use Rattle.irs_resets.specs.FixingLines.{IsRateText, IsIndexText, SpellsRate};
-ghost use Rattle.irs_resets.specs.Private.FixingLines.{IsTail};
+ghost use Rattle.irs_resets.specs.FixingFiles.{behind_gap, word, IsRateText, IsIndexText, SpellsRate};
+ghost use Rattle.irs_resets.specs.Private.FixingFiles.{IsTail};
 ghost use Rattle.irs_resets.specs.declared.store.Slot.{Slot as AtSlot};
 
 use crate::store::Slot;

@@ -6,16 +6,14 @@
 //! two lines give the same index, date and tenor. The format is our rule.
 ghost use Rattle.std.specs.Prelude.{◌≡◌, ◌≤◌, ◌↔◌, [], length, IfSome, IsErrOf, IsTrue};
 ghost use Rattle.irs_base.specs.Limits.{most_bytes};
-ghost use Rattle.irs_calendar.specs.EndLines.{seen_lines};
+ghost use Rattle.irs_calendar.specs.Grammar.{seen_lines};
 ghost use Rattle.irs_terms.specs.Lawful.{IsRate};
 ghost use Rattle.std.specs.Map.{lookup};
 ghost use Rattle.std.specs.Str.{bytes_eq};
 ghost use Rattle.irs_resets.specs.Rates.{SameRates, rate_at, rate_of};
-ghost use Rattle.irs_resets.specs.Private.FixingLines.{IsTail};
+ghost use Rattle.irs_resets.specs.Private.FixingFiles.{IsTail, HasNewRate, IsSpelt, line_of};
 ghost use Rattle.irs_resets.specs.FixingFiles.{StopsAt};
-ghost use Rattle.irs_resets.specs.Private.FixingFiles.{HasNewRate, IsSpelt};
-ghost use Rattle.irs_resets.specs.Outcomes.{DeterminedUpTo, MeetsFile, fixings_of};
-ghost use Rattle.irs_resets.specs.Private.Outcomes.{line_of};
+ghost use Rattle.irs_resets.specs.Resets.{DeterminedUpTo, MeetsFile, fixings_of};
 ghost use Rattle.irs_resets.specs.declared.fixings.FixErr.TheVariants.{Memory as OfMemory};
 
 use crate::fixing_line::{Tail, fixing_line};

@@ -6,10 +6,9 @@
 //! fixing date. That a stub's index doesn't fall back to the stream's is our rule.
 ghost use Rattle.std.specs.Prelude.{◌≡◌, ◌↔◌, IsTrue, IfSome};
 ghost use Rattle.irs_terms.specs.Lawful.{IsRate, IsLawfulFloat, IsLawfulStubs, IsLawfulStubRate};
-ghost use Rattle.irs_resets.specs.ObservedRates.{IsInitialStub, IsFinal, FollowsStub, IsFirstRegular, IsPeriodKind};
-ghost use Rattle.irs_resets.specs.ObservedRates.{rate_from};
-ghost use Rattle.irs_resets.specs.Private.ObservedRates.{index_source, own_source, own_or_index, initial_stub_source};
-ghost use Rattle.irs_resets.specs.Private.ObservedRates.{final_stub_source, initial_or_index, observed_rate};
+ghost use Rattle.irs_resets.specs.Rates.{IsInitialStub, IsFinal, FollowsStub, IsFirstRegular, IsPeriodKind, rate_from};
+ghost use Rattle.irs_resets.specs.Private.Resets.{index_source, own_source, own_or_index, initial_stub_source};
+ghost use Rattle.irs_resets.specs.Private.Resets.{final_stub_source, initial_or_index, observed_rate};
 
 use crate::Fixings;
 use irs_base::Day;

@@ -1,18 +1,14 @@
 //! The resets of a floating stream, one for each calculation period (2006 ISDA Definitions, article
 //! 6; FpML `resetDates`).
 ghost use Rattle.std.specs.Prelude.{◌≡◌, ◌<◌, ◌^◌, ◌↔◌, Some, length, IsTrue, IfOk, IfSome, All};
-ghost use Rattle.irs_base.specs.Listed.{IsRising};
-ghost use Rattle.irs_base.specs.Order.{IsFirst, comes_before};
-ghost use Rattle.irs_base.specs.Outcomes.{Determined, IfMemory, Meets};
+ghost use Rattle.irs_base.specs.Lists.{IsRising};
+ghost use Rattle.irs_base.specs.Outcomes.{IsFirst, comes_before, Determined, IfMemory, Meets};
 ghost use Rattle.irs_terms.specs.declared.amounts.Leg.TheVariants.{Floating as OfFloating};
-ghost use Rattle.irs_terms.specs.DayTypes.{IsSaidFixing, IsSaidReset};
-ghost use Rattle.irs_terms.specs.Lawful.{IsLawfulFloat, IsLawfulStubs, IsLawfulStream};
-ghost use Rattle.irs_terms.specs.Legs.{FitsLeg};
-ghost use Rattle.irs_resets.specs.Outcomes.{resets_of};
-ghost use Rattle.irs_resets.specs.ResetDates.{reset_days_by};
-ghost use Rattle.irs_resets.specs.Resets.{source_of, HasSmallRate, HasResets};
-ghost use Rattle.irs_resets.specs.ResetRules.{GivesInitial, GivesFinal, InitialUnmet, FinalUnmet, BreaksStubs};
-ghost use Rattle.irs_resets.specs.ResetRules.{date_fault, BreaksResetDates, BreaksResets};
+ghost use Rattle.irs_terms.specs.Centers.{IsSaidFixing, IsSaidReset};
+ghost use Rattle.irs_terms.specs.Lawful.{IsLawfulFloat, IsLawfulStubs, IsLawfulStream, FitsLeg};
+ghost use Rattle.irs_resets.specs.Resets.{resets_of, reset_days_by, source_of, HasSmallRate, HasResets, GivesInitial};
+ghost use Rattle.irs_resets.specs.Resets.{GivesFinal, InitialUnmet, FinalUnmet, BreaksStubs, date_fault};
+ghost use Rattle.irs_resets.specs.Resets.{BreaksResetDates, BreaksResets};
 
 use crate::Fixings;
 use crate::dates::{DateFault, first_with, period_dates};

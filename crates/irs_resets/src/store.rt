@@ -5,7 +5,7 @@ ghost use Rattle.std.specs.Prelude.{◌≡◌, ℤ, List, [], None, IfOk, OnErr,
 ghost use Rattle.std.specs.Map.{lookup};
 ghost use Rattle.std.specs.Str.{bytes_eq};
 ghost use Rattle.irs_resets.specs.Rates.{is_slot, rate_at};
-ghost use Rattle.irs_resets.specs.Private.Rates.{AddsNew, AddsNewAt};
+ghost use Rattle.irs_resets.specs.Private.FixingFiles.{AddsNew, AddsNewAt};
 ghost use Rattle.irs_resets.specs.declared.store.Slot.{Slot as AtSlot};
 
 use crate::in_order::InOrder;

@@ -1,9 +1,8 @@
 //! The tenor of a line of a fixing file: `-`, or a number from 1 to 999 followed by D, W, M or Y. The
 //! number has no leading zeros.
 ghost use Rattle.std.specs.Prelude.{◌≡◌, ◌≤◌, IfSome};
-ghost use Rattle.irs_resets.specs.Tenors.{digit_at, first_digit, unit_of_letter, two_digit_number, three_digits};
-ghost use Rattle.irs_resets.specs.Tenors.{with_unit};
-ghost use Rattle.irs_resets.specs.Tenors.{tenor_at};
+ghost use Rattle.irs_resets.specs.FixingFiles.{digit_at, first_digit, unit_of_letter, two_digit_number, three_digits};
+ghost use Rattle.irs_resets.specs.FixingFiles.{with_unit, tenor_at};
 
 use irs_terms::{Frequency, Unit};
 

@@ -3,8 +3,8 @@
 //! Words are separated by one or more spaces or tabs. The rest keeps the spaces inside it.
 ghost use Rattle.std.specs.Prelude.{◌≡◌};
 ghost use Rattle.std.specs.List.{list_all};
-ghost use Rattle.irs_base.specs.Fields.{is_space_or_tab};
-ghost use Rattle.irs_resets.specs.Words.{word, behind_word, behind_gap, trimmed, is_passed};
+ghost use Rattle.irs_base.specs.Texts.{is_space_or_tab};
+ghost use Rattle.irs_resets.specs.FixingFiles.{word, behind_word, behind_gap, trimmed, is_passed};
 
 use irs_base::{is_gap, skip_gap};
 

@@ -2,13 +2,11 @@
 use Rattle.std.proofs.Common.{◌≡◌, inl, inr, ℕ, ◌<◌, ◌≤◌, min, arith, sym, ◌∙◌, ap, subst, ℤ, pos, ◌+ℤ◌, ◌-ℤ◌}
 use Rattle.std.proofs.lemmas.Bool.{cases_lt}
 use Rattle.jiff_core.proofs.SignedLemmas.{signed_arith}
-use Rattle.irs_base.specs.Days.{weekday_at}
-use Rattle.irs_base.specs.Months.{InMonth, dim, month_start, day_in_month}
+use Rattle.irs_base.specs.Days.{weekday_at, InMonth, dim, month_start, day_in_month}
 use Rattle.irs_base.proofs.MonthLemmas.{same_month}
-use Rattle.irs_roll.specs.Grids.{IsMultiple, MonthsTo, OnMonths, OnRollDay}
-use Rattle.irs_roll.specs.RollDays.{IsLastDay, IsNumbered, IsThirdWednesday}
-use Rattle.irs_roll.specs.RollDayLaws.{last_day-is, last_day_only, numbered-is, numbered_only}
-use Rattle.irs_roll.specs.Private.MonthLaws.{rolls_in}
+use Rattle.irs_roll.specs.Rolls.{IsMultiple, MonthsTo, OnMonths, OnRollDay, IsLastDay, IsNumbered, IsThirdWednesday}
+use Rattle.irs_roll.specs.Laws.{last_day-is, last_day_only, numbered-is, numbered_only}
+use Rattle.irs_roll.specs.Private.Laws.{rolls_in}
 
 place_day : (n place : ℕ) (d m : ℤ) → d +ℤ pos 1 ≡ month_start m +ℤ pos place → place ≡ min n (dim m)
     → d ≡ day_in_month n m

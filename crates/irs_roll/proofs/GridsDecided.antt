@@ -1,8 +1,7 @@
 -- Whether a day lies on a grid is decided: it does, or it doesn't.
 use Rattle.std.proofs.Common.{◌≡◌, inl, inr, ℕ, ◌*◌, ◌<◌, ◌≤◌, ℤ, pos, ◌-ℤ◌, ◌*ℤ◌, arith, refl, sym, subst}
 use Rattle.std.specs.Int.{int_div_euclid}
-use Rattle.irs_base.specs.Days.{IsDay}
-use Rattle.irs_base.specs.Months.{InMonth, day_in_month}
+use Rattle.irs_base.specs.Days.{IsDay, InMonth, day_in_month}
 use Rattle.irs_base.proofs.MonthLemmas.{has_month, same_month}
 use Rattle.irs_base.specs.Private.Order.{IsDecided}
 use Rattle.irs_base.proofs.Decided.{decides_same}
@@ -12,12 +11,10 @@ use Rattle.irs_terms.specs.declared.frequency.Frequency.{Frequency}
 use Rattle.irs_terms.specs.declared.frequency.Unit.{Unit as FrequencyUnit}
 use Rattle.irs_terms.specs.declared.frequency.Unit.TheVariants.{D, W, M, Y, T}
 use Rattle.irs_terms.specs.Lawful.{IsLawfulFrequency, IsLawfulRoll}
-use Rattle.irs_roll.specs.RollDays.{last_day_of, third_wednesday}
-use Rattle.irs_roll.specs.RollDayLaws.{last_day-is, last_day_only, numbered-is, numbered_only, third_wednesday-is}
-use Rattle.irs_roll.specs.RollDayLaws.{third_wednesday_only}
-use Rattle.irs_roll.specs.Grids.{IsMultiple, OnMonths}
-use Rattle.irs_roll.specs.Private.StepLaws.{no_whole_steps}
-use Rattle.irs_roll.specs.Rolls.{IsRollDay, OnGridBy, OnGrid}
+use Rattle.irs_roll.specs.Rolls.{last_day_of, third_wednesday, IsMultiple, OnMonths, IsRollDay, OnGridBy, OnGrid}
+use Rattle.irs_roll.specs.Laws.{last_day-is, last_day_only, numbered-is, numbered_only, third_wednesday-is}
+use Rattle.irs_roll.specs.Laws.{third_wednesday_only}
+use Rattle.irs_roll.specs.Private.Laws.{no_whole_steps}
 
 -- a number is a whole multiple of the step, or its quotient leaves a rest
 pub decides_multiple : (step : ℕ) (z : ℤ) → 0 < step → IsDecided (IsMultiple step z)

@@ -1,8 +1,3 @@
-pub mod RollDays
-pub mod Grids
 pub mod Rolls
-pub mod RollDayLaws
-pub mod StepLaws
-pub mod MonthLaws
-pub mod KindLaws
+pub mod Laws
 pub mod Private

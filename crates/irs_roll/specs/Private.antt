@@ -1,3 +1,1 @@
-pub mod RollDayLaws
-pub mod StepLaws
-pub mod MonthLaws
+pub mod Laws

@@ -1,9 +1,8 @@
 //! The day from which a grid counts, with its month worked out once for all questions.
 ghost use Rattle.std.specs.Prelude.{◌≡◌, ℤ, pos, neg_ℤ};
 ghost use Rattle.jiff_core.specs.Calendar.{IsBetween};
-ghost use Rattle.irs_base.specs.Days.{first_month, last_month, first_year, last_year, month_index_of};
-ghost use Rattle.irs_base.specs.Months.{InMonth};
-ghost use Rattle.irs_roll.specs.Grids.{MonthsTo};
+ghost use Rattle.irs_base.specs.Days.{first_month, last_month, first_year, last_year, month_index_of, InMonth};
+ghost use Rattle.irs_roll.specs.Rolls.{MonthsTo};
 
 use irs_base::{Civil, Day, month_index};
 use std::marker::Model;

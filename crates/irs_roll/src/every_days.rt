@@ -1,8 +1,8 @@
 //! Grids of days and weeks: one day every given number of days from an anchor.
 ghost use Rattle.std.specs.Prelude.{◌≡◌, ◌↔◌, ◌<◌, ℤ, pos};
 ghost use Rattle.irs_base.specs.Days.{IsDay};
-ghost use Rattle.irs_roll.specs.Grids.{OnDays, kth};
-ghost use Rattle.irs_roll.specs.StepLaws.{kth_rises, OnDays-kth, kth-OnDays};
+ghost use Rattle.irs_roll.specs.Rolls.{OnDays, kth};
+ghost use Rattle.irs_roll.specs.Laws.{kth_rises, OnDays-kth, kth-OnDays};
 
 use crate::Grid;
 use crate::steps::whole_steps;

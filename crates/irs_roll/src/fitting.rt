@@ -2,9 +2,8 @@
 //! every day is our rule.
 ghost use Rattle.std.specs.Prelude.{◌↔◌, ◌<◌, IsTrue};
 ghost use Rattle.irs_terms.specs.Lawful.{IsLawfulRoll};
-ghost use Rattle.irs_roll.specs.Grids.{OnDays, OnMonths, OnRollDay};
-ghost use Rattle.irs_roll.specs.Rolls.{Fits, FitsWeek, IsRollDay, OnGrid};
-ghost use Rattle.irs_terms.specs.Suiting.{IsWholeTerm, RollsMonths, Suits};
+ghost use Rattle.irs_roll.specs.Rolls.{OnDays, OnMonths, OnRollDay, Fits, FitsWeek, IsRollDay, OnGrid};
+ghost use Rattle.irs_terms.specs.TermDates.{IsWholeTerm, RollsMonths, Suits};
 
 use crate::Anchor;
 use crate::rolls::{DayNumber, EndOfMonth, Imm, Roll};

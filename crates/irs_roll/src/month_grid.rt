@@ -1,10 +1,8 @@
 //! Grids of months and years: a roll day every given number of months from the anchor's month.
 ghost use Rattle.std.specs.Prelude.{◌≡◌, ◌↔◌, ◌<◌, ◌≤◌, ℤ, pos, IfSome, IfNone};
-ghost use Rattle.irs_base.specs.Months.{InMonth};
-ghost use Rattle.irs_roll.specs.Grids.{OnMonths, OnMonthsFrom, kth};
-ghost use Rattle.irs_roll.specs.RollDays.{IsLastDay, IsNumbered, IsThirdWednesday};
-ghost use Rattle.irs_roll.specs.StepLaws.{kth_rises};
-ghost use Rattle.irs_roll.specs.MonthLaws.{roll_rises, roll_is_on, roll_misses_none};
+ghost use Rattle.irs_base.specs.Days.{InMonth};
+ghost use Rattle.irs_roll.specs.Rolls.{OnMonths, OnMonthsFrom, kth, IsLastDay, IsNumbered, IsThirdWednesday};
+ghost use Rattle.irs_roll.specs.Laws.{kth_rises, roll_rises, roll_is_on, roll_misses_none};
 
 use crate::Grid;
 use crate::rolls::{DayNumber, EndOfMonth, Imm, Roll};

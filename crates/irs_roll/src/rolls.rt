@@ -2,14 +2,12 @@
 //! the money market roll on the third Wednesday (IMM).
 ghost use Rattle.std.specs.Prelude.{◌≡◌, ◌↔◌, ◌<◌, ◌≤◌, ◌-◌, ◌%◌, min, ℤ, pos, IsTrue, SomeIff};
 ghost use Rattle.jiff_core.specs.Calendar.{IsBetween, days_in_month as length_of_month};
-ghost use Rattle.irs_base.specs.Civils.{IsCivilOf};
-ghost use Rattle.irs_base.specs.Days.{IsDay, first_year, last_year, weekday_at};
-ghost use Rattle.irs_base.specs.Months.{InMonth, day_in_month};
+ghost use Rattle.irs_base.specs.Days.{IsCivilOf, IsDay, first_year, last_year, weekday_at, InMonth, day_in_month};
 ghost use Rattle.irs_base.proofs.MonthLemmas.{day_in_month-in_month};
-ghost use Rattle.irs_roll.specs.Grids.{OnRollDay};
-ghost use Rattle.irs_roll.specs.RollDays.{IsLastDay, IsNumbered, IsThirdWednesday, last_day_of, third_wednesday};
-ghost use Rattle.irs_roll.specs.RollDayLaws.{last_day-is, last_day_only, last_day-in_month, numbered-is, numbered_only};
-ghost use Rattle.irs_roll.specs.RollDayLaws.{third_wednesday-is, third_wednesday_only, third_wednesday-in_month};
+ghost use Rattle.irs_roll.specs.Rolls.{OnRollDay, IsLastDay, IsNumbered, IsThirdWednesday, last_day_of};
+ghost use Rattle.irs_roll.specs.Rolls.{third_wednesday};
+ghost use Rattle.irs_roll.specs.Laws.{last_day-is, last_day_only, last_day-in_month, numbered-is, numbered_only};
+ghost use Rattle.irs_roll.specs.Laws.{third_wednesday-is, third_wednesday_only, third_wednesday-in_month};
 
 use irs_base::{Civil, Day, DayName, month_day, plus, weekday};
 use jiff_core::civil::days_in_month;

@@ -1,7 +1,7 @@
 //! Whole steps: the number of steps in a distance, also before the anchor.
 ghost use Rattle.std.specs.Prelude.{◌≡◌, ◌<◌, pos, neg_ℤ, ◌*ℤ◌, ◌↔◌, IfSome, IfNone, IsTrue};
 ghost use Rattle.jiff_core.specs.Calendar.{IsBetween};
-ghost use Rattle.irs_roll.specs.Grids.{IsMultiple};
+ghost use Rattle.irs_roll.specs.Rolls.{IsMultiple};
 
 /// The number of steps in `apart`; `None` exactly where it is no whole multiple of the step.
 pub fn whole_steps(apart: i64, step: u32) -> Option<i64>

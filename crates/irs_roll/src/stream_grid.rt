@@ -1,11 +1,10 @@
 //! The grid of a frequency and a roll convention, whichever kind they give.
 ghost use Rattle.std.specs.Prelude.{◌≡◌, ◌↔◌, ◌<◌, ℤ, pos};
-ghost use Rattle.irs_roll.specs.Grids.{OnMonths, OnRollDay};
-ghost use Rattle.irs_roll.specs.Rolls.{Fits, IsRollDay, OnGrid};
-ghost use Rattle.irs_roll.specs.StepLaws.{kth_rises, OnDays-kth, kth-OnDays};
-ghost use Rattle.irs_roll.specs.KindLaws.{number_is_on, number_rises, number_misses_none, end_is_on, end_rises};
-ghost use Rattle.irs_roll.specs.KindLaws.{end_misses_none, wednesday_is_on, wednesday_rises, wednesday_misses_none};
-ghost use Rattle.irs_terms.specs.Suiting.{IsWholeTerm, RollsMonths, Suits};
+ghost use Rattle.irs_roll.specs.Rolls.{OnMonths, OnRollDay, Fits, IsRollDay, OnGrid};
+ghost use Rattle.irs_roll.specs.Laws.{kth_rises, OnDays-kth, kth-OnDays, number_is_on, number_rises};
+ghost use Rattle.irs_roll.specs.Laws.{number_misses_none, end_is_on, end_rises, end_misses_none, wednesday_is_on};
+ghost use Rattle.irs_roll.specs.Laws.{wednesday_rises, wednesday_misses_none};
+ghost use Rattle.irs_terms.specs.TermDates.{IsWholeTerm, RollsMonths, Suits};
 
 use crate::{EveryDays, Grid, MonthDay, MonthEnd, ThirdWednesday};
 use irs_base::Day;

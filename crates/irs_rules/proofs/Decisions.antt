@@ -21,12 +21,11 @@ use Rattle.irs_terms.specs.declared.frequency.Unit.{Unit as FrequencyUnit}
 use Rattle.irs_terms.specs.declared.frequency.Unit.TheVariants.{D, W, M, Y, T}
 use Rattle.irs_terms.specs.declared.step_list.Step.{Step}
 use Rattle.irs_terms.specs.declared.stream.Stream.{Stream}
-use Rattle.irs_terms.specs.DayTypes.{IsSaid, IsSaidFixing}
-use Rattle.irs_terms.specs.Lawful.{IsLawfulRoll}
-use Rattle.irs_terms.specs.Legs.{FitsResets, FitsStubs}
-use Rattle.irs_terms.specs.StepDates.{IsStepInside, StepStands, step_before}
-use Rattle.irs_terms.specs.Suiting.{FrequencySuits, RollsMonths, RollsWeeks, SuitsBy}
-use Rattle.irs_rules.specs.Centers.{IsFoundAt}
+use Rattle.irs_terms.specs.Centers.{IsSaid, IsSaidFixing}
+use Rattle.irs_terms.specs.Lawful.{IsLawfulRoll, FitsResets, FitsStubs}
+use Rattle.irs_terms.specs.TermDates.{IsStepInside, StepStands, step_before, FrequencySuits, RollsMonths, RollsWeeks}
+use Rattle.irs_terms.specs.TermDates.{SuitsBy}
+use Rattle.irs_rules.specs.Parameters.{IsFoundAt}
 
 -- what can't fail to hold holds, where it is decided
 pub holds : {A : Type 0} → IsDecided A → ((A → ⊥) → ⊥) → A

@@ -3,12 +3,10 @@ use Rattle.std.proofs.Common.{◌≡◌, ℕ, ◌+◌, ◌<◌, Bool, false, ◌
 use Rattle.std.specs.Prelude.{◌↔◌, IsTrue, nat_lt}
 use Rattle.irs_base.specs.declared.places.Rule.{Rule}
 use Rattle.irs_base.specs.declared.places.Fault.{Fault}
-use Rattle.irs_base.specs.Rules.{rule_number}
-use Rattle.irs_base.specs.Faults.{fault_at}
-use Rattle.irs_base.specs.Order.{earlier, level}
+use Rattle.irs_base.specs.Outcomes.{rule_number, fault_at, earlier, level}
 use Rattle.irs_base.proofs.Firsts.{IsOrder, rank_order, level_order, level_same, lt_false, first_or, first_same}
-use Rattle.irs_rules.specs.Private.Order.{is_before_here, IsFirstHere}
-use Rattle.irs_rules.specs.Breaks.{Breaks, BreaksItem}
+use Rattle.irs_rules.specs.Private.TermsKept.{is_before_here, IsFirstHere}
+use Rattle.irs_rules.specs.TermsRules.{Breaks, BreaksItem}
 
 -- the order of one stream's broken rules is an order
 pub order_here : IsOrder is_before_here

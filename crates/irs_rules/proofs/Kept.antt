@@ -6,35 +6,26 @@ use Rattle.irs_base.specs.declared.places.Rule.{Rule}
 use Rattle.irs_base.specs.declared.places.Rule.TheVariants.{K12, K13, K14, K17, K18, K19, K47}
 use Rattle.irs_base.specs.declared.places.Fault.{Fault}
 use Rattle.irs_base.specs.Elements as elements
-use Rattle.irs_base.specs.Faults.{fault_at, in_stream}
+use Rattle.irs_base.specs.Outcomes.{fault_at, in_stream}
 use Rattle.irs_base.specs.Private.Order.{IsDecided}
 use Rattle.irs_calendar.specs.declared.sections.Section.{Section}
-use Rattle.irs_calendar.specs.Selected.{first_missing}
+use Rattle.irs_calendar.specs.Sections.{first_missing}
 use Rattle.irs_terms.specs.declared.adjustments.AdjustableDate.{AdjustableDate}
 use Rattle.irs_terms.specs.declared.amounts.Leg.{Leg}
 use Rattle.irs_terms.specs.declared.amounts.Leg.TheVariants.{Fixed, Floating}
 use Rattle.irs_terms.specs.declared.step_list.Step.{Step}
 use Rattle.irs_terms.specs.declared.stream.Stream.{Stream}
 use Rattle.irs_terms.specs.declared.stream_list.Swap.{Swap}
-use Rattle.irs_terms.specs.DayTypes.{IsSaid, IsSaidReset}
-use Rattle.irs_terms.specs.FirstDay.{first_day_of}
-use Rattle.irs_terms.specs.Lawful.{IsLawfulSwap, IsLawfulStream}
-use Rattle.irs_terms.specs.Legs.{FitsLeg, FitsResets, FitsStubs}
-use Rattle.irs_terms.specs.Needs.{names_by, names_with, reset_names, fixing_names}
-use Rattle.irs_terms.specs.StepDates.{StepsRise, LegStepsRise, StepStands, IsStepInside}
-use Rattle.irs_terms.specs.Suiting.{FrequencySuits}
+use Rattle.irs_terms.specs.Centers.{IsSaid, IsSaidReset, names_by, names_with, reset_names, fixing_names}
+use Rattle.irs_terms.specs.TermDates.{first_day_of, StepsRise, LegStepsRise, StepStands, IsStepInside, FrequencySuits}
 use Rattle.irs_terms.specs.TermDates.{DatesInOrder, EndsAfterStart, StartsBefore, FirstRegularInside, LastRegularInside}
 use Rattle.irs_terms.specs.TermDates.{given_or, termination_of}
-use Rattle.irs_rules.specs.Breaks.{Breaks, BreaksItem}
-use Rattle.irs_rules.specs.Centers.{AreFound, IsFoundAt, start_names}
-use Rattle.irs_rules.specs.Names.{BreaksK12}
-use Rattle.irs_rules.specs.Dates.{BreaksK13, BreaksK14}
-use Rattle.irs_rules.specs.Amounts.{BreaksK17, BreaksK18, BreaksK18InLeg, BreaksK19, BreaksK47}
-use Rattle.irs_rules.specs.Parameters.{DayCountFits, FinalStubFits, FitsParameters, InitialRateFits, InitialStubFits}
-use Rattle.irs_rules.specs.Parameters.{TenorFits, applicable_names}
-use Rattle.irs_rules.specs.TermsKept.{TermsKept}
+use Rattle.irs_terms.specs.Lawful.{IsLawfulSwap, IsLawfulStream, FitsLeg, FitsResets, FitsStubs}
+use Rattle.irs_rules.specs.TermsRules.{Breaks, BreaksItem, BreaksK12, BreaksK13, BreaksK14, BreaksK17, BreaksK18}
+use Rattle.irs_rules.specs.TermsRules.{BreaksK18InLeg, BreaksK19, BreaksK47, TermsKept, BreaksNone, BreaksStream}
+use Rattle.irs_rules.specs.Parameters.{AreFound, IsFoundAt, start_names, DayCountFits, FinalStubFits, FitsParameters}
+use Rattle.irs_rules.specs.Parameters.{InitialRateFits, InitialStubFits, TenorFits, applicable_names}
 use Rattle.irs_rules.specs.Private.TermsKept.{AllKept}
-use Rattle.irs_rules.specs.TermsRules.{BreaksNone, BreaksStream}
 use Rattle.irs_rules.proofs.Decisions.{holds, decides_both, decides_given, decides_less, decides_upto, decides_said}
 use Rattle.irs_rules.proofs.Decisions.{decides_said_fixing, decides_resets, decides_stubs, decides_found}
 use Rattle.irs_rules.proofs.Decisions.{frequency_holds, stands_holds}

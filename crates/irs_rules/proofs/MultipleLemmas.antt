@@ -2,7 +2,7 @@
 use Rattle.std.proofs.Common.{◌≡◌, ℕ, zero, suc, ◌*◌, ◌/◌, ◌%◌, ◌<◌, arith, ap, ◌∙◌}
 use Rattle.std.proofs.Math.Nat.{mul-mod_left}
 use Rattle.std.proofs.lemmas.Nat.{div-add-mod'}
-use Rattle.irs_terms.specs.Lengths.{IsTimes}
+use Rattle.irs_terms.specs.TermDates.{IsTimes}
 
 -- what leaves no rest is a multiple
 pub times_of : (whole part : ℕ) → whole % part ≡ 0 → (times : ℕ) × IsTimes whole part times

@@ -10,12 +10,12 @@ use Rattle.irs_terms.specs.declared.dates.FixTerms.{FixTerms}
 use Rattle.irs_base.specs.declared.places.Fault.{Fault}
 use Rattle.irs_terms.specs.declared.parameters.CalculationParameters.{CalculationParameters}
 use Rattle.irs_terms.specs.declared.dates.ResetTerms.{ResetTerms}
-use Rattle.irs_terms.specs.Lawful.{IsLawfulCenters, IsLawfulFix, IsLawfulLeg, IsLawfulNames, IsLawfulParameters, IsLawfulReset}
-use Rattle.irs_terms.specs.Needs.{fixing_names, fixing_names_of, names_for}
-use Rattle.irs_rules.specs.Breaks.{BreaksItem}
-use Rattle.irs_rules.specs.Centers.{IsFoundAt}
-use Rattle.irs_rules.specs.Private.Order.{IsFirstHere}
-use Rattle.irs_rules.specs.Parameters.{applicable_names, centers_of}
+use Rattle.irs_terms.specs.Lawful.{IsLawfulCenters, IsLawfulFix, IsLawfulLeg, IsLawfulNames, IsLawfulParameters}
+use Rattle.irs_terms.specs.Lawful.{IsLawfulReset}
+use Rattle.irs_terms.specs.Centers.{fixing_names, fixing_names_of, names_for}
+use Rattle.irs_rules.specs.TermsRules.{BreaksItem}
+use Rattle.irs_rules.specs.Parameters.{IsFoundAt, applicable_names, centers_of}
+use Rattle.irs_rules.specs.Private.TermsKept.{IsFirstHere}
 
 -- the centres that are needed have lawful names
 pub names_lawful : (needed : Bool) (centers : Centers) → IsLawfulCenters centers

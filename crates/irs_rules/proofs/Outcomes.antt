@@ -1,15 +1,13 @@
 -- The call of this crate has one outcome: a right one is given, and there is one at most.
 use Rattle.std.proofs.Common.{◌⊎◌, inl, inr, List, Option, Some, None}
-use Rattle.irs_base.specs.Order.{is_before}
-use Rattle.irs_base.specs.Outcomes.{Checks, Determined}
+use Rattle.irs_base.specs.Outcomes.{is_before, Checks, Determined}
 use Rattle.irs_base.specs.declared.places.Broken.{Broken}
 use Rattle.irs_base.proofs.FaultOrder.{broken_ties}
 use Rattle.irs_base.proofs.Firsts.{one_first}
 use Rattle.irs_base.proofs.Outcomes.{unbroken_determined}
 use Rattle.irs_calendar.specs.declared.sections.Section.{Section}
 use Rattle.irs_terms.specs.declared.stream_list.Swap.{Swap}
-use Rattle.irs_rules.specs.Outcomes.{terms_of}
-use Rattle.irs_rules.specs.TermsRules.{BreaksNone, BreaksTerms, IsFirstBrokenRule}
+use Rattle.irs_rules.specs.TermsRules.{terms_of, BreaksNone, BreaksTerms, IsFirstBrokenRule}
 
 decided_by : (swap : Swap) (cal : List Section) (outcome : Option Broken) → Checks (terms_of swap cal) outcome
     → ((f : Broken) × IsFirstBrokenRule swap cal f) ⊎ BreaksNone swap cal

@@ -14,8 +14,8 @@ use Rattle.irs_terms.specs.declared.frequency.Unit.TheVariants.{D, W, M, Y, T}
 use Rattle.irs_terms.specs.declared.parameters.CalculationMethod.{CalculationMethod}
 use Rattle.irs_terms.specs.declared.parameters.CalculationMethod.TheVariants.{Compounding, Averaging}
 use Rattle.irs_terms.specs.declared.stream.Stream.{Stream}
-use Rattle.irs_rules.specs.Parameters.{DayCountFits, FinalStubFits, FitsMethod, InitialRateFits}
-use Rattle.irs_rules.specs.Parameters.{InitialStubFits, IsStubNumber, IsOneDay, TenorFits, parameters_of}
+use Rattle.irs_rules.specs.Parameters.{DayCountFits, FinalStubFits, FitsMethod, InitialRateFits, InitialStubFits}
+use Rattle.irs_rules.specs.Parameters.{IsStubNumber, IsOneDay, TenorFits, parameters_of}
 use Rattle.irs_rules.proofs.Decisions.{decides_absent, decides_both, decides_given, decides_once}
 
 -- a condition that applies only where there is a value is decided, if the condition is

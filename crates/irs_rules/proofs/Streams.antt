@@ -6,13 +6,12 @@ use Rattle.std.proofs.lemmas.Bool.{cases_order, cases_lt}
 use Rattle.std.proofs.lemmas.Option.{slice_get_within, same_Some}
 use Rattle.irs_base.specs.declared.places.Broken.{Broken}
 use Rattle.irs_base.specs.declared.places.Fault.{Fault}
-use Rattle.irs_base.specs.Faults.{in_stream}
-use Rattle.irs_base.specs.Order.{First, IsFirst, is_before}
+use Rattle.irs_base.specs.Outcomes.{in_stream, First, IsFirst, is_before}
 use Rattle.irs_base.proofs.Firsts.{level_same, level_later}
 use Rattle.irs_calendar.specs.declared.sections.Section.{Section}
 use Rattle.irs_terms.specs.declared.stream.Stream.{Stream}
 use Rattle.irs_terms.specs.declared.stream_list.Swap.{Swap}
-use Rattle.irs_rules.specs.Private.Order.{is_before_here, IsFirstHere}
+use Rattle.irs_rules.specs.Private.TermsKept.{is_before_here, IsFirstHere}
 use Rattle.irs_rules.specs.TermsRules.{BreaksStream, BreaksTerms}
 
 -- none of the first n streams breaks a rule

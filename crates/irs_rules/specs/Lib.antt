@@ -1,10 +1,3 @@
-pub mod Breaks
-pub mod Centers
-pub mod Parameters
-pub mod Names
-pub mod Dates
-pub mod Amounts
 pub mod TermsRules
-pub mod TermsKept
-pub mod Outcomes
+pub mod Parameters
 pub mod Private

@@ -1,5 +1,7 @@
--- What goes with calculationParameters, by which daily rates become the rate of a calculation period.
-use Rattle.std.specs.Prelude.{◌≡◌, ◌⊎◌, ℕ, List, Option, Some, None, IfSome, IsSome}
+-- What goes with calculationParameters, and which centres the calendar files have.
+use Rattle.std.specs.Prelude.{◌≡◌, ℕ, List, Option, Some, None, IfSome, IsTrue, slice_get, ◌⊎◌, IsSome}
+use Rattle.irs_terms.specs.declared.adjustments.AdjustableDate.{AdjustableDate}
+use Rattle.irs_terms.specs.Centers.{names_by}
 use Rattle.irs_terms.specs.declared.amounts.Leg.{Leg}
 use Rattle.irs_terms.specs.declared.amounts.Leg.TheVariants.{Fixed, Floating}
 use Rattle.irs_terms.specs.declared.amounts.StubRate.{StubRate}
@@ -12,7 +14,28 @@ use Rattle.irs_terms.specs.declared.parameters.CalculationMethod.{CalculationMet
 use Rattle.irs_terms.specs.declared.parameters.CalculationMethod.TheVariants.{Compounding, Averaging}
 use Rattle.irs_terms.specs.declared.parameters.CalculationParameters.{CalculationParameters}
 use Rattle.irs_terms.specs.declared.stream.Stream.{Stream}
-use Rattle.irs_terms.specs.Frequencies.{ResetSuits}
+use Rattle.irs_terms.specs.TermDates.{ResetSuits}
+use Rattle.irs_calendar.specs.declared.sections.Section.{Section}
+use Rattle.irs_calendar.specs.Sections.{is_named, first_missing}
+
+-- ---- which centres the calendar files have
+
+-- the i-th of the names, counted from 0, is that of a section; where no days are needed there are no names
+abbrev pub IsFoundAt : List Section → Option (List (List ℕ)) → ℕ → Type 0
+IsFoundAt cal None i = Unit {0}
+IsFoundAt cal (Some names) i = IfSome (slice_get names i) (λ name. IsTrue (is_named name cal))
+
+-- each of the names is that of a section
+abbrev pub AreFound : List Section → Option (List (List ℕ)) → Type 0
+AreFound cal None = Unit {0}
+AreFound cal (Some names) = first_missing cal 1 names ≡ None
+
+-- the centres of a given firstPeriodStartDate, where its adjustments need business days
+abbrev pub start_names : Option AdjustableDate → Option (List (List ℕ))
+start_names None = None
+start_names (Some date) = names_by date.adj
+
+-- ---- what goes with calculationParameters, by which daily rates become the rate of a calculation period
 
 -- 1D: the tenor of a daily rate, and the frequency at which it is reset
 abbrev pub IsOneDay : Frequency → Type 0

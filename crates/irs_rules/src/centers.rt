@@ -5,9 +5,8 @@ ghost use Rattle.irs_base.specs.Elements.{first_period_start_adjustments, fixing
 ghost use Rattle.irs_base.specs.declared.places.Rule.TheVariants.{K11};
 ghost use Rattle.irs_terms.specs.Centers.{FixingHasCenters, HasCenters, HasCentersBy, HasCentersFor, HasCentersWith};
 ghost use Rattle.irs_terms.specs.Centers.{StartHasCenters};
-ghost use Rattle.irs_rules.specs.Private.Order.{IsFirstHere};
-ghost use Rattle.irs_rules.specs.Breaks.{Breaks};
-ghost use Rattle.irs_rules.specs.Names.{BreaksK11, BreaksK11InResets};
+ghost use Rattle.irs_rules.specs.Private.TermsKept.{IsFirstHere};
+ghost use Rattle.irs_rules.specs.TermsRules.{Breaks, BreaksK11, BreaksK11InResets};
 
 use crate::faults::{earlier, fault_unless};
 use irs_base::{Elem, Fault, Rule};

@@ -4,8 +4,8 @@
 ghost use Rattle.std.specs.Prelude.{◌≡◌, ◌↔◌, ◌≤ℤ◌, IsTrue, IfSome};
 ghost use Rattle.irs_terms.specs.TermDates.{EndsAfterStart, FirstRegularInside, LastRegularInside, StartsBefore};
 ghost use Rattle.irs_terms.specs.TermDates.{given_or};
-ghost use Rattle.irs_rules.specs.Private.Order.{IsFirstHere};
-ghost use Rattle.irs_rules.specs.Dates.{BreaksK13};
+ghost use Rattle.irs_rules.specs.Private.TermsKept.{IsFirstHere};
+ghost use Rattle.irs_rules.specs.TermsRules.{BreaksK13};
 
 use crate::faults::{earlier, fault_unless};
 use irs_base::{Day, Elem, Fault, Rule};

@@ -1,9 +1,9 @@
 //! K17: an offset other than 0 says by `dayType` which days it counts.
 ghost use Rattle.std.specs.Prelude.{◌↔◌, IsTrue};
-ghost use Rattle.irs_terms.specs.DayTypes.{IsSaid, IsSaidFixing, IsSaidReset};
+ghost use Rattle.irs_terms.specs.Centers.{IsSaid, IsSaidFixing, IsSaidReset};
 ghost use Rattle.irs_terms.specs.declared.codes.DayKind.TheVariants.{Unsaid};
-ghost use Rattle.irs_rules.specs.Private.Order.{IsFirstHere};
-ghost use Rattle.irs_rules.specs.Amounts.{BreaksK17};
+ghost use Rattle.irs_rules.specs.Private.TermsKept.{IsFirstHere};
+ghost use Rattle.irs_rules.specs.TermsRules.{BreaksK17};
 
 use crate::faults::{earlier, fault_unless};
 use irs_base::{Elem, Fault, Rule};

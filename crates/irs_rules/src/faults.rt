@@ -1,10 +1,9 @@
 //! Rules that a stream breaks, and the first of several. They are ordered by rule, then by element in
 //! the order of the table of elements, then by index. The order is our rule.
 ghost use Rattle.std.specs.Prelude.{◌≡◌, ◌+◌, ◌<◌, ◌^◌, ◌||◌, ◌&&◌, ◌==◌, nat_lt, IsTrue};
-ghost use Rattle.irs_base.specs.Faults.{fault_at};
-ghost use Rattle.irs_base.specs.Order.{earlier};
-ghost use Rattle.irs_rules.specs.Private.Order.{is_before_here, IsFirstHere};
-ghost use Rattle.irs_rules.specs.Breaks.{Breaks};
+ghost use Rattle.irs_base.specs.Outcomes.{fault_at, earlier};
+ghost use Rattle.irs_rules.specs.Private.TermsKept.{is_before_here, IsFirstHere};
+ghost use Rattle.irs_rules.specs.TermsRules.{Breaks};
 
 use irs_base::{Elem, Fault, Rule};
 

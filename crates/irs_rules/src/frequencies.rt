@@ -2,14 +2,11 @@
 //! periods. The reset frequency is as long as the calculation frequency, or 1D for a rate by daily
 //! rates.
 ghost use Rattle.std.specs.Prelude.{◌↔◌, IsTrue, IfSome};
-ghost use Rattle.irs_terms.specs.Frequencies.{HasWholePeriods, PaymentSuits, ResetSuits};
+ghost use Rattle.irs_terms.specs.TermDates.{HasWholePeriods, PaymentSuits, ResetSuits, FrequencySuits, IsWholeTerm};
 ghost use Rattle.irs_terms.specs.Lawful.{IsLawfulStream};
-ghost use Rattle.irs_terms.specs.Private.Lengths.{IsPositive};
-ghost use Rattle.irs_terms.specs.Suiting.{FrequencySuits, IsWholeTerm};
-ghost use Rattle.irs_rules.specs.Private.Order.{IsFirstHere};
-ghost use Rattle.irs_rules.specs.Dates.{BreaksK14, BreaksK15};
-ghost use Rattle.irs_rules.specs.Private.Dates.{IsTermAlone};
-ghost use Rattle.irs_rules.specs.Amounts.{BreaksK20};
+ghost use Rattle.irs_terms.specs.Private.TermDates.{IsPositive};
+ghost use Rattle.irs_rules.specs.Private.TermsKept.{IsFirstHere, IsTermAlone};
+ghost use Rattle.irs_rules.specs.TermsRules.{BreaksK14, BreaksK15, BreaksK20};
 ghost use Rattle.irs_rules.specs.Parameters.{IsOneDay, ResetFits};
 
 use crate::faults::fault_unless;

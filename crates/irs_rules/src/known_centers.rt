@@ -4,10 +4,9 @@ ghost use Rattle.std.specs.Prelude.{◌≡◌, ◌≤◌, IfSome, Some, length, 
 ghost use Rattle.irs_base.specs.Limits.{most_centers};
 ghost use Rattle.irs_base.specs.declared.places.Rule.TheVariants.{K12};
 ghost use Rattle.irs_terms.specs.Lawful.{IsLawfulStream, IsLawfulNames};
-ghost use Rattle.irs_rules.specs.Private.Order.{IsFirstHere};
-ghost use Rattle.irs_rules.specs.Breaks.{BreaksItem};
-ghost use Rattle.irs_rules.specs.Centers.{IsFoundAt, start_names};
-ghost use Rattle.irs_rules.specs.Names.{BreaksK12};
+ghost use Rattle.irs_rules.specs.Private.TermsKept.{IsFirstHere};
+ghost use Rattle.irs_rules.specs.TermsRules.{BreaksItem, BreaksK12};
+ghost use Rattle.irs_rules.specs.Parameters.{IsFoundAt, start_names};
 
 use crate::faults::{earlier, fault_of_item};
 use crate::parameters::applicable_names;

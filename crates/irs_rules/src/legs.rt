@@ -1,9 +1,9 @@
 //! K19 and K21. Only a floating rate has reset dates and stub rates, and it needs reset dates.
 //! Compounding doesn't go with a fixed rate, nor with ZeroInterestRateMethod.
 ghost use Rattle.std.specs.Prelude.{◌↔◌, IsTrue};
-ghost use Rattle.irs_terms.specs.Legs.{FitsCompounding, FitsResets, FitsStubs, MayCompound};
-ghost use Rattle.irs_rules.specs.Private.Order.{IsFirstHere};
-ghost use Rattle.irs_rules.specs.Amounts.{BreaksK19, BreaksK21};
+ghost use Rattle.irs_terms.specs.Lawful.{FitsCompounding, FitsResets, FitsStubs, MayCompound};
+ghost use Rattle.irs_rules.specs.Private.TermsKept.{IsFirstHere};
+ghost use Rattle.irs_rules.specs.TermsRules.{BreaksK19, BreaksK21};
 
 use crate::faults::{earlier, fault_unless};
 use irs_base::{Elem, Fault, Rule};

@@ -1,6 +1,6 @@
 //! Whole multiples of a number of days or of months.
 ghost use Rattle.std.specs.Prelude.{◌<◌, ◌↔◌, IsTrue};
-ghost use Rattle.irs_terms.specs.Frequencies.{IsWholeMultiple, IsLargerMultiple};
+ghost use Rattle.irs_terms.specs.TermDates.{IsWholeMultiple, IsLargerMultiple};
 
 /// Whether the first is a whole multiple of the second.
 pub(crate) fn is_multiple(whole: u32, part: u32) -> bool

@@ -2,8 +2,8 @@
 //! index has the tenor 1D, no rate is given for the first period, and no stub has an index of its
 //! own. Compounding counts by years of 360 or of 365 days.
 ghost use Rattle.std.specs.Prelude.{◌≡◌, ◌↔◌, IsTrue, IfSome, option_copied};
-ghost use Rattle.irs_rules.specs.Amounts.{BreaksK47};
-ghost use Rattle.irs_rules.specs.Private.Order.{IsFirstHere};
+ghost use Rattle.irs_rules.specs.TermsRules.{BreaksK47};
+ghost use Rattle.irs_rules.specs.Private.TermsKept.{IsFirstHere};
 ghost use Rattle.irs_rules.specs.Parameters.{DayCountFits, FinalStubFits, FitsMethod, HasParameters, InitialRateFits};
 ghost use Rattle.irs_rules.specs.Parameters.{InitialStubFits, IsStubNumber, IsOneDay, TenorFits, applicable_names};
 ghost use Rattle.irs_rules.specs.Parameters.{centers_of};

@@ -1,13 +1,12 @@
 //! K16: where the first and the last regular payment date may be, and when a first one is needed.
 ghost use Rattle.std.specs.Prelude.{◌≤ℤ◌, ◌↔◌, IsTrue, IsSome, IfSome};
-ghost use Rattle.irs_terms.specs.Frequencies.{GroupsPeriods};
+ghost use Rattle.irs_terms.specs.TermDates.{GroupsPeriods, AsksInitialStub, FirstPaymentStands, HasInitialKind};
+ghost use Rattle.irs_terms.specs.TermDates.{HasRegularPayments, IsFirstPayment, IsInitialKind, IsLastPayment};
+ghost use Rattle.irs_terms.specs.TermDates.{IsPaymentInside, LastPaymentStands, NeedsFirstPayment, StartsLater};
 ghost use Rattle.irs_terms.specs.Lawful.{IsLawfulStream};
-ghost use Rattle.irs_terms.specs.Private.Lengths.{IsPositive};
-ghost use Rattle.irs_terms.specs.PaymentDates.{AsksInitialStub, FirstPaymentStands, HasInitialKind, HasRegularPayments};
-ghost use Rattle.irs_terms.specs.PaymentDates.{IsFirstPayment, IsInitialKind, IsLastPayment, IsPaymentInside};
-ghost use Rattle.irs_terms.specs.PaymentDates.{LastPaymentStands, NeedsFirstPayment, StartsLater};
-ghost use Rattle.irs_rules.specs.Private.Order.{IsFirstHere};
-ghost use Rattle.irs_rules.specs.Dates.{BreaksK16};
+ghost use Rattle.irs_terms.specs.Private.TermDates.{IsPositive};
+ghost use Rattle.irs_rules.specs.Private.TermsKept.{IsFirstHere};
+ghost use Rattle.irs_rules.specs.TermsRules.{BreaksK16};
 
 use crate::faults::{earlier, fault_unless};
 use crate::multiples::is_larger_multiple;

@@ -4,10 +4,10 @@ ghost use Rattle.std.specs.Prelude.{◌↔◌, IsTrue, IfSome, IsSomeAnd};
 ghost use Rattle.irs_base.specs.Elements.{first_period_start_centers_reference, fixing_dates_centers_reference};
 ghost use Rattle.irs_base.specs.Elements.{stub_amount_reference};
 ghost use Rattle.irs_base.specs.declared.places.Rule.TheVariants.{K10};
-ghost use Rattle.irs_terms.specs.References.{FixingNamesOneList, NamesOneList, NamesTarget, StartNamesOneList};
-ghost use Rattle.irs_rules.specs.Private.Order.{IsFirstHere};
-ghost use Rattle.irs_rules.specs.Breaks.{Breaks};
-ghost use Rattle.irs_rules.specs.Names.{BreaksK10, BreaksK10InPeriods, BreaksK10InPayments, BreaksK10InResets};
+ghost use Rattle.irs_terms.specs.Centers.{FixingNamesOneList, NamesOneList, NamesTarget, StartNamesOneList};
+ghost use Rattle.irs_rules.specs.Private.TermsKept.{IsFirstHere};
+ghost use Rattle.irs_rules.specs.TermsRules.{Breaks, BreaksK10, BreaksK10InPeriods, BreaksK10InPayments};
+ghost use Rattle.irs_rules.specs.TermsRules.{BreaksK10InResets};
 
 use crate::faults::{earlier, fault_unless};
 use irs_base::{Elem, Fault, Rule};

@@ -4,10 +4,9 @@ ghost use Rattle.std.specs.Prelude.{◌<◌, ◌≤◌, ◌<ℤ◌, ◌↔◌, I
 ghost use Rattle.irs_base.specs.Limits.{most_steps};
 ghost use Rattle.irs_base.specs.declared.places.Rule.TheVariants.{K18};
 ghost use Rattle.irs_terms.specs.Lawful.{IsLawfulStream, IsLawfulLeg};
-ghost use Rattle.irs_terms.specs.StepDates.{IsStepInside, StepStands, step_before};
-ghost use Rattle.irs_rules.specs.Private.Order.{IsFirstHere};
-ghost use Rattle.irs_rules.specs.Breaks.{BreaksItem};
-ghost use Rattle.irs_rules.specs.Amounts.{BreaksK18, BreaksK18InLeg};
+ghost use Rattle.irs_terms.specs.TermDates.{IsStepInside, StepStands, step_before};
+ghost use Rattle.irs_rules.specs.Private.TermsKept.{IsFirstHere};
+ghost use Rattle.irs_rules.specs.TermsRules.{BreaksItem, BreaksK18, BreaksK18InLeg};
 
 use crate::faults::{earlier, fault_of_item};
 use irs_base::{Day, Elem, Fault, Rule};

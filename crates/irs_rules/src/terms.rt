@@ -2,9 +2,8 @@
 //! then by rule, then by element in the order of the table of elements, then by index.
 ghost use Rattle.irs_base.specs.Outcomes.{Checks, Determined};
 ghost use Rattle.irs_terms.specs.Lawful.{IsLawfulSwap, IsLawfulStream};
-ghost use Rattle.irs_rules.specs.Private.Order.{IsFirstHere};
-ghost use Rattle.irs_rules.specs.Outcomes.{terms_of};
-ghost use Rattle.irs_rules.specs.TermsRules.{BreaksAmounts, BreaksDates, BreaksNames, BreaksStream};
+ghost use Rattle.irs_rules.specs.Private.TermsKept.{IsFirstHere};
+ghost use Rattle.irs_rules.specs.TermsRules.{terms_of, BreaksAmounts, BreaksDates, BreaksNames, BreaksStream};
 
 use crate::centers::element_without_centers;
 use crate::date_order::date_out_of_order;

@@ -2,22 +2,21 @@
 use Rattle.std.proofs.Common.{◌≡◌, ℕ, ◌-◌, ◌<◌, ◌≤◌, ◌==◌, List, length, Option, Some, None, option_map, IfSome}
 use Rattle.std.proofs.Common.{arith, ℤ}
 use Rattle.std.specs.Prelude.{unsigned_abs}
-use Rattle.irs_terms.specs.Currencies.{decimals_of}
-use Rattle.irs_terms.specs.Lawful.{IsLawfulStream, IsNotional}
+use Rattle.irs_terms.specs.Lawful.{decimals_of, IsLawfulStream, IsNotional}
 use Rattle.irs_terms.specs.declared.currency.Currency.{Currency}
 use Rattle.irs_terms.specs.declared.results.Payment.{Payment}
 use Rattle.irs_daycount.specs.Fractions.{denominator_of}
 use Rattle.irs_daycount.specs.Private.FractionLaws.{one_denominator}
 use Rattle.irs_compound.specs.Amounts.{IsTermOver, IsPaymentOfTerms, most_units}
-use Rattle.irs_compound.specs.Private.InForceLaws.{in_force_within}
+use Rattle.irs_compound.specs.Private.RateLaws.{in_force_within}
 use Rattle.irs_compound.specs.declared.periods.PeriodTerm.{PeriodTerm}
 use Rattle.irs_schedule.specs.Parts.{IsAmount}
 use Rattle.irs_schedule.specs.Schedules.{IsPeriodTerm, AreTerms, dec_of, StreamDates}
-use Rattle.irs_schedule.specs.Private.PeriodTerms.{IsTable}
+use Rattle.irs_schedule.specs.Private.Layouts.{IsTable}
 use Rattle.irs_schedule.proofs.TermsThere.{term_fits}
 use Rattle.irs_base.proofs.EveryLemmas.{all_numbered}
 use Rattle.irs_compound.proofs.PeriodSizes.{one_denominator_of}
-use Rattle.irs_base.specs.Members.{day_at}
+use Rattle.irs_base.specs.Lists.{day_at}
 
 -- an amount within its bound is one of the currency
 pub amount_fits : (currency : Currency) (places : ℕ) (units : Option ℤ) → places ≡ decimals_of currency.letters

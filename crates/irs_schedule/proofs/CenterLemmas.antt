@@ -9,15 +9,14 @@ use Rattle.irs_terms.specs.Lawful.{IsLawfulNames, IsLawfulStream}
 use Rattle.irs_terms.specs.declared.stream.Stream.{Stream}
 use Rattle.irs_calendar.specs.declared.sections.Section.{Section}
 use Rattle.irs_calendar.specs.GoodDays.{InCover}
-use Rattle.irs_calendar.specs.Selected.{sections_named, set_of_sections}
-use Rattle.irs_schedule.specs.DaySets.{days_of_names}
-use Rattle.irs_schedule.specs.CenterDays.{NamedCenters, FoundCenters}
-use Rattle.irs_schedule.specs.Private.CenterDays.{centers_named, CanFind, HasStream, Grows, HasMore, HasMoreOf}
+use Rattle.irs_calendar.specs.Sections.{sections_named, set_of_sections}
+use Rattle.irs_schedule.specs.DaySets.{days_of_names, NamedCenters, FoundCenters}
+use Rattle.irs_schedule.specs.Private.Layouts.{centers_named, CanFind, HasStream, Grows, HasMore, HasMoreOf}
 use Rattle.irs_rules.specs.Parameters.{applicable_names}
-use Rattle.irs_rules.specs.TermsKept.{TermsKept}
+use Rattle.irs_rules.specs.TermsRules.{TermsKept}
 use Rattle.irs_rules.proofs.Names.{applicable_lawful}
-use Rattle.irs_terms.specs.FirstDay.{first_date_of}
-use Rattle.irs_terms.specs.Needs.{fixing_names, names_by, names_with, reset_names}
+use Rattle.irs_terms.specs.TermDates.{first_date_of}
+use Rattle.irs_terms.specs.Centers.{fixing_names, names_by, names_with, reset_names}
 use Rattle.irs_base.proofs.EveryLemmas.{below_more}
 use Rattle.irs_terms.proofs.NeedLemmas.{AreFew, few_for_fixing, few_for_reset}
 use Rattle.irs_calendar.proofs.CoverLemmas.{covers_common}

@@ -5,8 +5,8 @@ use Rattle.std.proofs.Common.{option_and_then, option_map, slice_get, int_lt, re
 use Rattle.std.proofs.Math.Nat.{mul-le-mul}
 use Rattle.std.proofs.lemmas.Int.{ints, unsigned_abs-mul}
 use Rattle.std.proofs.lemmas.Option.{slice_get-get_or}
-use Rattle.irs_base.specs.Members.{Every}
-use Rattle.irs_base.specs.Rounding.{rounded}
+use Rattle.irs_base.specs.Lists.{Every}
+use Rattle.irs_base.specs.Limits.{rounded}
 use Rattle.irs_base.proofs.RoundingLaws.{rounded_is}
 use Rattle.irs_terms.specs.Lawful.{IsLawfulFloat, IsLawfulLeg, IsRate}
 use Rattle.irs_terms.specs.declared.amounts.FloatTerms.{FloatTerms}
@@ -22,16 +22,13 @@ use Rattle.irs_observed.specs.OvernightRates.{HasBounds}
 use Rattle.irs_observed.specs.declared.overnight_rate.OvernightRate.{OvernightRate}
 use Rattle.irs_observed.specs.declared.overnight_rate.OvernightRate.TheVariants.{Stated, Known, Absent, OutOfRange}
 use Rattle.irs_observed.proofs.SizeLemmas.{rounded_within, scaled_size, units_above, whole_size}
-use Rattle.irs_compound.specs.InForce.{value_in_force}
-use Rattle.irs_compound.specs.OvernightRates.{floating_rates_by, overnight_rates_by, rates_in, rates_over}
+use Rattle.irs_compound.specs.PeriodRates.{value_in_force, floating_rates_by, overnight_rates_by, rates_in, rates_over}
 use Rattle.irs_compound.specs.PeriodRates.{fixed_rates_of, leg_rates, rates_of, treated}
 use Rattle.irs_compound.specs.declared.periods.Rates.{Rates}
 use Rattle.irs_compound.proofs.OvernightSizes.{fixed_small, small_rates, stated_small}
 use Rattle.irs_compound.proofs.PeriodSizes.{all_in_small}
 use Rattle.irs_compound.proofs.RateSizes.{rate_size, value_within}
-use Rattle.irs_schedule.specs.KeptTerms.{is_daily}
-use Rattle.irs_schedule.specs.Parts.{most_entry_rate}
-use Rattle.irs_schedule.specs.StreamResets.{HasObserved, HasRates}
+use Rattle.irs_schedule.specs.Parts.{is_daily, most_entry_rate, HasObserved, HasRates}
 
 -- ---- the size of a rate
 

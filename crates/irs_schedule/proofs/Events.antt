@@ -7,17 +7,15 @@ use Rattle.irs_terms.specs.Lawful.{IsLawfulStream}
 use Rattle.irs_terms.specs.declared.stream.Stream.{Stream}
 use Rattle.irs_calendar.specs.declared.sections.Section.{Section}
 use Rattle.irs_payments.specs.Exchanges.{AreExchanges}
-use Rattle.irs_payments.specs.Outcomes.{payments_of, principals_of, steps_of}
-use Rattle.irs_payments.specs.Payments.{ArePayments, Covers}
+use Rattle.irs_payments.specs.Payments.{payments_of, principals_of, steps_of, ArePayments, Covers}
 use Rattle.irs_payments.proofs.Outcomes.{payments_determined, principals_determined, steps_determined}
 use Rattle.irs_resets.specs.Rates.{RateTable}
 use Rattle.irs_observed.specs.declared.daily_resets.OvernightResets.{OvernightResets}
-use Rattle.irs_rules.specs.TermsKept.{TermsKept}
+use Rattle.irs_rules.specs.TermsRules.{TermsKept}
 use Rattle.irs_schedule.specs.DaySets.{StreamSets}
 use Rattle.irs_schedule.specs.Private.Layouts.{IsKeptLayout}
-use Rattle.irs_schedule.specs.Outcomes.{events_of, payment_dates_of, resets_over}
-use Rattle.irs_schedule.specs.Schedules.{AreResetsIn}
-use Rattle.irs_schedule.specs.StreamResets.{resets_in}
+use Rattle.irs_schedule.specs.Schedules.{events_of, payment_dates_of, resets_over, AreResetsIn}
+use Rattle.irs_schedule.specs.Parts.{resets_in}
 use Rattle.irs_schedule.specs.declared.layouts.Layout.{Layout}
 use Rattle.irs_schedule.specs.declared.stream.StreamEvents.{StreamEvents}
 use Rattle.irs_schedule.proofs.RateLemmas.{resets_are, resets_in_determined, with_rates}

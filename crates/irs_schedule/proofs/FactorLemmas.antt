@@ -3,9 +3,8 @@ use Rattle.std.proofs.Common.{◌≡◌, ◌⊎◌, inl, inr, ℕ, zero, suc, �
 use Rattle.std.proofs.Common.{refl, sym, subst, ap, arith}
 use Rattle.std.specs.Prelude.{Result, Ok, Err, if◌then◌else◌}
 use Rattle.irs_base.specs.Elements.{calculation_period_amount}
-use Rattle.irs_base.specs.Faults.{IfStopped}
-use Rattle.irs_base.specs.Order.{First, IsFirst, Only, comes_before}
-use Rattle.irs_base.specs.Outcomes.{Determined, Meets, Spec, answered, refused}
+use Rattle.irs_base.specs.Outcomes.{IfStopped, First, IsFirst, Only, comes_before, Determined, Meets, Spec, answered}
+use Rattle.irs_base.specs.Outcomes.{refused}
 use Rattle.irs_base.specs.declared.places.Fault.{Fault}
 use Rattle.irs_base.specs.declared.stopped.Stopped.{Stopped}
 use Rattle.irs_base.specs.declared.stopped.Stopped.TheVariants.{Broken, Memory}
@@ -14,9 +13,9 @@ use Rattle.irs_base.proofs.Firsts.{first_one, first_or, level_same, lt_false}
 use Rattle.irs_base.proofs.Outcomes.{answered_free, one_refusal}
 use Rattle.irs_observed.specs.declared.overnight_rate.OvernightRate.{OvernightRate}
 use Rattle.irs_observed.specs.declared.overnight_rate.OvernightRate.TheVariants.{Stated, Known, Absent, OutOfRange}
-use Rattle.irs_schedule.specs.Outcomes.{passed_at}
-use Rattle.irs_schedule.specs.StreamResets.{FactorPassesAt, RefusesAmounts, with_factors}
-use Rattle.irs_schedule.specs.Private.StreamResets.{IsFirstPassing, first_refusal}
+use Rattle.irs_schedule.specs.Schedules.{passed_at}
+use Rattle.irs_schedule.specs.Parts.{FactorPassesAt, RefusesAmounts, with_factors}
+use Rattle.irs_schedule.specs.Private.Layouts.{IsFirstPassing, first_refusal}
 
 -- no factor passes its limit
 abbrev NonePasses : List OvernightRate → Type 0

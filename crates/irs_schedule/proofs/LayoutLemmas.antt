@@ -1,12 +1,10 @@
 -- The boundaries of a lawful stream that keeps its terms: they run over the term, they are days, and
 -- payments over them cover its periods. The good business days of each kind of date lie in the range of days.
 use Rattle.std.specs.Prelude.{◌-◌, ◌≤◌, List, length}
-use Rattle.irs_base.specs.DayLists.{AreDays}
-use Rattle.irs_base.specs.Listed.{RunsFromTo}
-use Rattle.irs_terms.specs.FirstDay.{first_date_of, first_day_of}
+use Rattle.irs_base.specs.Lists.{AreDays, RunsFromTo}
+use Rattle.irs_terms.specs.TermDates.{first_date_of, first_day_of, DatesInOrder}
 use Rattle.irs_terms.specs.Lawful.{IsLawfulStream}
-use Rattle.irs_terms.specs.Needs.{fixing_names, names_by, names_with, reset_names}
-use Rattle.irs_terms.specs.TermDates.{DatesInOrder}
+use Rattle.irs_terms.specs.Centers.{fixing_names, names_by, names_with, reset_names}
 use Rattle.irs_terms.specs.declared.results.Payment.{Payment}
 use Rattle.irs_terms.specs.declared.stream.Stream.{Stream}
 use Rattle.irs_calendar.specs.declared.sections.Section.{Section}

@@ -6,9 +6,7 @@ use Rattle.irs_terms.specs.Lawful.{IsLawfulStream}
 use Rattle.irs_terms.specs.TermDates.{DatesInOrder}
 use Rattle.irs_terms.specs.declared.results.Span.{Span}
 use Rattle.irs_terms.specs.declared.stream.Stream.{Stream}
-use Rattle.irs_periods.specs.Adjusting.{AdjustedList}
-use Rattle.irs_periods.specs.Boundaries.{Boundaries}
-use Rattle.irs_periods.specs.Outcomes.{adjusted_of, boundaries_of, regular_span_of}
+use Rattle.irs_periods.specs.Boundaries.{AdjustedList, Boundaries, adjusted_of, boundaries_of, regular_span_of}
 use Rattle.irs_periods.proofs.AdjustedLemmas.{one_adjusted}
 use Rattle.irs_periods.proofs.BoundariesThere.{boundaries_days}
 use Rattle.irs_periods.proofs.OneSpan.{one_span}
@@ -16,8 +14,7 @@ use Rattle.irs_periods.proofs.Outcomes.{adjusted_determined, boundaries_determin
 use Rattle.irs_periods.proofs.PeriodsDecided.{few_boundaries, one_boundaries}
 use Rattle.irs_schedule.specs.DaySets.{StreamSets}
 use Rattle.irs_schedule.specs.Private.Layouts.{IsKeptLayout}
-use Rattle.irs_schedule.specs.Schedules.{IsLayout}
-use Rattle.irs_schedule.specs.Outcomes.{layout_of}
+use Rattle.irs_schedule.specs.Schedules.{IsLayout, layout_of}
 use Rattle.irs_schedule.specs.declared.layouts.Layout.{Layout}
 use Rattle.irs_schedule.proofs.LayoutLemmas.{AreInRange}
 

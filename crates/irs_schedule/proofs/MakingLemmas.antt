@@ -2,9 +2,8 @@
 use Rattle.std.proofs.Common.{◌≡◌, ℕ, ◌+◌, ◌≤◌, List, [], ◌∷◌, ◌++◌, length, length-append, take, Some, refl, ap, ◌∙◌, arith, subst}
 use Rattle.std.specs.Prelude.{slice_get}
 use Rattle.std.proofs.lemmas.List.{take_all}
-use Rattle.irs_base.specs.Faults.{in_stream}
-use Rattle.irs_base.specs.Members.{Every}
-use Rattle.irs_base.specs.Outcomes.{Spec, each_in_turn, refused_as}
+use Rattle.irs_base.specs.Outcomes.{in_stream, Spec, each_in_turn, refused_as}
+use Rattle.irs_base.specs.Lists.{Every}
 use Rattle.irs_base.specs.declared.places.Broken.{Broken}
 use Rattle.irs_base.proofs.EveryLemmas.{every_both}
 use Rattle.irs_base.proofs.Outcomes.{each_begins, each_ends, each_goes_on}
@@ -13,7 +12,7 @@ use Rattle.irs_terms.specs.declared.stream_list.Swap.{Swap}
 use Rattle.irs_calendar.specs.declared.sections.Section.{Section}
 use Rattle.irs_resets.specs.Rates.{RateTable}
 use Rattle.irs_schedule.specs.DaySets.{StreamSets, stream_sets}
-use Rattle.irs_schedule.specs.Outcomes.{schedule_of, stream_of}
+use Rattle.irs_schedule.specs.Schedules.{schedule_of, stream_of}
 use Rattle.irs_schedule.specs.Parts.{Part, KeepsBounds}
 
 -- a stream with its number

@@ -2,9 +2,8 @@
 use Rattle.std.proofs.Common.{◌≡◌, ℕ, zero, suc, ◌+◌, ◌-◌, ◌∙◌, List, [], ◌∷◌, length, map, Some, refl, sym, ap, subst, arith}
 use Rattle.std.specs.Prelude.{Result, Ok, Err, IfOk, slice_get}
 use Rattle.std.proofs.lemmas.Option.{same_Some, slice_get_within}
-use Rattle.irs_base.specs.Faults.{in_stream}
-use Rattle.irs_base.specs.Members.{EachNumbered, Every, Pairs}
-use Rattle.irs_base.specs.Outcomes.{Determined, Meets, Spec, each_in_turn, refused_as}
+use Rattle.irs_base.specs.Outcomes.{in_stream, Determined, Meets, Spec, each_in_turn, refused_as}
+use Rattle.irs_base.specs.Lists.{EachNumbered, Every, Pairs}
 use Rattle.irs_base.specs.declared.places.Broken.{Broken}
 use Rattle.irs_base.specs.declared.stopped.Stopped.{Stopped}
 use Rattle.irs_base.proofs.CoverLemmas.{covers_each}
@@ -13,7 +12,7 @@ use Rattle.irs_base.proofs.MemberLemmas.{one_numbered}
 use Rattle.irs_base.proofs.Outcomes.{answer_determined, answer_there, each_determined, one_refusal, refused_as_determined}
 use Rattle.irs_base.proofs.Outcomes.{then_determined}
 use Rattle.irs_terms.specs.Lawful.{IsLawfulSwap, IsLawfulStream}
-use Rattle.irs_terms.specs.Private.StepDates.{AllStepsRise}
+use Rattle.irs_terms.specs.Private.TermDates.{AllStepsRise}
 use Rattle.irs_terms.specs.declared.results.Payment.{Payment}
 use Rattle.irs_observed.specs.declared.daily_resets.OvernightResets.{OvernightResets}
 use Rattle.irs_terms.specs.declared.stream.Stream.{Stream}
@@ -23,19 +22,14 @@ use Rattle.irs_payments.specs.Payments.{ArePayments}
 use Rattle.irs_payments.proofs.ExchangeLemmas.{one_exchanges}
 use Rattle.irs_payments.proofs.PaymentLemmas.{one_payments}
 use Rattle.irs_resets.specs.Rates.{RateTable}
-use Rattle.irs_rules.specs.TermsKept.{TermsKept}
-use Rattle.irs_rules.specs.TermsRules.{BreaksTerms}
+use Rattle.irs_rules.specs.TermsRules.{TermsKept, BreaksTerms}
 use Rattle.irs_rules.proofs.Kept.{lawful_stream, terms_kept}
-use Rattle.irs_schedule.specs.DatedRules.{DatedBroken, DatedKept}
+use Rattle.irs_schedule.specs.Schedules.{DatedBroken, DatedKept, IsLayout, IsPeriodEntry, AreResetsIn, IsPart}
+use Rattle.irs_schedule.specs.Schedules.{IsPaymentEntry, IsSchedule, payment_of, entries_of, events_of, layout_of}
+use Rattle.irs_schedule.specs.Schedules.{part_over, passed_at, resets_over, schedule_of, stream_of, layout_dates}
 use Rattle.irs_schedule.specs.DaySets.{StreamSets, stream_sets}
 use Rattle.irs_schedule.specs.Private.Layouts.{IsKeptLayout}
-use Rattle.irs_schedule.specs.Schedules.{IsLayout, IsPeriodEntry, AreResetsIn, IsPart, IsPaymentEntry, IsSchedule}
-use Rattle.irs_schedule.specs.Schedules.{payment_of}
-use Rattle.irs_schedule.specs.Outcomes.{entries_of, events_of, layout_of, part_over, passed_at, resets_over, schedule_of}
-use Rattle.irs_schedule.specs.Outcomes.{stream_of}
-use Rattle.irs_schedule.specs.Parts.{Part}
-use Rattle.irs_schedule.specs.StreamDates.{layout_dates}
-use Rattle.irs_schedule.specs.StreamResets.{with_factors}
+use Rattle.irs_schedule.specs.Parts.{Part, with_factors}
 use Rattle.irs_schedule.specs.declared.entries.PaymentEntry.{PaymentEntry}
 use Rattle.irs_schedule.specs.declared.entries.PeriodEntry.{PeriodEntry}
 use Rattle.irs_schedule.specs.declared.layouts.Layout.{Layout}

@@ -3,9 +3,7 @@ use Rattle.std.proofs.Common.{◌≡◌, ℕ, ◌+◌, ◌-◌, ◌<◌, ◌≤�
 use Rattle.std.proofs.Common.{refl, sym, ap, ap₂, subst, ◌∙◌, arith}
 use Rattle.std.specs.Prelude.{slice_get}
 use Rattle.std.proofs.lemmas.List.{take_all}
-use Rattle.irs_base.specs.DayLists.{AreDays}
-use Rattle.irs_base.specs.Listed.{IsRising}
-use Rattle.irs_base.specs.Members.{Every}
+use Rattle.irs_base.specs.Lists.{AreDays, IsRising, Every}
 use Rattle.irs_base.specs.Outcomes.{Determined, Spec, each_in_turn, given_by, refused_as}
 use Rattle.irs_base.specs.declared.places.Fault.{Fault}
 use Rattle.irs_base.proofs.CoverLemmas.{LieAmong, covers_each}
@@ -13,15 +11,15 @@ use Rattle.irs_base.proofs.EveryLemmas.{every_both}
 use Rattle.irs_base.proofs.Outcomes.{each_begins, each_ends, each_goes_on}
 use Rattle.irs_base.proofs.Outcomes.{answer_determined, each_determined, given_by_determined, refused_as_determined}
 use Rattle.irs_base.proofs.Outcomes.{then_determined}
-use Rattle.irs_terms.specs.Currencies.{decimals_of}
-use Rattle.irs_terms.specs.Private.StepDates.{AllStepsRise}
+use Rattle.irs_terms.specs.Lawful.{decimals_of}
+use Rattle.irs_terms.specs.Private.TermDates.{AllStepsRise}
 use Rattle.irs_terms.specs.declared.results.Payment.{Payment}
-use Rattle.irs_compound.specs.Outcomes.{payment_amount_of}
+use Rattle.irs_compound.specs.Amounts.{payment_amount_of}
 use Rattle.irs_compound.proofs.Outcomes.{payment_determined}
 use Rattle.irs_payments.specs.Payments.{Covers}
-use Rattle.irs_schedule.specs.Outcomes.{entries_of, entry_of, passed_at, paying}
+use Rattle.irs_schedule.specs.Schedules.{entries_of, entry_of, passed_at, paying, AreTerms, IsAmountFor, dec_of}
+use Rattle.irs_schedule.specs.Schedules.{StreamDates, IsPaymentEntry, payment_of}
 use Rattle.irs_schedule.specs.Parts.{HasAmount}
-use Rattle.irs_schedule.specs.Schedules.{AreTerms, IsAmountFor, dec_of, StreamDates, IsPaymentEntry, payment_of}
 use Rattle.irs_schedule.specs.declared.entries.PaymentEntry.{PaymentEntry}
 use Rattle.irs_schedule.proofs.RateLemmas.{AreAbove}
 use Rattle.irs_schedule.proofs.TermsThere.{amount_by, terms_by, terms_fit, terms_there}

@@ -1,10 +1,9 @@
 -- What a part keeps.
 use Rattle.std.proofs.Common.{◌≡◌, ◌-◌, length, arith}
-use Rattle.irs_base.specs.DayLists.{AreDays}
+use Rattle.irs_base.specs.Lists.{AreDays}
 use Rattle.irs_schedule.specs.declared.streams.StreamPart.TheInside.{Inside}
-use Rattle.irs_schedule.specs.Keeping.{IsKept}
-use Rattle.irs_schedule.specs.Private.Keeping.{MakePart}
-use Rattle.irs_schedule.specs.Views.{part_of}
+use Rattle.irs_schedule.specs.Views.{IsKept, part_of}
+use Rattle.irs_schedule.specs.Private.Layouts.{MakePart}
 use Rattle.irs_schedule.proofs.PeriodLemmas.{length_periods, entries_within}
 
 -- what a part keeps, from what it is made of

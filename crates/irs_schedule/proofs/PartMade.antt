@@ -1,26 +1,20 @@
 -- The part that is made of what was worked out for a stream.
 use Rattle.std.proofs.Common.{◌≡◌, ◌-◌, ◌≤◌, List, length, map, refl, sym, subst, arith, ℕ, if◌then◌else◌}
-use Rattle.irs_base.specs.DayLists.{AreDays}
+use Rattle.irs_base.specs.Lists.{AreDays, Every}
 use Rattle.irs_base.specs.Days.{IsDay}
-use Rattle.irs_base.specs.Members.{Every}
 use Rattle.irs_base.proofs.CoverLemmas.{covers_made}
 use Rattle.irs_base.proofs.EveryLemmas.{every_made}
 use Rattle.irs_terms.specs.Lawful.{IsLawfulStream}
-use Rattle.irs_terms.specs.Private.StepDates.{AllStepsRise}
+use Rattle.irs_terms.specs.Private.TermDates.{AllStepsRise}
 use Rattle.irs_terms.specs.declared.results.Payment.{Payment}
 use Rattle.irs_terms.specs.declared.stream.Stream.{Stream}
 use Rattle.irs_payments.specs.Payments.{ArePayments, Covers}
 use Rattle.irs_payments.proofs.DatedPayments.{exchanges_bounded, exchanges_dated, exchanges_few, payments_dated}
 use Rattle.irs_resets.specs.Rates.{RateTable}
 use Rattle.irs_schedule.specs.DaySets.{StreamSets}
-use Rattle.irs_schedule.specs.Private.Keeping.{MakePart}
-use Rattle.irs_schedule.specs.KeptTerms.{is_floating, kept_terms_of}
-use Rattle.irs_schedule.specs.Private.Layouts.{IsKeptLayout}
-use Rattle.irs_schedule.specs.Outcomes.{part_over, resets_over}
-use Rattle.irs_schedule.specs.Parts.{HasAmount, IsAmount}
-use Rattle.irs_schedule.specs.Schedules.{IsPart, IsPaymentEntry, payment_of}
-use Rattle.irs_schedule.specs.StreamDates.{layout_dates}
-use Rattle.irs_schedule.specs.StreamResets.{HasRates}
+use Rattle.irs_schedule.specs.Private.Layouts.{MakePart, IsKeptLayout}
+use Rattle.irs_schedule.specs.Parts.{is_floating, kept_terms_of, HasAmount, IsAmount, HasRates}
+use Rattle.irs_schedule.specs.Schedules.{part_over, resets_over, IsPart, IsPaymentEntry, payment_of, layout_dates}
 use Rattle.irs_schedule.specs.declared.entries.PaymentEntry.{PaymentEntry}
 use Rattle.irs_schedule.specs.declared.layouts.Layout.{Layout}
 use Rattle.irs_schedule.specs.declared.stream.StreamEvents.{StreamEvents}

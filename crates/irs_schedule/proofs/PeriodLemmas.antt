@@ -3,8 +3,7 @@ use Rattle.std.proofs.Common.{◌≡◌, ℕ, ◌-◌, ◌<◌, ◌≤◌, ◌==
 use Rattle.std.proofs.Common.{zero, suc}
 use Rattle.std.proofs.lemmas.List.FromFn.{get_or-map-range_with_len, length-map-range_with_len}
 use Rattle.irs_base.proofs.DayListLemmas.{day_at_day}
-use Rattle.irs_base.specs.DayLists.{AreDays}
-use Rattle.irs_base.specs.Listed.{AllAfter, IsRising}
+use Rattle.irs_base.specs.Lists.{AreDays, AllAfter, IsRising, Every, day_at}
 use Rattle.irs_terms.specs.declared.results.Reset.{Reset}
 use Rattle.irs_terms.specs.Lawful.{IsLawfulValues, IsLawfulLeg, IsNotional}
 use Rattle.irs_daycount.specs.Fractions.{fraction_of}
@@ -12,13 +11,10 @@ use Rattle.irs_daycount.specs.Private.FractionLaws.{fraction_is, one_denominator
 use Rattle.irs_observed.specs.declared.overnight_rate.OvernightRate.{OvernightRate}
 use Rattle.irs_schedule.specs.declared.entries.PeriodEntry.{PeriodEntry}
 use Rattle.irs_schedule.specs.declared.kept_terms.KeptTerms.{KeptTerms}
-use Rattle.irs_schedule.specs.KeptTerms.{is_daily}
-use Rattle.irs_schedule.specs.Parts.{Rises, RisesFrom, IsEntry}
-use Rattle.irs_schedule.specs.Periods.{period_count, start_of, period_by, periods_by}
+use Rattle.irs_schedule.specs.Parts.{is_daily, Rises, RisesFrom, IsEntry, HasRates}
+use Rattle.irs_schedule.specs.Schedules.{period_count, start_of, period_by, periods_by}
 use Rattle.irs_schedule.specs.RowsOf.{no_period}
-use Rattle.irs_schedule.specs.StreamResets.{HasRates}
 use Rattle.irs_compound.proofs.RateSizes.{value_within}
-use Rattle.irs_base.specs.Members.{Every, day_at}
 use Rattle.irs_base.proofs.EveryLemmas.{every_numbered, numbered_computed}
 use Rattle.irs_compound.proofs.PeriodSizes.{days_small, numerator_small}
 use Rattle.irs_schedule.proofs.EntryRates.{entry_rate_small}

@@ -8,8 +8,8 @@ use Rattle.irs_terms.specs.declared.results.Exchange.{Exchange}
 use Rattle.irs_schedule.specs.declared.entries.PaymentEntry.{PaymentEntry}
 use Rattle.irs_schedule.specs.Parts.{Part, KeepsBounds, IsAmount, HasAmount, IsWithin}
 use Rattle.irs_schedule.specs.RowsOf.{reset_row, period_rows, exchange_row, payment_rows, part_rows, rows_of}
-use Rattle.irs_schedule.specs.RowTexts.{RowHasPlaces, IsFew}
-use Rattle.irs_base.specs.Members.{Every}
+use Rattle.irs_schedule.specs.RowsOf.{RowHasPlaces, IsFew}
+use Rattle.irs_base.specs.Lists.{Every}
 use Rattle.irs_base.proofs.EveryLemmas.{every_any, every_enumerated, every_flat}
 pub use Rattle.irs_base.proofs.EveryLemmas.{every_both, every_map}
 pub use Rattle.irs_terms.proofs.CurrencyLemmas.{decimals_few}

@@ -3,12 +3,12 @@ use Rattle.std.proofs.Common.{◌≡◌, ℕ, ◌-◌, List, [], ◌∷◌, leng
 use Rattle.std.proofs.Common.{inl, zero, suc, refl, sym, ap, ap₂, ◌∙◌, IfSome, All, if◌then◌else◌}
 use Rattle.std.specs.Prelude.{slice_get}
 use Rattle.irs_base.specs.Days.{IsDay}
-use Rattle.irs_base.specs.Members.{Every}
+use Rattle.irs_base.specs.Lists.{Every}
 use Rattle.irs_base.specs.Outcomes.{Determined, answered, refused}
 use Rattle.irs_base.specs.declared.places.Fault.{Fault}
 use Rattle.irs_base.proofs.EveryLemmas.{every_all}
-use Rattle.irs_terms.specs.DayTypes.{IsSaidReset}
-use Rattle.irs_terms.specs.Legs.{FitsLeg}
+use Rattle.irs_terms.specs.Centers.{IsSaidReset}
+use Rattle.irs_terms.specs.Lawful.{FitsLeg}
 use Rattle.irs_terms.specs.declared.amounts.FloatTerms.{FloatTerms}
 use Rattle.irs_terms.specs.declared.amounts.Leg.{Leg}
 use Rattle.irs_terms.specs.declared.amounts.Leg.TheVariants.{Fixed, Floating}
@@ -16,25 +16,22 @@ use Rattle.irs_terms.specs.declared.dates.ResetTerms.{ResetTerms}
 use Rattle.irs_terms.specs.declared.parameters.CalculationParameters.{CalculationParameters}
 use Rattle.irs_terms.specs.declared.results.Reset.{Reset}
 use Rattle.irs_calendar.specs.GoodDays.{DaySet}
-use Rattle.irs_resets.specs.Outcomes.{resets_of}
+use Rattle.irs_resets.specs.Resets.{resets_of, BreaksResets, HasSmallRate, ResetSource, source_period_count}
 use Rattle.irs_resets.specs.Rates.{RateTable}
-use Rattle.irs_resets.specs.ResetRules.{BreaksResets}
-use Rattle.irs_resets.specs.Resets.{HasSmallRate, ResetSource, source_period_count}
 use Rattle.irs_resets.proofs.DatedResets.{resets_dated}
 use Rattle.irs_resets.proofs.Outcomes.{resets_determined}
 use Rattle.irs_resets.proofs.ResetLemmas.{many_by, resets_count}
 use Rattle.irs_resets.proofs.ResetsThere.{InDays}
 use Rattle.irs_resets.proofs.RowLemmas.{one_resets}
-use Rattle.irs_observed.specs.OvernightRates.{AreOvernightRates, HasBounds, OvernightSource}
-use Rattle.irs_observed.specs.OvernightResets.{HasOvernightResetsBy, HasPrintedRate, daily_source}
+use Rattle.irs_observed.specs.OvernightRates.{AreOvernightRates, HasBounds, OvernightSource, HasOvernightResetsBy}
+use Rattle.irs_observed.specs.OvernightRates.{HasPrintedRate, daily_source}
 use Rattle.irs_observed.specs.declared.daily_resets.OvernightResets.{OvernightResets}
 use Rattle.irs_observed.specs.declared.overnight_rate.OvernightRate.{OvernightRate}
 use Rattle.irs_observed.specs.declared.overnight_rate.OvernightRate.TheVariants.{Stated, Known, Absent, OutOfRange}
 use Rattle.irs_observed.proofs.OvernightOutcomes.{one_overnight, overnight_dated, overnight_determined, rates_above}
-use Rattle.irs_compound.specs.OvernightRates.{IsAbove}
-use Rattle.irs_schedule.specs.KeptTerms.{is_daily, is_floating}
+use Rattle.irs_compound.specs.PeriodRates.{IsAbove}
+use Rattle.irs_schedule.specs.Parts.{is_daily, is_floating, HasRates, resets_alone, resets_by, resets_in}
 use Rattle.irs_schedule.specs.Schedules.{AreResetsBy, AreResetsIn, rate_in}
-use Rattle.irs_schedule.specs.StreamResets.{HasRates, resets_alone, resets_by, resets_in}
 
 -- resets and rates by their lists
 abbrev pub with_rates : List Reset → List OvernightRate → OvernightResets

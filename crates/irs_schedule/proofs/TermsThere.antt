@@ -3,30 +3,25 @@ use Rattle.std.proofs.Common.{◌≡◌, ℕ, ◌+◌, ◌-◌, ◌<◌, ◌≤�
 use Rattle.std.proofs.Common.{arith, refl, subst}
 use Rattle.std.specs.List.{range_with_len}
 use Rattle.std.proofs.lemmas.List.FromFn.{length-map-range_with_len}
-use Rattle.irs_base.specs.DayLists.{AreDays}
-use Rattle.irs_base.specs.Listed.{IsRising}
-use Rattle.irs_base.specs.Members.{EachNumbered, day_at}
+use Rattle.irs_base.specs.Lists.{AreDays, IsRising, EachNumbered, day_at}
 use Rattle.irs_base.proofs.CoverLemmas.{LieAmong}
 use Rattle.irs_base.proofs.DayListLemmas.{day_at_day}
 use Rattle.irs_base.proofs.EveryLemmas.{all_numbered, numbered_computed}
-use Rattle.irs_terms.specs.Currencies.{decimals_of}
+use Rattle.irs_terms.specs.Lawful.{decimals_of}
 use Rattle.irs_terms.specs.declared.results.Payment.{Payment}
 use Rattle.irs_terms.specs.declared.stream.Stream.{Stream}
 use Rattle.irs_daycount.specs.Fractions.{fraction_of}
 use Rattle.irs_daycount.specs.Private.FractionLaws.{fraction_is, days_is}
 use Rattle.irs_compound.specs.Amounts.{IsDayCountFraction, AmountOf}
-use Rattle.irs_compound.specs.InForce.{value_in_force}
-use Rattle.irs_compound.specs.Private.InForceLaws.{in_force_is}
-use Rattle.irs_compound.specs.PartsLaws.{AllFractions}
-use Rattle.irs_compound.specs.Private.OvernightLaws.{rates_in_are}
-use Rattle.irs_compound.specs.OvernightRates.{rates_in}
+use Rattle.irs_compound.specs.PeriodRates.{value_in_force, rates_in}
+use Rattle.irs_compound.specs.Private.RateLaws.{in_force_is, rates_in_are}
+use Rattle.irs_compound.specs.AmountLaws.{AllFractions}
 use Rattle.irs_compound.specs.declared.periods.PeriodTerm.{PeriodTerm}
 use Rattle.irs_compound.proofs.FractionFits.{fraction_is_fit}
 use Rattle.irs_payments.proofs.PlaceLemmas.{rises_at}
-use Rattle.irs_schedule.specs.KeptTerms.{kept_terms_of}
-use Rattle.irs_schedule.specs.Periods.{period_count, period_by, periods_by}
-use Rattle.irs_schedule.specs.Schedules.{observed_of, IsPeriodTerm, IsPeriodEntry, AreTerms, IsAmountBy, dec_of}
-use Rattle.irs_schedule.specs.Schedules.{StreamDates, rate_in}
+use Rattle.irs_schedule.specs.Parts.{kept_terms_of}
+use Rattle.irs_schedule.specs.Schedules.{period_count, period_by, periods_by, observed_of, IsPeriodTerm, IsPeriodEntry}
+use Rattle.irs_schedule.specs.Schedules.{AreTerms, IsAmountBy, dec_of, StreamDates, rate_in}
 use Rattle.irs_schedule.proofs.RateLemmas.{AreAbove}
 
 -- the terms of period i as a function

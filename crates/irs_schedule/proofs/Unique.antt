@@ -2,22 +2,19 @@
 use Rattle.std.proofs.Common.{ℤ, ◌≡◌, ℕ, ◌-◌, ◌<◌, ◌==◌, List, length, map, Option, Some, None, option_map, refl, sym}
 use Rattle.std.proofs.Common.{ap, ap₂, subst, ◌∙◌, arith}
 use Rattle.irs_base.specs.declared.line.Dec.{Dec}
-use Rattle.irs_base.specs.DayLists.{AreDays}
-use Rattle.irs_base.specs.Listed.{IsRising}
-use Rattle.irs_base.specs.Members.{Every, day_at}
+use Rattle.irs_base.specs.Lists.{AreDays, IsRising, Every, day_at}
 use Rattle.irs_base.proofs.CoverLemmas.{LieAmong}
 use Rattle.irs_base.proofs.EveryLemmas.{one_made}
 use Rattle.irs_base.proofs.MemberLemmas.{one_numbered}
-use Rattle.irs_terms.specs.Currencies.{decimals_of}
-use Rattle.irs_terms.specs.Private.StepDates.{AllStepsRise}
+use Rattle.irs_terms.specs.Lawful.{decimals_of}
+use Rattle.irs_terms.specs.Private.TermDates.{AllStepsRise}
 use Rattle.irs_terms.specs.declared.results.Payment.{Payment}
 use Rattle.irs_terms.specs.declared.stream.Stream.{Stream}
 use Rattle.irs_daycount.specs.FractionLaws.{one_fraction}
 use Rattle.irs_daycount.specs.Private.FractionLaws.{one_days}
 use Rattle.irs_compound.specs.Private.AmountLaws.{one_amount as one_units}
-use Rattle.irs_compound.specs.Private.InForceLaws.{one_in_force}
-use Rattle.irs_compound.specs.PartsLaws.{AllFractions}
-use Rattle.irs_compound.specs.Private.OvernightLaws.{one_rates_in}
+use Rattle.irs_compound.specs.Private.RateLaws.{one_in_force, one_rates_in}
+use Rattle.irs_compound.specs.AmountLaws.{AllFractions}
 use Rattle.irs_compound.specs.declared.periods.PeriodTerm.{PeriodTerm}
 use Rattle.irs_schedule.specs.declared.entries.PaymentEntry.{PaymentEntry}
 use Rattle.irs_schedule.specs.declared.entries.PeriodEntry.{PeriodEntry}

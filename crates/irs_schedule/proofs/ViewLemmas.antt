@@ -3,8 +3,7 @@ use Rattle.std.proofs.Common.{◌≡◌, ℕ, ◌+◌, ◌-◌, ◌<◌, length,
 use Rattle.std.specs.Prelude.{slice_index_or}
 use Rattle.std.proofs.lemmas.Option.{slice_get-get_or}
 use Rattle.irs_schedule.specs.Parts.{Part}
-use Rattle.irs_schedule.specs.PeriodViews.{period_at, dated_period}
-use Rattle.irs_schedule.specs.RowsOf.{no_period}
+use Rattle.irs_schedule.specs.RowsOf.{period_at, dated_period, no_period}
 
 -- the period at a place is that of its number
 pub period_is : (p : Part) (j : ℕ) → j < length p.periods

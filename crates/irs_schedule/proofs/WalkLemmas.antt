@@ -4,8 +4,7 @@ use Rattle.std.specs.List.{range_with_len}
 use Rattle.irs_terms.specs.declared.results.Exchange.{Exchange}
 use Rattle.irs_schedule.specs.declared.entries.PaymentEntry.{PaymentEntry}
 use Rattle.irs_schedule.specs.Parts.{Part, EntriesCover}
-use Rattle.irs_schedule.specs.RowsOf.{period_row}
-use Rattle.irs_schedule.specs.WalkLists.{walk_left}
+use Rattle.irs_schedule.specs.RowsOf.{period_row, walk_left}
 use Rattle.irs_base.proofs.CoverLemmas.{covers_low}
 
 range_first : (i e : ℕ) → i < e → range_with_len i (e - i) ≡ i ∷ range_with_len (i + 1) (e - (i + 1))

@@ -2,13 +2,15 @@
 use Rattle.std.specs.Prelude.{ℕ, true, List, Option, Some, None}
 use Rattle.irs_base.specs.Days.{first_day, last_day}
 use Rattle.irs_terms.specs.declared.stream.Stream.{Stream}
+use Rattle.irs_terms.specs.TermDates.{first_date_of}
+use Rattle.irs_terms.specs.Centers.{names_by, names_with, reset_names, fixing_names}
 use Rattle.irs_calendar.specs.declared.sections.Section.{Section}
 use Rattle.irs_calendar.specs.GoodDays.{DaySet}
-use Rattle.irs_calendar.specs.Selected.{day_set_of}
-use Rattle.irs_periods.specs.Adjusting.{BoundaryDays}
-use Rattle.irs_terms.specs.FirstDay.{first_date_of}
-use Rattle.irs_terms.specs.Needs.{names_by, names_with, reset_names, fixing_names}
+use Rattle.irs_calendar.specs.Sections.{day_set_of}
+use Rattle.irs_periods.specs.Boundaries.{BoundaryDays}
 use Rattle.irs_rules.specs.Parameters.{applicable_names}
+
+-- ---- the good business days by which each date of a stream is adjusted or moved
 
 -- the whole range of dates, where every day is a good business day
 abbrev pub whole_range : DaySet
@@ -62,3 +64,19 @@ stream_sets cal s =
       fixing = fixing_days cal s;
       applicable = applicable_days cal s;
     }
+
+-- ---- the good business days of the centres that elements name, and a table of them for the streams of a swap
+
+-- the names of the centres of an element, or none where it needs no days, and the calendars
+pub record NamedCenters : Type 0 where
+  pub sections : List Section
+  pub names : Option (List (List ℕ))
+
+-- the good business days of the centres with these names; without names the whole range
+abbrev pub days_of_centers : NamedCenters → DaySet
+days_of_centers centers = days_of_names centers.sections centers.names
+
+-- the lists of names whose days were found, over these calendars
+pub record FoundCenters : Type 0 where
+  pub sections : List Section
+  pub lists : List (Option (List (List ℕ)))

@@ -1,41 +1,49 @@
--- What a schedule is: the list of parts, one a stream, that the terms, the calendars and the fixings determine. Here s
--- is a stream, p its part, sets its business days, and fix the fixings.
+-- What a schedule is, and the first rule of dates and amounts that is broken where there is none.
 use Rattle.std.specs.Prelude.{◌≡◌, ◌+◌, List, length, map, ℤ, ℕ, ◌-◌, [], Option, Some, None, slice_get, ◌==◌}
-use Rattle.std.specs.Prelude.{option_map, option_and_then}
+use Rattle.std.specs.Prelude.{option_map, option_and_then, Bool}
+use Rattle.std.specs.List.{range_with_len}
+use Rattle.irs_base.specs.Lists.{EachNumbered, Pairs, Every, day_at}
+use Rattle.irs_base.specs.declared.line.Dec.{Dec}
+use Rattle.irs_base.specs.Elements.{calculation_period_amount}
+use Rattle.irs_base.specs.Outcomes.{fault_at, in_stream, Spec, ◌>>=◌, answer, each_in_turn, given_by, refused_as}
+use Rattle.irs_base.specs.Outcomes.{RefusesNothing}
+use Rattle.irs_base.specs.declared.places.Broken.{Broken}
+use Rattle.irs_base.specs.declared.places.Fault.{Fault}
+use Rattle.irs_base.specs.declared.places.Rule.TheVariants.{K39}
 use Rattle.irs_terms.specs.declared.results.Payment.{Payment}
 use Rattle.irs_terms.specs.declared.stream.Stream.{Stream}
 use Rattle.irs_terms.specs.declared.stream_list.Swap.{Swap}
-use Rattle.irs_calendar.specs.declared.sections.Section.{Section}
-use Rattle.irs_payments.specs.Payments.{ArePayments}
-use Rattle.irs_payments.specs.Exchanges.{AreExchanges}
-use Rattle.irs_resets.specs.Rates.{RateTable}
-use Rattle.irs_resets.specs.Resets.{source_of, IsResets, ResetSource}
-use Rattle.irs_observed.specs.declared.overnight_rate.OvernightRate.{OvernightRate}
-use Rattle.irs_schedule.specs.declared.entries.PaymentEntry.{PaymentEntry}
-use Rattle.irs_schedule.specs.KeptTerms.{is_daily, is_floating}
-use Rattle.irs_schedule.specs.Parts.{Part}
-use Rattle.irs_schedule.specs.DaySets.{StreamSets, stream_sets}
-use Rattle.irs_schedule.specs.declared.layouts.Layout.{Layout}
-use Rattle.irs_base.specs.Members.{EachNumbered, Pairs, Every, day_at}
-use Rattle.irs_periods.specs.Adjusting.{AdjustedList}
-use Rattle.irs_periods.specs.Boundaries.{Boundaries}
-use Rattle.irs_periods.specs.Spans.{Regular}
 use Rattle.irs_terms.specs.declared.results.Reset.{Reset}
 use Rattle.irs_terms.specs.declared.amounts.FloatTerms.{FloatTerms}
 use Rattle.irs_terms.specs.declared.amounts.Leg.{Leg}
 use Rattle.irs_terms.specs.declared.amounts.Leg.TheVariants.{Fixed, Floating}
 use Rattle.irs_terms.specs.declared.parameters.CalculationParameters.{CalculationParameters}
+use Rattle.irs_terms.specs.Lawful.{decimals_of}
+use Rattle.irs_calendar.specs.declared.sections.Section.{Section}
 use Rattle.irs_calendar.specs.GoodDays.{DaySet}
-use Rattle.irs_observed.specs.OvernightResets.{AreOvernightResets, daily_source}
+use Rattle.irs_periods.specs.Boundaries.{AdjustedList, Boundaries, adjusted_of, boundaries_of, regular_span_of}
+use Rattle.irs_periods.specs.Spans.{Regular}
+use Rattle.irs_payments.specs.Payments.{ArePayments, payments_of, principals_of, steps_of}
+use Rattle.irs_payments.specs.Exchanges.{AreExchanges}
+use Rattle.irs_resets.specs.Rates.{RateTable}
+use Rattle.irs_resets.specs.Resets.{source_of, IsResets, ResetSource}
+use Rattle.irs_observed.specs.declared.overnight_rate.OvernightRate.{OvernightRate}
+use Rattle.irs_observed.specs.OvernightRates.{AreOvernightResets, daily_source}
 use Rattle.irs_observed.specs.declared.daily_resets.OvernightResets.{OvernightResets}
-use Rattle.irs_schedule.specs.declared.entries.PeriodEntry.{PeriodEntry}
-use Rattle.irs_base.specs.declared.line.Dec.{Dec}
-use Rattle.irs_terms.specs.Currencies.{decimals_of}
-use Rattle.irs_daycount.specs.Fractions.{Days, Fraction}
-use Rattle.irs_compound.specs.InForce.{InForce}
-use Rattle.irs_compound.specs.OvernightRates.{AreRatesIn}
-use Rattle.irs_compound.specs.Amounts.{AmountOf}
+use Rattle.irs_daycount.specs.Fractions.{Days, Fraction, days_of, fraction_of}
+use Rattle.irs_compound.specs.PeriodRates.{InForce, AreRatesIn, value_in_force, rates_in}
+use Rattle.irs_compound.specs.Amounts.{AmountOf, payment_amount_of}
 use Rattle.irs_compound.specs.declared.periods.PeriodTerm.{PeriodTerm}
+use Rattle.irs_schedule.specs.declared.entries.PaymentEntry.{PaymentEntry}
+use Rattle.irs_schedule.specs.Parts.{is_daily, is_floating, Part, kept_terms_of, resets_in, with_factors}
+use Rattle.irs_schedule.specs.DaySets.{StreamSets, stream_sets}
+use Rattle.irs_schedule.specs.declared.layouts.Layout.{Layout}
+use Rattle.irs_schedule.specs.declared.entries.PeriodEntry.{PeriodEntry}
+use Rattle.irs_schedule.specs.declared.kept_terms.KeptTerms.{KeptTerms}
+use Rattle.irs_schedule.specs.declared.stream.StreamEvents.{StreamEvents}
+
+-- ---- what a schedule is: the list of parts, one a stream, that the terms, the calendars and the fixings determine
+-- Here s is a stream, p its part, sets its business days, and fix the fixings.
 
 -- ---- the regular span and the boundaries
 
@@ -174,3 +182,138 @@ pub record IsPart (sets : StreamSets) (fix : RateTable) (s : Stream) (p : Part) 
 -- one part for each stream of the swap, in order
 abbrev pub IsSchedule : Swap → List Section → RateTable → List Part → Type 0
 IsSchedule swap cal fix parts = Pairs (λ s p. IsPart (stream_sets cal s) fix s p) swap.streams parts
+
+-- ---- what is worked out for a calculation period, counted from 1
+
+-- how many periods lie between boundaries
+abbrev pub period_count : List ℤ → ℕ
+period_count boundaries = length boundaries - 1
+
+-- period i starts on boundary i - 1
+abbrev pub start_of : List ℤ → ℕ → ℤ
+start_of boundaries i = day_at boundaries (i - 1)
+
+-- a period from its adjusted start to its adjusted end, by whether it is the last one, its unadjusted start and its
+-- observed rate
+abbrev pub entry_by : KeptTerms → ℤ → ℤ → Bool → ℤ → Option ℤ → Option OvernightRate → PeriodEntry
+entry_by terms from to last start observed overnight = record {
+  days = days_of terms.day_count from to last;
+  frac = fraction_of terms.day_count from to last;
+  notional = value_in_force terms.notional start;
+  rate = option_map (λ r. r.all_in) (rates_in terms.leg start observed overnight);
+}
+
+-- period i runs from adjusted boundary i - 1 to adjusted boundary i; notional and rate are those on its unadjusted
+-- start
+abbrev pub period_by : KeptTerms → List ℤ → List ℤ → List Reset → List OvernightRate → ℕ → PeriodEntry
+period_by terms unadjusted adjusted resets rates i =
+    entry_by terms (start_of adjusted i) (day_at adjusted i) (i == period_count adjusted) (start_of unadjusted i)
+    (observed_of resets i) (slice_get rates (i - 1))
+
+-- the periods between adjusted boundaries
+abbrev pub periods_by : KeptTerms → List ℤ → List ℤ → List Reset → List OvernightRate → List PeriodEntry
+periods_by terms unadjusted adjusted resets rates =
+    map (period_by terms unadjusted adjusted resets rates) (range_with_len 1 (period_count adjusted))
+
+-- ---- what the calculation periods of a stream are worked out of, from a layout and from a table
+
+-- the stream with the boundaries of a layout and these resets
+abbrev pub layout_dates : Stream → Layout → List Reset → List OvernightRate → StreamDates
+layout_dates s l resets rates = dates_of s l.unadjusted l.adjusted resets rates
+
+-- ---- what a stream and a swap come to: a schedule, or the first rule of their dates and amounts that is broken
+-- Each specification is a chain of those of the stages, in the order in which they are worked out.
+
+-- the layout of a stream: its regular span, its boundaries, and these adjusted; or the first of K30 to K34
+abbrev pub layout_of : StreamSets → Stream → Spec Layout Fault
+layout_of sets s = do
+  span ← regular_span_of s
+  unadjusted ← boundaries_of s span
+  adjusted ← adjusted_of s sets.boundaries unadjusted
+  answer (record { span = span; unadjusted = unadjusted; adjusted = adjusted })
+
+-- its payments over a layout, where each step is on a boundary; or the first of K35, K33 and K38, or else of K36
+abbrev pub payment_dates_of : StreamSets → Stream → Layout → Spec (List Payment) Fault
+payment_dates_of sets s l = do
+  payments ← payments_of s sets.payment l.unadjusted l.adjusted
+  on_boundaries ← steps_of s l.unadjusted
+  answer payments
+
+-- what the resets over a layout are worked out from
+abbrev pub resets_over : StreamSets → Stream → Layout → ResetSource
+resets_over sets s l = source_of s l.span l.adjusted sets.reset sets.fixing
+
+-- its payments, principal exchanges, resets and observed rates; or the first broken rule.
+-- The order is payments, steps, exchanges (K33), resets (K37, K48, K33, K38).
+abbrev pub events_of : StreamSets → RateTable → Stream → Layout → Spec StreamEvents Fault
+events_of sets fix s l = do
+  payments ← payment_dates_of sets s l
+  exchanges ← principals_of s sets.payment
+  observed ← resets_in s.leg (resets_over sets s l) sets.applicable fix
+  answer (record { payments = payments; exchanges = exchanges; resets = observed.resets; rates = observed.rates })
+
+-- K39 at a period
+abbrev pub passed_at : ℕ → Fault
+passed_at period = fault_at K39 calculation_period_amount period
+
+-- a payment with this amount
+abbrev pub paying : Payment → Option Dec → PaymentEntry
+paying p amount = record {
+  unadjusted = p.unadjusted;
+  adjusted = p.adjusted;
+  first_period = p.first_period;
+  last_period = p.last_period;
+  amount = amount;
+}
+
+-- a payment with its amount, in the decimals of the currency; or K39 at the first of its periods that leaves its range
+abbrev pub entry_of : StreamDates → Payment → Spec PaymentEntry Fault
+entry_of d p = do
+  terms ← given_by (AreTerms d p)
+  units ← refused_as (λ n. passed_at (p.first_period + n - 1))
+      (payment_amount_of d.stream.compounding terms (decimals_of d.stream.currency.letters))
+  answer (paying p (option_map (dec_of (decimals_of d.stream.currency.letters)) units))
+
+-- payments with their amounts; or K39 at the first period of the first payment that has one
+abbrev pub entries_of : StreamDates → List Payment → Spec (List PaymentEntry) Fault
+entries_of d payments = each_in_turn (λ _ p. entry_of d p) 1 payments
+
+-- a stream in a schedule
+abbrev pub part_over : Stream → Layout → StreamEvents → List PaymentEntry → Part
+part_over s l events entries = record {
+  currency = s.currency;
+  day_count = s.day_count;
+  floating = is_floating s.leg;
+  daily = is_daily s.leg;
+  unadjusted = l.unadjusted;
+  adjusted = l.adjusted;
+  exchanges = events.exchanges;
+  payments = entries;
+  periods = periods_by (kept_terms_of s) l.unadjusted l.adjusted events.resets events.rates;
+  resets = events.resets;
+}
+
+-- the part of a stream; or the first of K30 to K39 and K48 that it breaks. The layout comes first, then the events,
+-- then the amounts.
+unfoldable pub stream_of : StreamSets → RateTable → Stream → Spec Part Fault
+stream_of sets fix s = do
+  layout ← layout_of sets s
+  events ← events_of sets fix s layout
+  entries ← with_factors passed_at events.rates
+      (entries_of (layout_dates s layout events.resets events.rates) events.payments)
+  answer (part_over s layout events entries)
+
+-- the schedule of a swap; or the first rule that its streams break, one after another, with the stream's number
+unfoldable pub schedule_of : Swap → List Section → RateTable → Spec (List Part) Broken
+schedule_of swap cal fix =
+    each_in_turn (λ n s. refused_as (in_stream n) (stream_of (stream_sets cal s) fix s)) 1 swap.streams
+
+-- ---- the rules of a swap's dates and amounts, K30 to K39 and K48, and the first of them that is broken
+
+-- no rule of the swap is broken
+abbrev pub DatedKept : Swap → List Section → RateTable → Type 0
+DatedKept swap cal fix = RefusesNothing (schedule_of swap cal fix)
+
+-- x is the first broken rule of the swap
+abbrev pub DatedBroken : Swap → List Section → RateTable → Broken → Type 0
+DatedBroken swap cal fix x = (schedule_of swap cal fix).Refuses x

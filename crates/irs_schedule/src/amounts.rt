@@ -1,19 +1,15 @@
 //! The amounts of a stream's payments: what their calculation periods pay by the stream's compounding.
 //! They are rounded to the decimals of its currency (2006 ISDA Definitions, articles 5, 6 and 8).
 ghost use Rattle.std.specs.Prelude.{◌≡◌, ◌↔◌, ◌-◌, ◌<◌, ◌≤◌, ℕ, length, IfNone, IfOk, IfSome, IsTrue, option_map};
-ghost use Rattle.irs_base.specs.Members.{Every};
+ghost use Rattle.irs_base.specs.Lists.{Every};
 ghost use Rattle.irs_base.specs.Outcomes.{Meets, MeetsExactly};
 ghost use Rattle.irs_terms.specs.Lawful.{IsLawfulStream};
-ghost use Rattle.irs_terms.specs.Private.StepDates.{AllStepsRise};
+ghost use Rattle.irs_terms.specs.Private.TermDates.{AllStepsRise};
 ghost use Rattle.irs_observed.specs.declared.overnight_rate.OvernightRate.TheVariants.{OutOfRange as PassesLimit};
 ghost use Rattle.irs_payments.specs.Payments.{Covers};
-ghost use Rattle.irs_schedule.specs.Outcomes.{entries_of, entry_of, passed_at, paying};
-ghost use Rattle.irs_schedule.specs.Parts.{HasAmount};
-ghost use Rattle.irs_schedule.specs.Schedules.{AreTerms, IsPeriodTerm, dec_of};
-ghost use Rattle.irs_schedule.specs.Private.PeriodTerms.{HasPeriods, IsTable};
-ghost use Rattle.irs_schedule.specs.Private.StreamDates.{table_dates};
-ghost use Rattle.irs_schedule.specs.StreamResets.{FactorPassesAt, with_factors};
-ghost use Rattle.irs_schedule.specs.Private.StreamResets.{IsFirstPassing, first_refusal};
+ghost use Rattle.irs_schedule.specs.Schedules.{entries_of, entry_of, passed_at, paying, AreTerms, IsPeriodTerm, dec_of};
+ghost use Rattle.irs_schedule.specs.Parts.{HasAmount, FactorPassesAt, with_factors};
+ghost use Rattle.irs_schedule.specs.Private.Layouts.{HasPeriods, IsTable, table_dates, IsFirstPassing, first_refusal};
 
 use crate::PaymentEntry;
 use crate::entries::PaymentEntries;

@@ -3,14 +3,12 @@
 //! it needs none.
 ghost use Rattle.std.specs.Prelude.{◌≡◌, ◌≤◌, ◌↔◌, length, None, option_copied, IfOk, IsTrue};
 ghost use Rattle.irs_base.specs.Limits.{most_centers};
-ghost use Rattle.irs_calendar.specs.GoodDays.{SameDays};
-ghost use Rattle.irs_calendar.specs.Runs.{set_of_runs};
-ghost use Rattle.irs_calendar.specs.Selected.{day_set_of, first_missing};
-ghost use Rattle.irs_schedule.specs.DaySets.{applicable_days, days_of_names, reset_days};
-ghost use Rattle.irs_rules.specs.TermsKept.{TermsKept};
+ghost use Rattle.irs_calendar.specs.GoodDays.{SameDays, set_of_runs};
+ghost use Rattle.irs_calendar.specs.Sections.{day_set_of, first_missing};
+ghost use Rattle.irs_schedule.specs.DaySets.{applicable_days, days_of_names, reset_days, days_of_centers};
+ghost use Rattle.irs_rules.specs.TermsRules.{TermsKept};
 ghost use Rattle.irs_terms.specs.Lawful.{IsLawfulStream};
-ghost use Rattle.irs_schedule.specs.CenterDays.{days_of_centers};
-ghost use Rattle.irs_schedule.specs.Private.CenterDays.{CanFind, centers_named};
+ghost use Rattle.irs_schedule.specs.Private.Layouts.{CanFind, centers_named};
 
 use irs_base::{Day, Memory, Names, Text};
 use irs_calendar::{Calendars, GoodDays, RunSet, SelErr};
@@ -30,10 +28,8 @@ pub struct CenterDays<'cal, 'swap> {
 
 impl<'cal, 'swap> Model for CenterDays<'cal, 'swap> {
     ghost use Rattle.std.specs.Prelude.{option_copied};
-    ghost use Rattle.irs_calendar.specs.GoodDays.{SameDays};
-    ghost use Rattle.irs_calendar.specs.Runs.{set_of_runs};
-    ghost use Rattle.irs_schedule.specs.DaySets.{days_of_names};
-    ghost use Rattle.irs_schedule.specs.CenterDays.{NamedCenters};
+    ghost use Rattle.irs_calendar.specs.GoodDays.{SameDays, set_of_runs};
+    ghost use Rattle.irs_schedule.specs.DaySets.{days_of_names, NamedCenters};
 
     ghost Value = { NamedCenters };
 

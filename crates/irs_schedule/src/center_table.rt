@@ -5,9 +5,9 @@ ghost use Rattle.std.specs.Prelude.{slice_get};
 ghost use Rattle.irs_terms.specs.Lawful.{IsLawfulSwap, IsLawfulStream};
 ghost use Rattle.irs_terms.specs.declared.stream.Stream.{Stream as StreamTerms};
 ghost use Rattle.irs_schedule.specs.DaySets.{applicable_days, boundary_days, payment_days, reset_days, fixing_days};
-ghost use Rattle.irs_schedule.specs.Private.CenterDays.{CanFind, HasMore, HasMoreOf, HasStream, HasSwap, centers_named};
-ghost use Rattle.irs_schedule.specs.CenterDays.{days_of_centers};
-ghost use Rattle.irs_rules.specs.TermsKept.{TermsKept};
+ghost use Rattle.irs_schedule.specs.DaySets.{days_of_centers};
+ghost use Rattle.irs_schedule.specs.Private.Layouts.{CanFind, HasMore, HasMoreOf, HasStream, HasSwap, centers_named};
+ghost use Rattle.irs_rules.specs.TermsRules.{TermsKept};
 
 use crate::center_days::CenterDays;
 use irs_base::{Memory, Names};
@@ -27,7 +27,7 @@ pub struct CenterTable<'cal, 'swap> {
 
 impl<'cal, 'swap> Model for CenterTable<'cal, 'swap> {
     ghost use Rattle.std.specs.Prelude.{◌≡◌, All, map};
-    ghost use Rattle.irs_schedule.specs.CenterDays.{FoundCenters};
+    ghost use Rattle.irs_schedule.specs.DaySets.{FoundCenters};
 
     ghost Value = { FoundCenters };
 

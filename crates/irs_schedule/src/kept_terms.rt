@@ -2,7 +2,7 @@
 //! needed.
 ghost use Rattle.std.specs.Prelude.{◌≡◌, IfOk};
 ghost use Rattle.irs_terms.specs.Lawful.{IsLawfulStream, IsLawfulValues, IsLawfulLeg, IsNotional};
-ghost use Rattle.irs_schedule.specs.KeptTerms.{is_floating};
+ghost use Rattle.irs_schedule.specs.Parts.{is_floating};
 
 use irs_base::Memory;
 use irs_terms::{

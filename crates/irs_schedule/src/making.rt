@@ -2,20 +2,15 @@
 //! boundaries, payments, exchanges, resets and amounts of each stream (2006 ISDA Definitions, articles
 //! 4, 5, 6 and 8).
 ghost use Rattle.std.specs.Prelude.{◌≡◌, IfOk, List, ℕ, Some, slice_get, ◌+◌};
-ghost use Rattle.irs_base.specs.Faults.{in_stream};
-ghost use Rattle.irs_base.specs.Order.{Only};
-ghost use Rattle.irs_base.specs.Outcomes.{Determined, Meets, RefusesNothing, refused_as};
+ghost use Rattle.irs_base.specs.Outcomes.{in_stream, Only, Determined, Meets, RefusesNothing, refused_as};
 ghost use Rattle.irs_base.specs.declared.places.Broken.{Broken as BrokenRule};
 ghost use Rattle.irs_terms.specs.Lawful.{IsLawfulSwap, IsLawfulStream};
 ghost use Rattle.irs_terms.specs.declared.stream.Stream.{Stream as StreamTerms};
 ghost use Rattle.irs_calendar.specs.declared.sections.Section.{Section};
-ghost use Rattle.irs_rules.specs.TermsKept.{TermsKept};
-ghost use Rattle.irs_rules.specs.TermsRules.{BreaksTerms};
-ghost use Rattle.irs_schedule.specs.Private.CenterDays.{HasSwap};
-ghost use Rattle.irs_schedule.specs.Outcomes.{schedule_of, stream_of};
+ghost use Rattle.irs_rules.specs.TermsRules.{TermsKept, BreaksTerms};
+ghost use Rattle.irs_schedule.specs.Private.Layouts.{HasSwap, sets_of};
+ghost use Rattle.irs_schedule.specs.Schedules.{schedule_of, stream_of, IsSchedule};
 ghost use Rattle.irs_schedule.specs.Parts.{KeepsBounds, Part};
-ghost use Rattle.irs_schedule.specs.Schedules.{IsSchedule};
-ghost use Rattle.irs_schedule.specs.Private.StageSets.{sets_of};
 
 use crate::Schedule;
 use crate::center_table::{CenterTable, StreamDays};

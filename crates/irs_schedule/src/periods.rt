@@ -3,11 +3,11 @@
 //! rate are those in force on its unadjusted start.
 ghost use Rattle.std.specs.Prelude.{◌≡◌, ◌<◌, length, ◌<ℤ◌, IfNone, IfSome, option_and_then, option_map, slice_get};
 ghost use Rattle.irs_terms.specs.Lawful.{IsLawfulLeg, IsRate};
-ghost use Rattle.irs_terms.specs.StepDates.{StepsRise, LegStepsRise};
-ghost use Rattle.irs_compound.specs.OvernightRates.{rates_in};
+ghost use Rattle.irs_terms.specs.TermDates.{StepsRise, LegStepsRise};
+ghost use Rattle.irs_compound.specs.PeriodRates.{rates_in};
 ghost use Rattle.irs_observed.specs.OvernightRates.{HasBounds};
-ghost use Rattle.irs_schedule.specs.Periods.{entry_by};
-ghost use Rattle.irs_base.specs.Members.{day_at};
+ghost use Rattle.irs_schedule.specs.Schedules.{entry_by};
+ghost use Rattle.irs_base.specs.Lists.{day_at};
 
 use crate::PeriodEntry;
 use crate::kept_terms::KeptTerms;

@@ -2,9 +2,8 @@
 ghost use Rattle.std.specs.Prelude.{◌≡◌, ◌+◌, ◌≤◌, length};
 ghost use Rattle.std.specs.Iterator.{YieldsFirst, item_count};
 ghost use Rattle.irs_schedule.specs.Parts.{IsWithin};
-ghost use Rattle.irs_schedule.specs.RowsOf.{most_schedule_rows, rows_of};
-ghost use Rattle.irs_schedule.specs.RowTexts.{RowHasPlaces};
-ghost use Rattle.irs_base.specs.Members.{Every};
+ghost use Rattle.irs_schedule.specs.RowsOf.{most_schedule_rows, rows_of, RowHasPlaces};
+ghost use Rattle.irs_base.specs.Lists.{Every};
 
 use crate::Row;
 use crate::streams::StreamPart;

@@ -1,20 +1,18 @@
 //! The part of one stream in a schedule, or the first rule of its dates and amounts that is broken.
 ghost use Rattle.std.specs.Prelude.{◌≡◌, ◌-◌, false, IfOk, List, length};
-ghost use Rattle.irs_base.specs.Members.{Every};
+ghost use Rattle.irs_base.specs.Lists.{Every};
 ghost use Rattle.irs_base.specs.Outcomes.{Meets};
 ghost use Rattle.irs_terms.specs.Lawful.{IsLawfulStream};
 ghost use Rattle.irs_terms.specs.declared.amounts.Leg.TheVariants.{Floating as OfFloating};
 ghost use Rattle.irs_calendar.specs.declared.sections.Section.{Section};
 ghost use Rattle.irs_payments.specs.Payments.{Covers};
-ghost use Rattle.irs_rules.specs.TermsKept.{TermsKept};
+ghost use Rattle.irs_rules.specs.TermsRules.{TermsKept};
 ghost use Rattle.irs_schedule.specs.DaySets.{StreamSets};
-ghost use Rattle.irs_schedule.specs.KeptTerms.{is_daily};
-ghost use Rattle.irs_schedule.specs.Outcomes.{entries_of, events_of, layout_of, passed_at, payment_dates_of, resets_over};
-ghost use Rattle.irs_schedule.specs.Outcomes.{stream_of};
-ghost use Rattle.irs_schedule.specs.Parts.{HasAmount, KeepsBounds};
-ghost use Rattle.irs_schedule.specs.Private.StageSets.{sets_of};
-ghost use Rattle.irs_schedule.specs.StreamDates.{layout_dates};
-ghost use Rattle.irs_schedule.specs.StreamResets.{HasRates, resets_alone, resets_by, resets_in, with_factors};
+ghost use Rattle.irs_schedule.specs.Parts.{is_daily, HasAmount, KeepsBounds, HasRates, resets_alone, resets_by};
+ghost use Rattle.irs_schedule.specs.Parts.{resets_in, with_factors};
+ghost use Rattle.irs_schedule.specs.Schedules.{entries_of, events_of, layout_of, passed_at, payment_dates_of};
+ghost use Rattle.irs_schedule.specs.Schedules.{resets_over, stream_of, layout_dates};
+ghost use Rattle.irs_schedule.specs.Private.Layouts.{sets_of};
 
 use crate::amounts::{PeriodTable, paid_within};
 use crate::center_table::StreamDays;

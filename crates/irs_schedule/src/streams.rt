@@ -33,8 +33,7 @@ impl Model for StreamPart {
 
     ghost Value = { Part };
 
-    ghost use Rattle.irs_schedule.specs.Views.{part_of};
-    ghost use Rattle.irs_schedule.specs.Keeping.{IsKept};
+    ghost use Rattle.irs_schedule.specs.Views.{part_of, IsKept};
 
     ghost view = { part_of };
 
@@ -42,10 +41,9 @@ impl Model for StreamPart {
 }
 
 ghost use Rattle.std.specs.Prelude.{IsTrue, slice_index_or};
-ghost use Rattle.irs_schedule.specs.Private.Keeping.{MakePart};
-ghost use Rattle.irs_schedule.specs.KeptTerms.{is_daily, is_floating};
-ghost use Rattle.irs_schedule.specs.Parts.{KeepsBounds};
-ghost use Rattle.irs_schedule.specs.Periods.{periods_by};
+ghost use Rattle.irs_schedule.specs.Private.Layouts.{MakePart};
+ghost use Rattle.irs_schedule.specs.Parts.{is_daily, is_floating, KeepsBounds};
+ghost use Rattle.irs_schedule.specs.Schedules.{periods_by};
 ghost use Rattle.irs_schedule.specs.RowsOf.{no_period, period_row, reset_row, stream_row};
 
 impl StreamPart {

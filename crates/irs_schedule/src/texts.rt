@@ -5,9 +5,8 @@
 ghost use Rattle.std.specs.Prelude.{◌≡◌, ◌+◌, ◌<◌, ◌≤◌, [], ◌∷◌, ◌++◌, length, IfSome};
 ghost use Rattle.std.specs.Fmt.{decimal, signed_decimal};
 ghost use Rattle.irs_base.specs.Texts.{day_text, dec_text};
-ghost use Rattle.irs_schedule.specs.RowTexts.{row_text_of, schedule_row_fields, code_text, kind_text, dec_or_dash};
-ghost use Rattle.irs_schedule.specs.RowTexts.{rate_or_dash};
-ghost use Rattle.irs_schedule.specs.RowTexts.{RowHasPlaces, IsFew};
+ghost use Rattle.irs_schedule.specs.RowsOf.{row_text_of, schedule_row_fields, code_text, kind_text, dec_or_dash};
+ghost use Rattle.irs_schedule.specs.RowsOf.{rate_or_dash, RowHasPlaces, IsFew};
 
 use crate::Row;
 use irs_base::{Day, Dec, Line, day_digits};
@@ -111,7 +110,7 @@ fn put_rate(line: &mut Line, v: Option<i64>)
 }
 
 /// Replaces what the line holds with the text of a row and its line feed.
-#[tactic(auto, unfolding(crate::specs::RowTexts::row_text_of))]
+#[tactic(auto, unfolding(crate::specs::RowsOf::row_text_of))]
 pub fn row_text(row: &Row, line: &mut Line)
     requires { RowHasPlaces row.now }
     ensures { line.new ≡ row_text_of row.now }

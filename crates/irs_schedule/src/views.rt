@@ -1,8 +1,7 @@
 //! A calculation period of a stream, with its dates.
 ghost use Rattle.std.specs.Prelude.{◌≡◌, ◌-◌, ◌<◌, ◌≤◌, length, option_map, slice_get, slice_index_or};
 ghost use Rattle.irs_schedule.specs.Parts.{KeepsBounds};
-ghost use Rattle.irs_schedule.specs.PeriodViews.{dated_period, period_at};
-ghost use Rattle.irs_schedule.specs.RowsOf.{no_period};
+ghost use Rattle.irs_schedule.specs.RowsOf.{dated_period, period_at, no_period};
 
 use crate::periods::day_at;
 use crate::streams::StreamPart;

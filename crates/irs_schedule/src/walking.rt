@@ -33,7 +33,7 @@ impl<'a> Model for StreamRows<'a> {
 
     ghost Value = { List Row };
 
-    ghost use Rattle.irs_schedule.specs.Walks.{stream_left, IsWalk};
+    ghost use Rattle.irs_schedule.specs.RowsOf.{stream_left, IsWalk};
 
     ghost view = { stream_left };
 

@@ -1,7 +1,7 @@
 //! The boundaries of a row: days with a space between them; the adjusted day follows after a `/`,
 //! where it is another.
 ghost use Rattle.std.specs.Prelude.{ℤ, ◌≤ℤ◌, IsTrue};
-ghost use Rattle.irs_base.specs.Listed.{AllAfter, IsRising, Member, RunsFromTo};
+ghost use Rattle.irs_base.specs.Lists.{AllAfter, IsRising, Member, RunsFromTo};
 
 use irs_base::{Day, DayList, read_date};
 use std::alloc::Global;

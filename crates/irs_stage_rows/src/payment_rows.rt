@@ -2,7 +2,7 @@
 //! and last calculation period. The adjusted date follows where it is another.
 ghost use Rattle.std.specs.Prelude.{IsTrue};
 ghost use Rattle.irs_terms.specs.Lawful.{IsLawfulStream};
-ghost use Rattle.irs_terms.specs.DayTypes.{IsSaid};
+ghost use Rattle.irs_terms.specs.Centers.{IsSaid};
 
 use crate::boundaries::{Boundaries, boundaries_of, run_from_to};
 use crate::good_days::days_of;

@@ -3,11 +3,9 @@
 //! and the last boundary.
 ghost use Rattle.std.specs.Prelude.{◌≡◌, ◌≤ℤ◌, ◌<ℤ◌, IfSome, IsTrue};
 ghost use Rattle.irs_terms.specs.Lawful.{IsLawfulStream};
-ghost use Rattle.irs_terms.specs.TermDates.{DatesInOrder, given_or};
-ghost use Rattle.irs_terms.specs.Suiting.{FrequencySuits};
+ghost use Rattle.irs_terms.specs.TermDates.{DatesInOrder, given_or, FrequencySuits};
 ghost use Rattle.irs_terms.specs.declared.frequency.Unit.TheVariants.{D};
-ghost use Rattle.irs_periods.specs.SpanRules.{SpanKept};
-ghost use Rattle.irs_periods.specs.Spans.{Regular};
+ghost use Rattle.irs_periods.specs.Spans.{SpanKept, Regular};
 
 use crate::good_days::days_of;
 use crate::telling::Told;

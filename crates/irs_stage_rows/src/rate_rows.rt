@@ -3,7 +3,7 @@
 //! Of a notional it is the one in force on a day.
 ghost use Rattle.std.specs.Prelude.{◌≡◌, IsTrue, ◌∷◌};
 ghost use Rattle.irs_terms.specs.Lawful.{IsLawfulFloat, IsLawfulLeg, IsLawfulStream};
-ghost use Rattle.irs_terms.specs.StepDates.{StepsRise};
+ghost use Rattle.irs_terms.specs.TermDates.{StepsRise};
 ghost use Rattle.irs_terms.specs.declared.amounts.Leg.TheVariants.{Fixed};
 
 use crate::boundaries::day;

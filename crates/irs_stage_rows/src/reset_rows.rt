@@ -5,9 +5,8 @@
 //! the whole term. A row gives the boundaries, and after them a file of fixings where it has its
 //! own.
 ghost use Rattle.std.specs.Prelude.{IsTrue};
-ghost use Rattle.irs_terms.specs.Lawful.{IsLawfulStream};
-ghost use Rattle.irs_terms.specs.DayTypes.{IsSaid, IsSaidFixing, IsSaidReset};
-ghost use Rattle.irs_terms.specs.Legs.{FitsLeg};
+ghost use Rattle.irs_terms.specs.Lawful.{IsLawfulStream, FitsLeg};
+ghost use Rattle.irs_terms.specs.Centers.{IsSaid, IsSaidFixing, IsSaidReset};
 
 use crate::boundaries::{boundaries_of, is_rising};
 use crate::files::file_of;

@@ -2,7 +2,7 @@
 use Rattle.std.proofs.Common.{ℕ, ◌≤◌, Bool, true, false, List, if◌then◌else◌, arith}
 use Rattle.std.specs.List.{list_any}
 use Rattle.std.specs.Str.{bytes_eq}
-use Rattle.irs_terms.specs.Currencies.{decimals_of, without_decimals, with_three_decimals}
+use Rattle.irs_terms.specs.Lawful.{decimals_of, without_decimals, with_three_decimals}
 
 few_by : (none three : Bool) → (if none then 0 else (if three then 3 else 2)) ≤ 3
 few_by true three = omega arith

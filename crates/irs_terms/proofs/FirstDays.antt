@@ -1,7 +1,7 @@
 -- The date at which the first calculation period begins is a lawful one.
 use Rattle.std.specs.Prelude.{Option, Some, None, IfSome, unwrap_or}
 use Rattle.irs_base.specs.Days.{IsDay}
-use Rattle.irs_terms.specs.FirstDay.{first_date_of, first_day_of}
+use Rattle.irs_terms.specs.TermDates.{first_date_of, first_day_of}
 use Rattle.irs_terms.specs.Lawful.{IsLawfulAdjustableDate, IsLawfulStream}
 use Rattle.irs_terms.specs.declared.adjustments.AdjustableDate.{AdjustableDate}
 use Rattle.irs_terms.specs.declared.stream.Stream.{Stream}

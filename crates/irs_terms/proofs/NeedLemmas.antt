@@ -2,7 +2,7 @@
 use Rattle.std.specs.Prelude.{ℕ, ◌≤◌, Bool, true, false, ◌||◌, List, Option, Some, None, IfSome, length}
 use Rattle.irs_base.specs.Limits.{most_centers}
 use Rattle.irs_terms.specs.Lawful.{IsLawfulCenters, IsLawfulFix, IsLawfulReset}
-use Rattle.irs_terms.specs.Needs.{adjusts_days, counts_days, fixing_names, fixing_names_of, names_for, reset_names}
+use Rattle.irs_terms.specs.Centers.{adjusts_days, counts_days, fixing_names, fixing_names_of, names_for, reset_names}
 use Rattle.irs_terms.specs.declared.adjustments.Centers.{Centers}
 use Rattle.irs_terms.specs.declared.adjustments.Centers.TheVariants.{Absent, Listed, Dangling}
 use Rattle.irs_terms.specs.declared.dates.FixTerms.{FixTerms}

@@ -1,5 +1,8 @@
--- Lawful terms: every value lies in the range that its element allows.
-use Rattle.std.specs.Prelude.{◌≡◌, ◌≢◌, ℕ, ◌-◌, ◌≤◌, List, length, get_or, All, IfSome, ℤ, pos, ◌≤ℤ◌, unsigned_abs}
+-- Lawful terms: every value lies in the range that its element allows, and fits its leg.
+use Rattle.std.specs.Prelude.{ℕ, List, [], ◌∷◌, codes, if◌then◌else◌, ◌≡◌, ◌≢◌, ◌-◌, ◌≤◌, length, get_or, All, IfSome}
+use Rattle.std.specs.Prelude.{ℤ, pos, ◌≤ℤ◌, unsigned_abs, ◌⊎◌, Option, None, IsSome}
+use Rattle.std.specs.List.{list_any}
+use Rattle.std.specs.Str.{bytes_eq}
 use Rattle.irs_base.specs.Days.{IsDay}
 use Rattle.irs_base.specs.Limits.{most_centers, most_index, most_multiplier, most_name, most_notional, most_offset}
 use Rattle.irs_base.specs.Limits.{most_observation_offset, most_rate, most_steps, most_streams}
@@ -24,9 +27,30 @@ use Rattle.irs_terms.specs.declared.amounts.StubTerms.{StubTerms}
 use Rattle.irs_terms.specs.declared.currency.Currency.{Currency}
 use Rattle.irs_terms.specs.declared.parameters.CalculationParameters.{CalculationParameters}
 use Rattle.irs_terms.specs.declared.parameters.ObservationOffset.{ObservationOffset}
-use Rattle.irs_terms.specs.declared.parameters.ObservationOffset.TheVariants.{Absent as NoOffset, Shift, Lookback, Lockout}
+use Rattle.irs_terms.specs.declared.parameters.ObservationOffset.TheVariants.{Absent as NoOffset, Shift, Lookback}
+use Rattle.irs_terms.specs.declared.parameters.ObservationOffset.TheVariants.{Lockout}
 use Rattle.irs_terms.specs.declared.stream.Stream.{Stream}
 use Rattle.irs_terms.specs.declared.stream_list.Swap.{Swap}
+use Rattle.irs_terms.specs.declared.codes.CompCode.TheVariants.{Simple}
+use Rattle.irs_terms.specs.declared.codes.Treatment.TheVariants.{AsIs}
+
+-- ---- how many decimals the amounts of a currency have
+
+-- the currencies without decimals
+abbrev pub without_decimals : List (List ℕ)
+without_decimals = codes "JPY" ∷ codes "KRW" ∷ codes "CLP" ∷ codes "VND" ∷ codes "ISK" ∷ []
+
+-- the currencies with three decimals
+abbrev pub with_three_decimals : List (List ℕ)
+with_three_decimals = codes "BHD" ∷ codes "KWD" ∷ codes "OMR" ∷ codes "JOD" ∷ codes "TND" ∷ []
+
+-- every other currency has two
+abbrev pub decimals_of : List ℕ → ℕ
+decimals_of letters =
+    if list_any (bytes_eq letters) without_decimals then 0 else
+    (if list_any (bytes_eq letters) with_three_decimals then 3 else 2)
+
+-- ---- lawful terms: every value lies in the range that its element allows
 
 -- a multiplier from 1 to 999
 abbrev pub IsLawfulFrequency : Frequency → Type 0
@@ -167,3 +191,30 @@ pub record IsLawfulStream (s : Stream) : Type 0 where
 -- 1 to 8 lawful streams
 abbrev pub IsLawfulSwap : Swap → Type 0
 IsLawfulSwap swap = (1 ≤ length swap.streams) × (length swap.streams ≤ most_streams) × All IsLawfulStream swap.streams
+
+-- ---- what goes with a fixed rate and what with a floating one
+
+-- a floating stream has resetDates; a fixed one has none
+abbrev pub FitsResets : Leg → Option ResetTerms → Type 0
+FitsResets (Fixed rates) reset = reset ≡ None
+FitsResets (Floating float) reset = IsSome reset
+
+-- a fixed stream has no rates of stubs
+abbrev pub FitsStubs : Leg → Option StubTerms → Type 0
+FitsStubs (Fixed rates) stubs = stubs ≡ None
+FitsStubs (Floating float) stubs = Unit {0}
+
+-- K19 isn't broken: resets and rates of stubs go with the leg
+pub record FitsLeg (s : Stream) : Type 0 where
+  pub resets : FitsResets s.leg s.reset
+  pub stubs : FitsStubs s.leg s.stubs
+
+-- a rate that may compound: a floating one under NegativeInterestRateMethod, and no fixed one, nor a
+-- floating one under ZeroInterestRateMethod
+abbrev pub MayCompound : Leg → Type 0
+MayCompound (Fixed rates) = ⊥
+MayCompound (Floating float) = float.treatment ≡ AsIs
+
+-- K21 isn't broken: amounts don't compound, or their rate may
+abbrev pub FitsCompounding : Stream → Type 0
+FitsCompounding s = (s.compounding ≡ Simple) ⊎ MayCompound s.leg

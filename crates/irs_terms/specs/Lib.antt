@@ -1,15 +1,4 @@
-pub mod Currencies
-pub mod FirstDay
 pub mod Lawful
-pub mod References
-pub mod Needs
-pub mod Centers
 pub mod TermDates
-pub mod Suiting
-pub mod Lengths
-pub mod Frequencies
-pub mod PaymentDates
-pub mod DayTypes
-pub mod StepDates
-pub mod Legs
+pub mod Centers
 pub mod Private

@@ -3,7 +3,7 @@
 //! The table of decimals is our rule. It holds ten currencies of ISO 4217, with 0 or 3 decimals; every
 //! other has 2.
 ghost use Rattle.std.specs.Prelude.{◌≡◌};
-ghost use Rattle.irs_terms.specs.Currencies.{decimals_of};
+ghost use Rattle.irs_terms.specs.Lawful.{decimals_of};
 
 /// A currency, by the three capital letters of ISO 4217 (FpML `currency`).
 #[derive(Clone, Copy, PartialEq, Eq)]

@@ -1,7 +1,7 @@
 //! How long a frequency is: a week is 7 days and a year 12 months. So 7D and 1W are the same, and
 //! 12M and 1Y are.
 ghost use Rattle.std.specs.Prelude.{◌≡◌};
-ghost use Rattle.irs_terms.specs.Lengths.{is_same_length, length_of, same_length};
+ghost use Rattle.irs_terms.specs.TermDates.{is_same_length, length_of, same_length};
 
 use crate::{Frequency, Unit};
 

@@ -4,8 +4,8 @@
 //! An element needs days where its convention isn't NONE. Payment dates and fixing dates also need
 //! them where their offset is a Business offset other than 0.
 ghost use Rattle.std.specs.Prelude.{◌≡◌, option_copied};
-ghost use Rattle.irs_terms.specs.Needs.{adjusts_days, counts_days, fixing_names, fixing_names_of, is_business};
-ghost use Rattle.irs_terms.specs.Needs.{listed_names, names_by, names_for, names_with, reset_names};
+ghost use Rattle.irs_terms.specs.Centers.{adjusts_days, counts_days, fixing_names, fixing_names_of, is_business};
+ghost use Rattle.irs_terms.specs.Centers.{listed_names, names_by, names_for, names_with, reset_names};
 
 use crate::{Adjustments, Centers, ConvCode, DayKind, FixTerms, Offset, ResetTerms};
 use irs_base::Names;

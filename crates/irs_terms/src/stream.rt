@@ -1,7 +1,7 @@
 //! A stream of a swap.
 ghost use Rattle.std.specs.Prelude.{◌≡◌};
 ghost use Rattle.irs_base.specs.Days.{IsDay};
-ghost use Rattle.irs_terms.specs.FirstDay.{first_date_of, first_day_of};
+ghost use Rattle.irs_terms.specs.TermDates.{first_date_of, first_day_of};
 
 use crate::{
     AdjustableDate, Adjustments, CompCode, Currency, DayCountCode, ExchangeFlags, Frequency, Leg,

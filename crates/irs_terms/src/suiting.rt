@@ -1,6 +1,6 @@
 //! Which roll conventions suit a frequency (FpML `calculationPeriodFrequency`, `rollConvention`).
 ghost use Rattle.std.specs.Prelude.{◌↔◌, IsTrue};
-ghost use Rattle.irs_terms.specs.Suiting.{RollsMonths, RollsWeeks, Suits};
+ghost use Rattle.irs_terms.specs.TermDates.{RollsMonths, RollsWeeks, Suits};
 
 use crate::{Frequency, RollCode, Unit};
 

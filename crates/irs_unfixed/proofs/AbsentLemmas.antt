@@ -2,13 +2,12 @@
 use Rattle.std.proofs.Common.{◌≡◌, inl, inr, ℕ, zero, suc, List, [], ◌∷◌, take, Some, None, ℤ, sym, ap, subst, ◌∙◌}
 use Rattle.std.specs.Prelude.{slice_get}
 use Rattle.std.proofs.lemmas.Option.{same_Some}
-use Rattle.irs_observed.specs.DailyRates.{AreKnown, DailyRates}
-use Rattle.irs_observed.specs.ObservationPeriods.{ObservedPeriod}
-use Rattle.irs_observed.specs.Observations.{AreObservations}
+use Rattle.irs_observed.specs.ObservedRates.{AreKnown, DailyRates}
+use Rattle.irs_observed.specs.Observations.{ObservedPeriod, AreObservations}
 use Rattle.irs_observed.specs.declared.observation.Observation.{Observation}
 use Rattle.irs_observed.proofs.OutcomeLemmas.{one_observations}
-use Rattle.irs_unfixed.specs.AbsentDays.{FirstAbsent}
-use Rattle.irs_unfixed.specs.Private.AbsentDays.{HasAbsentDay}
+use Rattle.irs_unfixed.specs.Unfixed.{FirstAbsent}
+use Rattle.irs_unfixed.specs.Private.Made.{HasAbsentDay}
 
 -- the observation day at a place, where each before it has its rate and it has none
 pub absent_at : (daily : DailyRates) (os : List Observation) (i : ℕ) (o : Observation) → slice_get os i ≡ Some o

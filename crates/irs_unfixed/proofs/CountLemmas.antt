@@ -4,15 +4,14 @@ use Rattle.std.proofs.Common.{Some, None, refl, arith}
 use Rattle.std.specs.Prelude.{IsSome, is_none}
 use Rattle.std.specs.List.{fold}
 use Rattle.irs_base.specs.Limits.{most_periods}
-use Rattle.irs_base.specs.Members.{Every}
+use Rattle.irs_base.specs.Lists.{Every}
 use Rattle.irs_base.specs.declared.line.Dec.{Dec}
 use Rattle.irs_schedule.specs.Parts.{IsWithin, KeepsBounds, Part}
 use Rattle.irs_schedule.specs.declared.entries.PaymentEntry.{PaymentEntry}
 use Rattle.irs_audit.specs.Verdicts.{stream_unfixed, unfixed_count}
 use Rattle.irs_audit.proofs.BoundLemmas.{payments_few}
 use Rattle.irs_audit.proofs.VerdictLemmas.{sum_few}
-use Rattle.irs_unfixed.specs.Counts.{payment_count, stream_payments}
-use Rattle.irs_unfixed.specs.Unfixed.{EachHasAmount}
+use Rattle.irs_unfixed.specs.Unfixed.{payment_count, stream_payments, EachHasAmount}
 
 stream_few : (p : Part) → KeepsBounds p → stream_payments p ≤ most_periods
 stream_few p h =

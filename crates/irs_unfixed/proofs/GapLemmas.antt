@@ -4,7 +4,7 @@ use Rattle.std.proofs.Common.{◌≡◌, inl, inr, ℕ, ◌+◌, ◌-◌, ◌≤
 use Rattle.std.proofs.Common.{sym, ap, subst, ◌∙◌, arith}
 use Rattle.std.specs.Prelude.{option_and_then, slice_get}
 use Rattle.std.proofs.lemmas.Option.{slice_get_cases, slice_get_within}
-use Rattle.irs_base.specs.Members.{HoldsOf}
+use Rattle.irs_base.specs.Lists.{HoldsOf}
 use Rattle.irs_base.proofs.MemberLemmas.{numbered_get}
 use Rattle.irs_terms.specs.declared.amounts.FloatTerms.{FloatTerms}
 use Rattle.irs_terms.specs.declared.amounts.Leg.{Leg}
@@ -19,31 +19,28 @@ use Rattle.irs_calendar.specs.GoodDays.{DaySet}
 use Rattle.irs_calendar.specs.declared.sections.Section.{Section}
 use Rattle.irs_periods.specs.Spans.{Regular}
 use Rattle.irs_periods.proofs.OneSpan.{one_span}
-use Rattle.irs_resets.specs.ObservedRates.{ComesFrom, IsPeriodKind, IsObserved, Line, RateSource, Stated, rate_from}
-use Rattle.irs_resets.specs.Private.ObservedRates.{source_by}
-use Rattle.irs_resets.specs.Rates.{RateTable, rate_at}
+use Rattle.irs_resets.specs.Rates.{ComesFrom, IsPeriodKind, IsObserved, Line, RateSource, Stated, rate_from, RateTable}
+use Rattle.irs_resets.specs.Rates.{rate_at}
+use Rattle.irs_resets.specs.Private.Resets.{source_by}
 use Rattle.irs_resets.specs.Resets.{HasResets, IsReset, IsResets, IsResetsOf, ResetSource}
 use Rattle.irs_resets.specs.declared.observed.PeriodKind.{PeriodKind}
 use Rattle.irs_resets.proofs.KindLaws.{one_kind}
 use Rattle.irs_resets.proofs.ObservedLaws.{observed_is}
-use Rattle.irs_observed.specs.DailyRates.{DailyRates, daily_rates, one_day}
-use Rattle.irs_observed.specs.ObservationRules.{LacksObservations}
+use Rattle.irs_observed.specs.ObservedRates.{DailyRates, daily_rates, one_day}
+use Rattle.irs_observed.specs.Observations.{LacksObservations}
 use Rattle.irs_observed.specs.OvernightRates.{IsOvernightRate, IsRateOf, IsRateOver, observation_fault, period_of}
-use Rattle.irs_observed.specs.OvernightResets.{AreOvernightResets, BreaksOvernight, DailySource, daily_source}
-use Rattle.irs_observed.specs.RateOrigins.{HasOwnRate}
+use Rattle.irs_observed.specs.OvernightRates.{AreOvernightResets, BreaksOvernight, DailySource, daily_source}
+use Rattle.irs_observed.specs.OvernightRates.{HasOwnRate}
 use Rattle.irs_observed.specs.declared.daily_resets.OvernightResets.{OvernightResets}
 use Rattle.irs_observed.specs.declared.observation.NoObservations.{NoObservations}
 use Rattle.irs_observed.specs.declared.overnight_rate.OvernightRate.{OvernightRate}
 use Rattle.irs_observed.specs.declared.overnight_rate.OvernightRate.TheVariants.{Stated as StatedRate, Absent}
 use Rattle.irs_schedule.specs.DaySets.{applicable_days}
-use Rattle.irs_schedule.specs.Parts.{Part}
+use Rattle.irs_schedule.specs.Parts.{Part, resets_by, resets_in}
 use Rattle.irs_schedule.specs.Schedules.{observed_of}
-use Rattle.irs_schedule.specs.StreamResets.{resets_by, resets_in}
 use Rattle.irs_schedule.proofs.RateLemmas.{with_rates}
-use Rattle.irs_unfixed.specs.AbsentDays.{IsAbsentDay}
-use Rattle.irs_unfixed.specs.Private.AbsentDays.{HasAbsentDay}
-use Rattle.irs_unfixed.specs.Fixings.{Fixing, FloatsOn, LacksFixing, RestsBy, RestsIn, daily_period}
-use Rattle.irs_unfixed.specs.Private.Made.{IsGap, reset_source}
+use Rattle.irs_unfixed.specs.Unfixed.{IsAbsentDay, Fixing, FloatsOn, LacksFixing, RestsBy, RestsIn, daily_period}
+use Rattle.irs_unfixed.specs.Private.Made.{HasAbsentDay, IsGap, reset_source}
 use Rattle.irs_unfixed.proofs.MadeLemmas.{Stages, gap_high, gap_unknown, stages_of}
 use Rattle.irs_unfixed.proofs.RateLemmas.{IsUnknown, absent, unobserved}
 use Rattle.irs_unfixed.proofs.AbsentLemmas.{absent_none}

@@ -2,7 +2,7 @@
 use Rattle.std.proofs.Common.{◌≡◌, ℕ, ◌+◌, ◌-◌, ◌<◌, ◌≤◌, List, length, Option, Some, None, refl, sym, ap, subst, ◌∙◌, arith}
 use Rattle.std.specs.Prelude.{option_map, slice_get}
 use Rattle.std.proofs.lemmas.Option.{same_Some, slice_get-get_or, slice_get_within}
-use Rattle.irs_base.specs.Members.{Every, HoldsOf, day_at}
+use Rattle.irs_base.specs.Lists.{Every, HoldsOf, day_at}
 use Rattle.irs_base.proofs.CoverLemmas.{LieAmong, covers_at}
 use Rattle.irs_base.proofs.MemberLemmas.{every_get, numbered_get}
 use Rattle.irs_terms.specs.declared.results.Span.{Span}
@@ -12,25 +12,21 @@ use Rattle.irs_periods.specs.Spans.{Regular}
 use Rattle.irs_resets.specs.Rates.{RateTable}
 use Rattle.irs_observed.specs.declared.daily_resets.OvernightResets.{OvernightResets}
 use Rattle.irs_observed.specs.declared.overnight_rate.OvernightRate.{OvernightRate}
-use Rattle.irs_compound.specs.OvernightRates.{AreRatesIn, rates_in}
+use Rattle.irs_compound.specs.PeriodRates.{AreRatesIn, rates_in}
 use Rattle.irs_compound.specs.declared.periods.Rates.{Rates}
 use Rattle.irs_schedule.specs.DaySets.{applicable_days, stream_sets}
-use Rattle.irs_schedule.specs.KeptTerms.{kept_terms_of}
-use Rattle.irs_schedule.specs.Outcomes.{resets_over, stream_of}
-use Rattle.irs_schedule.specs.Parts.{Part}
-use Rattle.irs_schedule.specs.Schedules.{IsAmountFor, IsPeriodTerm, observed_of, StreamDates, part_dates, rate_in}
-use Rattle.irs_schedule.specs.Schedules.{IsPaymentEntry, payment_of}
-use Rattle.irs_schedule.specs.Periods.{period_by, periods_by}
+use Rattle.irs_schedule.specs.Parts.{kept_terms_of, Part, resets_in}
+use Rattle.irs_schedule.specs.Schedules.{resets_over, stream_of, IsAmountFor, IsPeriodTerm, observed_of, StreamDates}
+use Rattle.irs_schedule.specs.Schedules.{part_dates, rate_in, IsPaymentEntry, payment_of, period_by, periods_by}
+use Rattle.irs_schedule.specs.Schedules.{layout_dates}
 use Rattle.irs_schedule.specs.RowsOf.{no_period}
-use Rattle.irs_schedule.specs.StreamDates.{layout_dates}
-use Rattle.irs_schedule.specs.StreamResets.{resets_in}
 use Rattle.irs_schedule.specs.declared.entries.PaymentEntry.{PaymentEntry}
 use Rattle.irs_schedule.specs.declared.entries.PeriodEntry.{PeriodEntry}
 use Rattle.irs_schedule.proofs.LayoutRules.{layout_kept}
 use Rattle.irs_schedule.proofs.PaidEntries.{entries_are}
 use Rattle.irs_schedule.proofs.PeriodLemmas.{entry_at, length_periods}
 use Rattle.irs_schedule.proofs.RateLemmas.{with_rates}
-use Rattle.irs_periods.specs.Outcomes.{HasSpan}
+use Rattle.irs_periods.specs.Boundaries.{HasSpan}
 use Rattle.irs_unfixed.specs.Private.Made.{IsMade, reset_source}
 use Rattle.irs_unfixed.specs.Unfixed.{IsUnrated, LacksRate}
 use Rattle.irs_unfixed.proofs.RateLemmas.{IsUnknown, map_none, rates_none, unknown_by}

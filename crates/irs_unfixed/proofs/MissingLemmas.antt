@@ -3,10 +3,8 @@ use Rattle.std.proofs.Common.{◌≡◌, ℕ, zero, suc, ◌+◌, ◌-◌, ◌<�
 use Rattle.std.proofs.Common.{ap, subst, ◌∙◌, arith}
 use Rattle.std.specs.Prelude.{get_or, nat_lt, slice_get}
 use Rattle.std.proofs.lemmas.Option.{same_Some, slice_get_read, slice_get_within}
-use Rattle.irs_base.specs.Faults.{in_stream}
-use Rattle.irs_base.specs.Members.{HoldsOf}
-use Rattle.irs_base.specs.Order.{First}
-use Rattle.irs_base.specs.Outcomes.{Spec, each_in_turn, refused_as}
+use Rattle.irs_base.specs.Outcomes.{in_stream, First, Spec, each_in_turn, refused_as}
+use Rattle.irs_base.specs.Lists.{HoldsOf}
 use Rattle.irs_base.proofs.CoverLemmas.{LieAmong, covers_at}
 use Rattle.irs_base.proofs.EveryLemmas.{pairs_length}
 use Rattle.irs_base.proofs.MemberLemmas.{every_get, some_is}
@@ -14,15 +12,13 @@ use Rattle.irs_base.proofs.Outcomes.{answer_there}
 use Rattle.irs_terms.specs.declared.stream.Stream.{Stream}
 use Rattle.irs_rules.proofs.Kept.{lawful_stream, terms_kept}
 use Rattle.irs_schedule.specs.DaySets.{stream_sets}
-use Rattle.irs_schedule.specs.Outcomes.{schedule_of, stream_of}
+use Rattle.irs_schedule.specs.Schedules.{schedule_of, stream_of, IsPart}
 use Rattle.irs_schedule.specs.Parts.{IsWithin, KeepsBounds, Part}
-use Rattle.irs_schedule.specs.Schedules.{IsPart}
 use Rattle.irs_schedule.specs.declared.entries.PaymentEntry.{PaymentEntry}
 use Rattle.irs_schedule.proofs.OnePart.{one_schedule, schedule_determined, schedule_is}
-use Rattle.irs_unfixed.specs.Fixings.{Fixing, LacksFixing}
+use Rattle.irs_unfixed.specs.Unfixed.{Fixing, LacksFixing, IsMadeFrom, PaymentLacks, MadeFrom, UnfixedAt, IsUnrated}
+use Rattle.irs_unfixed.specs.Unfixed.{LacksAmount}
 use Rattle.irs_unfixed.specs.Private.Made.{IsGap, IsMade}
-use Rattle.irs_unfixed.specs.Missing.{IsMadeFrom, PaymentLacks, MadeFrom}
-use Rattle.irs_unfixed.specs.Unfixed.{UnfixedAt, IsUnrated, LacksAmount}
 use Rattle.irs_unfixed.specs.declared.places.PaymentPlace.{PaymentPlace}
 use Rattle.irs_unfixed.proofs.MadeLemmas.{stages_of, unrated_there}
 

@@ -2,7 +2,7 @@
 use Rattle.std.proofs.Common.{◌≡◌, inl, inr, ℕ, ◌-◌, List, [], ◌∷◌, length, Option, Some, None, ℤ, sym, ap, subst, ◌∙◌}
 use Rattle.std.specs.Prelude.{IsSome, nat_lt, slice_get}
 use Rattle.std.proofs.lemmas.Option.{same_Some}
-use Rattle.irs_base.specs.Order.{First}
+use Rattle.irs_base.specs.Outcomes.{First}
 use Rattle.irs_base.proofs.Firsts.{AreTied, one_first, tied, tied_last}
 use Rattle.irs_terms.specs.declared.amounts.FloatTerms.{FloatTerms}
 use Rattle.irs_terms.specs.declared.amounts.Leg.{Leg}
@@ -15,20 +15,18 @@ use Rattle.irs_terms.specs.declared.results.Span.{Span}
 use Rattle.irs_terms.specs.declared.stream.Stream.{Stream}
 use Rattle.irs_calendar.specs.declared.sections.Section.{Section}
 use Rattle.irs_periods.proofs.OneSpan.{one_span}
-use Rattle.irs_resets.specs.ObservedRates.{IsPeriodKind, Line}
-use Rattle.irs_resets.specs.Rates.{RateTable}
+use Rattle.irs_resets.specs.Rates.{IsPeriodKind, Line, RateTable}
 use Rattle.irs_resets.specs.declared.observed.PeriodKind.{PeriodKind}
 use Rattle.irs_resets.proofs.KindLaws.{one_kind}
-use Rattle.irs_observed.specs.DailyRates.{DailyRates, daily_rates}
-use Rattle.irs_observed.specs.ObservationPeriods.{ObservedPeriod}
+use Rattle.irs_observed.specs.ObservedRates.{DailyRates, daily_rates}
+use Rattle.irs_observed.specs.Observations.{ObservedPeriod}
 use Rattle.irs_observed.specs.declared.observation.Observation.{Observation}
 use Rattle.irs_observed.proofs.OutcomeLemmas.{one_observations}
 use Rattle.irs_schedule.specs.Parts.{Part}
 use Rattle.irs_schedule.specs.declared.entries.PaymentEntry.{PaymentEntry}
-use Rattle.irs_unfixed.specs.AbsentDays.{FirstAbsent, IsAbsentDay}
-use Rattle.irs_unfixed.specs.Fixings.{Fixing, FloatsOn, LacksFixing, RestsBy, RestsIn, RestsOnDays, RestsOnReset}
-use Rattle.irs_unfixed.specs.Missing.{IsFirstLacking, PaymentLacks, MadeFrom}
-use Rattle.irs_unfixed.specs.Unfixed.{UnfixedAt, IsUnrated, place_before}
+use Rattle.irs_unfixed.specs.Unfixed.{FirstAbsent, IsAbsentDay, Fixing, FloatsOn, LacksFixing, RestsBy, RestsIn}
+use Rattle.irs_unfixed.specs.Unfixed.{RestsOnDays, RestsOnReset, IsFirstLacking, PaymentLacks, MadeFrom, UnfixedAt}
+use Rattle.irs_unfixed.specs.Unfixed.{IsUnrated, place_before}
 use Rattle.irs_unfixed.specs.declared.places.PaymentPlace.{PaymentPlace}
 use Rattle.irs_unfixed.proofs.SourceLemmas.{source_is}
 

@@ -4,8 +4,8 @@ use Rattle.std.proofs.Common.{ap, subst, ◌∙◌, arith, suc, false}
 use Rattle.std.specs.Prelude.{IsSome, nat_lt, slice_get}
 use Rattle.std.proofs.lemmas.Bool.{cases_order}
 use Rattle.std.proofs.lemmas.Option.{slice_get_within}
-use Rattle.irs_base.specs.Members.{Every, HoldsOf}
-use Rattle.irs_base.specs.Order.{First}
+use Rattle.irs_base.specs.Lists.{Every, HoldsOf}
+use Rattle.irs_base.specs.Outcomes.{First}
 use Rattle.irs_base.proofs.Firsts.{level_later, level_same, lt_false}
 use Rattle.irs_base.proofs.MemberLemmas.{NoneOf, some_is}
 use Rattle.irs_base.specs.declared.line.Dec.{Dec}

@@ -6,7 +6,7 @@ use Rattle.irs_terms.specs.declared.amounts.Leg.{Leg}
 use Rattle.irs_terms.specs.declared.amounts.Leg.TheVariants.{Fixed, Floating}
 use Rattle.irs_observed.specs.declared.overnight_rate.OvernightRate.{OvernightRate}
 use Rattle.irs_observed.specs.declared.overnight_rate.OvernightRate.TheVariants.{Stated, Known, Absent, OutOfRange}
-use Rattle.irs_compound.specs.OvernightRates.{AreRatesIn, rates_in}
+use Rattle.irs_compound.specs.PeriodRates.{AreRatesIn, rates_in}
 use Rattle.irs_compound.specs.declared.periods.Rates.{Rates}
 
 -- the observed rate of a period of a floating stream isn't known: that of its reset, or that of its daily rates

@@ -7,9 +7,8 @@ use Rattle.irs_terms.specs.declared.amounts.StubTerms.{StubTerms}
 use Rattle.irs_resets.specs.declared.observed.PeriodKind.{PeriodKind}
 use Rattle.irs_resets.specs.declared.observed.PeriodKind.TheVariants.{InitialStub, FinalStub, FirstRegular}
 use Rattle.irs_resets.specs.declared.observed.PeriodKind.TheVariants.{LaterRegular}
-use Rattle.irs_resets.specs.ObservedRates.{RateSource, GivesStub, ComesFrom, own_rate, own_index, initial_rate}
-use Rattle.irs_resets.specs.ObservedRates.{stream_index}
-use Rattle.irs_resets.specs.Private.ObservedRates.{own_source, index_source, own_or_index, initial_or_index, source_by}
+use Rattle.irs_resets.specs.Rates.{RateSource, GivesStub, ComesFrom, own_rate, own_index, initial_rate, stream_index}
+use Rattle.irs_resets.specs.Private.Resets.{own_source, index_source, own_or_index, initial_or_index, source_by}
 
 not_first_initial : InitialStub ≡ FirstRegular → ⊥
 not_first_initial e = cc (e)

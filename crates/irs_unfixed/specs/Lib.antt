@@ -1,6 +1,2 @@
 pub mod Unfixed
-pub mod AbsentDays
-pub mod Fixings
-pub mod Counts
-pub mod Missing
 pub mod Private

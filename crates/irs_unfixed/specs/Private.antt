@@ -1,3 +1,1 @@
-pub mod AbsentDays
-pub mod Missing
 pub mod Made

@@ -1,8 +1,7 @@
 //! How many payments a schedule has, and how many of them have no amount.
 ghost use Rattle.std.specs.Prelude.{◌≡◌, ◌↔◌, ◌<◌, ◌^◌};
 ghost use Rattle.irs_audit.specs.Verdicts.{stream_unfixed, unfixed_count};
-ghost use Rattle.irs_unfixed.specs.Counts.{payment_count, stream_payments};
-ghost use Rattle.irs_unfixed.specs.Unfixed.{EachHasAmount};
+ghost use Rattle.irs_unfixed.specs.Unfixed.{payment_count, stream_payments, EachHasAmount};
 
 use irs_schedule::{Schedule, StreamPart};
 

@@ -1,11 +1,10 @@
 //! The first observation day of a calculation period that has no daily rate (FpML `calculationParameters`).
 ghost use Rattle.std.specs.Prelude.{◌<ℤ◌, ℤ, IfNone, IfOk, IfSome};
-ghost use Rattle.irs_observed.specs.DailyRates.{AreKnown, daily_rates, rates_by};
-ghost use Rattle.irs_observed.specs.ObservationPeriods.{observed_period};
-ghost use Rattle.irs_observed.specs.ObservationRules.{LacksObservations};
+ghost use Rattle.irs_observed.specs.ObservedRates.{AreKnown, daily_rates, rates_by};
+ghost use Rattle.irs_observed.specs.Observations.{observed_period, LacksObservations};
 ghost use Rattle.irs_observed.specs.declared.observation.NoObservations.{NoObservations as Reason};
-ghost use Rattle.irs_unfixed.specs.AbsentDays.{FirstAbsent, IsAbsentDay};
-ghost use Rattle.irs_unfixed.specs.Private.AbsentDays.{HasAbsentDay};
+ghost use Rattle.irs_unfixed.specs.Unfixed.{FirstAbsent, IsAbsentDay};
+ghost use Rattle.irs_unfixed.specs.Private.Made.{HasAbsentDay};
 
 use irs_base::{Day, Memory, Stopped, Text};
 use irs_calendar::GoodDays;

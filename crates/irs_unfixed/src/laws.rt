@@ -1,7 +1,6 @@
 //! What holds of the first payment without an amount.
 ghost use Rattle.std.specs.Prelude.{◌≡◌};
-ghost use Rattle.irs_unfixed.specs.Fixings.{Fixing};
-ghost use Rattle.irs_unfixed.specs.Missing.{IsFirstLacking, made_from};
+ghost use Rattle.irs_unfixed.specs.Unfixed.{Fixing, IsFirstLacking, made_from};
 ghost use Rattle.irs_unfixed.specs.declared.places.PaymentPlace.{PaymentPlace};
 
 use irs_calendar::Calendars;

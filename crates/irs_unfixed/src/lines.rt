@@ -1,9 +1,9 @@
 //! Which line of the fixings the rate of a calculation period is, by its index and its tenor (FpML
 //! `floatingRateIndex`, `indexTenor` and `stubCalculationPeriodAmount`).
 ghost use Rattle.std.specs.Prelude.{◌≡◌, ℤ, IfNone, IfSome};
-ghost use Rattle.irs_resets.specs.ObservedRates.{Line as LineOf, Stated};
-ghost use Rattle.irs_resets.specs.Private.ObservedRates.{final_stub_source, index_source, initial_or_index};
-ghost use Rattle.irs_resets.specs.Private.ObservedRates.{initial_stub_source, own_or_index, own_source, source_by};
+ghost use Rattle.irs_resets.specs.Rates.{Line as LineOf, Stated};
+ghost use Rattle.irs_resets.specs.Private.Resets.{final_stub_source, index_source, initial_or_index};
+ghost use Rattle.irs_resets.specs.Private.Resets.{initial_stub_source, own_or_index, own_source, source_by};
 
 use irs_base::Text;
 use irs_resets::PeriodKind;

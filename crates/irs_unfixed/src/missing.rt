@@ -4,9 +4,8 @@
 //! it is that of its observation days. Where a line is absent, the rate isn't known, and neither is the amount
 //! of the payment. The first such payment names the fixing to look for first: that is our rule.
 ghost use Rattle.std.specs.Prelude.{◌≡◌, IfNone, IfOk, IfSome};
-ghost use Rattle.irs_unfixed.specs.Missing.{IsFirstMissing, IsMadeFrom, PaymentLacks, missing_fixing, missing_place};
-ghost use Rattle.irs_unfixed.specs.Missing.{made_from};
-ghost use Rattle.irs_unfixed.specs.Unfixed.{EachHasAmount, UnfixedAt};
+ghost use Rattle.irs_unfixed.specs.Unfixed.{IsFirstMissing, IsMadeFrom, PaymentLacks, missing_fixing, missing_place};
+ghost use Rattle.irs_unfixed.specs.Unfixed.{made_from, EachHasAmount, UnfixedAt};
 
 use crate::needed::needed_fixing;
 use crate::periods::first_unrated;

@@ -1,20 +1,17 @@
 //! The fixing that the rate of a calculation period rests on, where no line of the fixings has it.
 ghost use Rattle.std.specs.Prelude.{◌≡◌, ◌<◌, ◌≤◌, ℤ, Some, IfOk, length};
 ghost use Rattle.irs_terms.specs.Lawful.{IsLawfulStream};
-ghost use Rattle.irs_terms.specs.Suiting.{FrequencySuits};
-ghost use Rattle.irs_terms.specs.TermDates.{DatesInOrder};
+ghost use Rattle.irs_terms.specs.TermDates.{FrequencySuits, DatesInOrder};
 ghost use Rattle.irs_terms.specs.declared.amounts.Leg.TheVariants.{Floating as OfFloating};
 ghost use Rattle.irs_terms.specs.declared.results.Reset.{Reset as ResetRow};
-ghost use Rattle.irs_base.specs.Members.{HoldsOf, day_at};
+ghost use Rattle.irs_base.specs.Lists.{HoldsOf, day_at};
 ghost use Rattle.irs_periods.specs.Spans.{Regular};
-ghost use Rattle.irs_resets.specs.ObservedRates.{Line as LineOf, Stated};
-ghost use Rattle.irs_resets.specs.Private.ObservedRates.{source_by};
-ghost use Rattle.irs_unfixed.specs.AbsentDays.{IsAbsentDay};
-ghost use Rattle.irs_unfixed.specs.Fixings.{LacksFixing, daily_period};
-ghost use Rattle.irs_periods.specs.Outcomes.{HasSpan};
-ghost use Rattle.irs_unfixed.specs.Private.Made.{IsGap};
-ghost use Rattle.irs_unfixed.specs.Private.Missing.{fixing_in};
-ghost use Rattle.irs_observed.specs.DailyRates.{daily_rates};
+ghost use Rattle.irs_resets.specs.Rates.{Line as LineOf, Stated};
+ghost use Rattle.irs_resets.specs.Private.Resets.{source_by};
+ghost use Rattle.irs_unfixed.specs.Unfixed.{IsAbsentDay, LacksFixing, daily_period};
+ghost use Rattle.irs_periods.specs.Boundaries.{HasSpan};
+ghost use Rattle.irs_unfixed.specs.Private.Made.{IsGap, fixing_in};
+ghost use Rattle.irs_observed.specs.ObservedRates.{daily_rates};
 
 use crate::days::absent_day;
 use crate::lines::{RateLine, line_of};

@@ -1,7 +1,7 @@
 //! The first calculation period of a payment whose rate isn't known.
 ghost use Rattle.std.specs.Prelude.{◌↔◌, ◌<◌, ◌^◌, IsTrue, nat_lt};
-ghost use Rattle.irs_base.specs.Members.{HoldsOf};
-ghost use Rattle.irs_base.specs.Order.{IsFirst};
+ghost use Rattle.irs_base.specs.Lists.{HoldsOf};
+ghost use Rattle.irs_base.specs.Outcomes.{IsFirst};
 ghost use Rattle.irs_unfixed.specs.Unfixed.{IsUnrated, LacksRate};
 
 use irs_schedule::{PaymentEntry, StreamPart};

@@ -1,7 +1,7 @@
 //! The first payment of a schedule that has no amount.
 ghost use Rattle.std.specs.Prelude.{◌<◌, ◌^◌, length, nat_lt};
-ghost use Rattle.irs_base.specs.Members.{HoldsOf};
-ghost use Rattle.irs_base.specs.Order.{IsFirst};
+ghost use Rattle.irs_base.specs.Lists.{HoldsOf};
+ghost use Rattle.irs_base.specs.Outcomes.{IsFirst};
 ghost use Rattle.irs_unfixed.specs.Unfixed.{UnfixedAt, LacksAmount, place_before};
 
 use irs_schedule::{PaymentEntry, Schedule};

@@ -3,7 +3,7 @@ use Rattle.std.proofs.Common.{◌≡◌, ◌≢◌, ℕ, zero, suc, ◌-◌, Boo
 use Rattle.std.proofs.lemmas.List.{length-map}
 use Rattle.std.specs.Prelude.{string_bytes}
 use Rattle.std.proofs.Math.Seq.{take-append_seam}
-use Rattle.irs_xml.specs.Namespaces.{Scope, Opening, is_opened, scope_in}
+use Rattle.irs_xml.specs.Tags.{Scope, Opening, is_opened, scope_in}
 use Rattle.irs_xml.specs.Private.Reading.{child_at, element_at, tag_at}
 use Rattle.irs_xml.specs.Private.TagViews.{scope_view}
 use Rattle.irs_xml.specs.declared.settings.Declaration.{Declaration}

@@ -6,10 +6,9 @@ use Rattle.std.proofs.lemmas.List.{append-nil}
 use Rattle.std.specs.Char.{encode_utf8}
 use Rattle.std.specs.Prelude.{codes, is_none}
 use Rattle.std.specs.Str.{encode_utf8_all}
-use Rattle.irs_xml.specs.Characters.{is_white_space, is_white, is_gap}
-use Rattle.irs_xml.specs.Comments.{rest_after, lacks, is_comment_text, comment_text, is_cdata, cdata_text, Instruction}
-use Rattle.irs_xml.specs.Comments.{is_apart, is_xml, is_instruction, instruction_text}
-use Rattle.irs_xml.specs.Names.{is_name_char, is_name_start, is_nc_name}
+use Rattle.irs_xml.specs.Characters.{is_white_space, is_white, is_gap, rest_after, lacks, is_comment_text, comment_text}
+use Rattle.irs_xml.specs.Characters.{is_cdata, cdata_text, Instruction, is_apart, is_xml, is_instruction}
+use Rattle.irs_xml.specs.Characters.{instruction_text, is_name_char, is_name_start, is_nc_name}
 use Rattle.irs_xml.specs.Private.Reading.{◌>>=◌, choose, name_at, gap_at, skip_space, past, comment_at, instruction_at}
 use Rattle.irs_xml.specs.Private.Reading.{data_at}
 use Rattle.irs_xml.proofs.Steps.{same_some, bind_some, choose_some, chosen, both_true, true_both, after_sound, after_complete, past_found, begins, gap_sound}

@@ -9,19 +9,22 @@ use Rattle.std.specs.List.{list_all}
 use Rattle.std.specs.Prelude.{codes}
 use Rattle.std.specs.Str.{encode_utf8_all, all_scalars}
 use Rattle.serde_json.specs.Data.{Data, Members, string}
-use Rattle.irs_xml.specs.Characters.{is_white_space, is_white, ends_after}
-use Rattle.irs_xml.specs.Comments.{rest_after, comment_text, is_comment_text, cdata_text, is_cdata, Instruction}
-use Rattle.irs_xml.specs.Comments.{is_instruction, instruction_text}
-use Rattle.irs_xml.specs.Content.{Element, empty, full, Content, nothing, character, reference, cdata, comment, instruction, child, element_text, content_text, is_char_data, IsTagIn, IsElement, IsContent}
+use Rattle.irs_xml.specs.Characters.{is_white_space, is_white, ends_after, rest_after, comment_text, is_comment_text}
+use Rattle.irs_xml.specs.Characters.{cdata_text, is_cdata, Instruction, is_instruction, instruction_text, is_name_start}
+use Rattle.irs_xml.specs.Characters.{is_name_char, is_nc_name, name_text, prefixed, is_prefix, is_qname, Reference}
+use Rattle.irs_xml.specs.Characters.{reference_text, character_of, is_reference, seen}
+use Rattle.irs_xml.specs.Content.{Element, empty, full, Content, nothing, character, reference, cdata, comment}
+use Rattle.irs_xml.specs.Content.{instruction, child, element_text, content_text, is_char_data, IsTagIn, IsElement}
+use Rattle.irs_xml.specs.Content.{IsContent, Child, is_ours, key_of, named_child, both, element_data, element_child}
+use Rattle.irs_xml.specs.Content.{children_in, text_inside, with_children}
 use Rattle.irs_xml.specs.Document.{tag_of}
-use Rattle.irs_xml.specs.Names.{is_name_start, is_name_char, is_nc_name, name_text, prefixed, is_prefix, is_qname}
-use Rattle.irs_xml.specs.Namespaces.{Setting, Opening, Scope, opening_of, is_opened, scope_in}
-use Rattle.irs_xml.specs.References.{Reference, reference_text, character_of, is_reference}
-use Rattle.irs_xml.specs.Private.Reading.{Got, ◌>>=◌, choose, skip_space, Inside, Mark, ending, commented, sectioned, instructed, nested, referred, standing, mark_at, markup_at, piece_at, content_at, closing_name_at, closing_at, filled_at, element_at, child_at, as_child, finished, begun, with_one, with_text, with_character, comment_at, instruction_at, data_at, reference_at, tag_at}
-use Rattle.irs_xml.specs.Seen.{seen}
-use Rattle.irs_xml.specs.Tags.{Tag, tag_text, is_tag, attributes_text}
-use Rattle.irs_xml.specs.Values.{Child, is_ours, key_of, named_child, both, element_data, element_child, children_in}
-use Rattle.irs_xml.specs.Values.{text_inside, with_children}
+use Rattle.irs_xml.specs.Tags.{Setting, Opening, Scope, opening_of, is_opened, scope_in, Tag, tag_text, is_tag}
+use Rattle.irs_xml.specs.Tags.{attributes_text}
+use Rattle.irs_xml.specs.Private.Reading.{Got, ◌>>=◌, choose, skip_space, Inside, Mark, ending, commented, sectioned}
+use Rattle.irs_xml.specs.Private.Reading.{instructed, nested, referred, standing, mark_at, markup_at, piece_at}
+use Rattle.irs_xml.specs.Private.Reading.{content_at, closing_name_at, closing_at, filled_at, element_at, child_at}
+use Rattle.irs_xml.specs.Private.Reading.{as_child, finished, begun, with_one, with_text, with_character, comment_at}
+use Rattle.irs_xml.specs.Private.Reading.{instruction_at, data_at, reference_at, tag_at}
 use Rattle.irs_xml.proofs.Steps.{same_some, bind_some, choose_some, chosen, both_true, true_both, eq_true, false_eq, after_sound, after_complete, after-append, begins, white_run, run_white, skip_sound, skip-white}
 use Rattle.irs_xml.proofs.NameReads.{char_no_return}
 use Rattle.irs_xml.proofs.ReferenceLaws.{reference_sound, reference_complete, tail}

@@ -1,7 +1,7 @@
 -- How content goes on, a piece after another.
 use Rattle.std.proofs.Common.{◌≡◌, ℕ, zero, suc, ◌<◌, ◌≤◌, true, false, List, [], ◌∷◌, length, Some, None, refl, sym, ◌∙◌, arith}
 use Rattle.irs_xml.specs.Private.Reading.{Got, Inside, Mark, mark_at, piece_at, content_at}
-use Rattle.irs_xml.specs.Values.{Child}
+use Rattle.irs_xml.specs.Content.{Child}
 
 -- what is read after what was read gives what is read from the start
 pub record ContentGoes (child : List ℕ → Got Child) (i : Inside) (cs : List ℕ) (first : Inside) (all : List ℕ) : Type 0 where

@@ -4,10 +4,12 @@ use Rattle.std.proofs.lemmas.Slice.Eq.{bytes_eq-Decides}
 use Rattle.std.specs.Char.{to_ascii_lowercase}
 use Rattle.std.specs.Prelude.{codes}
 use Rattle.std.specs.Str.{bytes_eq}
-use Rattle.irs_xml.specs.Characters.{is_white_space, is_white, is_gap}
-use Rattle.irs_xml.specs.Comments.{rest_after}
-use Rattle.irs_xml.specs.Document.{Pair, pair_text, is_pair, is_version, is_encoding, is_standalone, Declaration, pair_text_if, is_pair_if, declaration_text, is_xml_declaration}
-use Rattle.irs_xml.specs.Private.Reading.{◌>>=◌, choose, skip_space, gap_at, equals_at, quote_at, after_any_case, quoted_at, version_at, encoding_at, standalone_at, name_behind, pair_at, declared_at, opening_at, declaration_at}
+use Rattle.irs_xml.specs.Characters.{is_white_space, is_white, is_gap, rest_after}
+use Rattle.irs_xml.specs.Document.{Pair, pair_text, is_pair, is_version, is_encoding, is_standalone, Declaration}
+use Rattle.irs_xml.specs.Document.{pair_text_if, is_pair_if, declaration_text, is_xml_declaration}
+use Rattle.irs_xml.specs.Private.Reading.{◌>>=◌, choose, skip_space, gap_at, equals_at, quote_at, after_any_case}
+use Rattle.irs_xml.specs.Private.Reading.{quoted_at, version_at, encoding_at, standalone_at, name_behind, pair_at}
+use Rattle.irs_xml.specs.Private.Reading.{declared_at, opening_at, declaration_at}
 use Rattle.irs_xml.specs.Tags.{is_quote}
 use Rattle.irs_xml.proofs.Steps.{same_some, bind_some, choose_some, chosen, both_true, true_both, eq_true, true_eq, after_sound, after_complete, begins, white_run, run_white, skip_sound, skip-white, gap_sound, gap_complete, gap_none}
 use Rattle.irs_xml.proofs.TagLaws.{equals_sound, equals_complete, quote_sound, quote_complete, quote_no_space}

@@ -5,7 +5,7 @@ use Rattle.serde_json.specs.Data.{object, string, put}
 use Rattle.serde_json.specs.View.{members_view}
 use Rattle.serde_json.proofs.Views.{Entry}
 use Rattle.irs_xml.specs.Characters.{is_white}
-use Rattle.irs_xml.specs.Values.{leaf_value}
+use Rattle.irs_xml.specs.Content.{leaf_value}
 
 -- an element without members is its text
 pub leaf_bare : (text : List ℕ) (es : List Entry) → length es ≡ 0 → leaf_value text (members_view es) ≡ string text

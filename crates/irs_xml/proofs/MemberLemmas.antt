@@ -7,7 +7,7 @@ use Rattle.serde_json.specs.Data.{item, Members, member}
 use Rattle.serde_json.specs.View.{view, members_view, items_view}
 use Rattle.serde_json.specs.declared.value.Value.{Value}
 use Rattle.serde_json.proofs.Views.{Entry}
-use Rattle.irs_xml.specs.Values.{without, item_last}
+use Rattle.irs_xml.specs.Content.{without, item_last}
 
 apart : (b : Bool) (e : Entry) (es fs : List Entry) (ms : Members) → members_view fs ≡ ms
     → members_view (cond b es (e ∷ fs)) ≡ cond b (members_view es) (member (string_bytes e.0) (view e.1) ms)

@@ -1,7 +1,7 @@
 -- How what is round the root goes on.
 use Rattle.std.proofs.Common.{◌≡◌, ℕ, zero, suc, ◌<◌, ◌≤◌, List, length, Some, None, refl, sym, ap, arith}
 use Rattle.std.specs.Prelude.{codes}
-use Rattle.irs_xml.specs.Comments.{rest_after}
+use Rattle.irs_xml.specs.Characters.{rest_after}
 use Rattle.irs_xml.specs.Private.Reading.{skip_space, comment_at, instruction_at, misc_at}
 use Rattle.irs_xml.proofs.Steps.{length_after}
 use Rattle.irs_xml.proofs.Shorter.{skip_short, comment_short, instruction_short}

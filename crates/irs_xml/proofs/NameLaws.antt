@@ -5,8 +5,8 @@ use Rattle.std.specs.Char.{encode_utf8}
 use Rattle.std.specs.List.{list_all}
 use Rattle.std.specs.Prelude.{codes}
 use Rattle.std.specs.Str.{encode_utf8_all}
-use Rattle.irs_xml.specs.Comments.{rest_after}
-use Rattle.irs_xml.specs.Names.{is_name_start, is_name_char, is_nc_name, QName, name_text, prefixed, is_prefix, is_qname}
+use Rattle.irs_xml.specs.Characters.{rest_after, is_name_start, is_name_char, is_nc_name, QName, name_text, prefixed}
+use Rattle.irs_xml.specs.Characters.{is_prefix, is_qname}
 use Rattle.irs_xml.specs.Private.Reading.{◌>>=◌, choose, name_run, name_rest, name_at, qname_at}
 use Rattle.irs_xml.proofs.Steps.{same_some, bind_some, choose_some, chosen, both_true, true_both, after_sound, begins}
 

@@ -7,10 +7,8 @@ use Rattle.std.proofs.Math.Seq.{take-append_seam, drop-append_seam}
 use Rattle.std.proofs.lemmas.Str.{chars-nil, chars_past_char, encodes-append, IsCharBoundary-at_seam}
 use Rattle.std.specs.Char.{encode_utf8}
 use Rattle.std.specs.Str.{chars, encode_utf8_all, IsUtf8, IsCharBoundary}
-use Rattle.irs_xml.specs.Characters.{ends_after}
-use Rattle.irs_xml.specs.Names.{is_name_start, is_name_char}
+use Rattle.irs_xml.specs.Characters.{ends_after, is_name_start, is_name_char, seen}
 use Rattle.irs_xml.specs.Private.Reading.{name_run, name_rest, name_at, SplitsName, EndsName}
-use Rattle.irs_xml.specs.Seen.{seen}
 use Rattle.irs_xml.proofs.Seeing.{seen_other, seen_return}
 
 -- a name doesn't begin with CR

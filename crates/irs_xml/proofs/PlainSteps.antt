@@ -6,10 +6,10 @@ use Rattle.std.proofs.lemmas.Str.{encode_ascii, IsUtf8-past_char, IsCharBoundary
 use Rattle.std.specs.Char.{encode_utf8}
 use Rattle.std.specs.List.{slice_get}
 use Rattle.std.specs.Str.{IsUtf8, IsCharBoundary}
-use Rattle.irs_xml.specs.Private.Plain.{IsPlain, ArePlain, SplitsPlain, PlainTaken, PlainPieces}
-use Rattle.irs_xml.specs.Private.Reading.{Got, Inside, with_text, standing, mark_at, piece_at}
-use Rattle.irs_xml.specs.Seen.{seen}
-use Rattle.irs_xml.specs.Values.{Child}
+use Rattle.irs_xml.specs.Private.Reading.{IsPlain, ArePlain, SplitsPlain, PlainTaken, PlainPieces, Got, Inside}
+use Rattle.irs_xml.specs.Private.Reading.{with_text, standing, mark_at, piece_at}
+use Rattle.irs_xml.specs.Characters.{seen}
+use Rattle.irs_xml.specs.Content.{Child}
 use Rattle.irs_xml.proofs.ContentSteps.{ContentGoes, content_more}
 use Rattle.irs_xml.proofs.Seeing.{seen_other}
 use Rattle.irs_xml.proofs.Steps.{false_eq}

@@ -5,10 +5,9 @@ use Rattle.std.proofs.lemmas.Bool.Decides.{nat_tests}
 use Rattle.std.specs.Char.{is_digit, digit_value}
 use Rattle.std.specs.List.{list_all}
 use Rattle.std.specs.Prelude.{codes}
-use Rattle.irs_xml.specs.Characters.{is_char}
-use Rattle.irs_xml.specs.Comments.{rest_after}
-use Rattle.irs_xml.specs.References.{Reference, less, greater, ampersand, apostrophe, quotation, decimal, hexadecimal}
-use Rattle.irs_xml.specs.References.{reference_text, number_after_in_base, character_of, are_digits, is_reference}
+use Rattle.irs_xml.specs.Characters.{is_char, rest_after, Reference, less, greater, ampersand, apostrophe, quotation}
+use Rattle.irs_xml.specs.Characters.{decimal, hexadecimal, reference_text, number_after_in_base, character_of}
+use Rattle.irs_xml.specs.Characters.{are_digits, is_reference}
 use Rattle.irs_xml.specs.Private.Reading.{Got, capped, digits_at, number_at, character_at, reference_at}
 use Rattle.irs_xml.proofs.Steps.{same_some, bind_some, choose_some, chosen, both_true, true_both, eq_true, after_sound}
 

@@ -2,8 +2,8 @@
 use Rattle.std.proofs.Common.{◌≡◌, ◌&&◌, not, List, [], ◌∷◌, map, refl, ap, sym, ◌∙◌}
 use Rattle.std.specs.List.{list_all, list_any}
 use Rattle.std.specs.Prelude.{is_some}
-use Rattle.irs_xml.specs.Namespaces.{Setting, Scope, attribute_namespace, is_like, are_unlike}
-use Rattle.irs_xml.specs.Private.Resolved.{Resolved, resolve, is_alike, are_distinct}
+use Rattle.irs_xml.specs.Tags.{Setting, Scope, attribute_namespace, is_like, are_unlike}
+use Rattle.irs_xml.specs.Private.TagViews.{Resolved, resolve, is_alike, are_distinct}
 use Rattle.irs_xml.proofs.MapTests.{list_all-map, list_any-map}
 
 -- attributes are unlike where their resolved names are distinct

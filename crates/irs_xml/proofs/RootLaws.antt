@@ -6,19 +6,19 @@ use Rattle.std.proofs.lemmas.List.{append-nil}
 use Rattle.std.specs.Char.{encode_utf8}
 use Rattle.std.specs.Prelude.{codes}
 use Rattle.serde_json.specs.Data.{Data, object, member, no_members}
-use Rattle.irs_xml.specs.Characters.{is_white_space, is_white}
-use Rattle.irs_xml.specs.Comments.{rest_after, is_comment_text, comment_text, Instruction, is_instruction}
-use Rattle.irs_xml.specs.Comments.{instruction_text}
-use Rattle.irs_xml.specs.Comments.{is_apart, lacks}
-use Rattle.irs_xml.specs.Content.{Element, element_text, IsElement, IsTagIn, most_levels}
-use Rattle.irs_xml.specs.Document.{Declaration, declaration_text, is_xml_declaration, Misc, blank, comment, instruction, misc_text, is_misc, Document, document_text, tag_of, root_namespace, is_fpml, IsDocument, root_key, rooted, root_value, document_value}
-use Rattle.irs_xml.specs.Names.{is_name_char, is_name_start, is_nc_name}
-use Rattle.irs_xml.specs.Namespaces.{Scope, opening_of, first_scope, scope_in, is_opened}
-use Rattle.irs_xml.specs.Private.Reading.{◌>>=◌, skip_space, gap_at, comment_at, instruction_at, tag_at, child_at, element_at, opening_at, declaration_at, misc_at, as_root, root_by, root_at, ended, document_at}
-use Rattle.irs_xml.specs.Values.{Child, element_child}
+use Rattle.irs_xml.specs.Characters.{is_white_space, is_white, rest_after, is_comment_text, comment_text, Instruction}
+use Rattle.irs_xml.specs.Characters.{is_instruction, instruction_text, is_apart, lacks, is_name_char, is_name_start}
+use Rattle.irs_xml.specs.Characters.{is_nc_name}
+use Rattle.irs_xml.specs.Content.{Element, element_text, IsElement, IsTagIn, most_levels, Child, element_child}
+use Rattle.irs_xml.specs.Document.{Declaration, declaration_text, is_xml_declaration, Misc, blank, comment, instruction}
+use Rattle.irs_xml.specs.Document.{misc_text, is_misc, Document, document_text, tag_of, root_namespace, is_fpml}
+use Rattle.irs_xml.specs.Document.{IsDocument, root_key, rooted, root_value, document_value}
+use Rattle.irs_xml.specs.Tags.{Scope, opening_of, first_scope, scope_in, is_opened, Tag, tag_text}
+use Rattle.irs_xml.specs.Private.Reading.{◌>>=◌, skip_space, gap_at, comment_at, instruction_at, tag_at, child_at}
+use Rattle.irs_xml.specs.Private.Reading.{element_at, opening_at, declaration_at, misc_at, as_root, root_by, root_at}
+use Rattle.irs_xml.specs.Private.Reading.{ended, document_at}
 use Rattle.irs_xml.proofs.Steps.{same_some, bind_some, choose_some, chosen, both_true, true_both, eq_true, after_sound, begins, white_run, run_white, skip_sound, skip-stop}
 use Rattle.irs_xml.proofs.CommentLaws.{comment_sound, comment_complete, instruction_sound, instruction_complete, space_no_name}
-use Rattle.irs_xml.specs.Tags.{Tag, tag_text}
 use Rattle.irs_xml.proofs.TagLaws.{end_text, tag_sound}
 use Rattle.irs_xml.proofs.ContentLaws.{element_sound, child_sound, element_begins, element_start, start_no_mark, behind, body, is_bare, tag_back, opened_back, element_back, child_complete}
 use Rattle.irs_xml.proofs.DocumentLaws.{declaration_sound, declared_complete}

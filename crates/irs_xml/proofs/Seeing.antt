@@ -5,9 +5,7 @@ use Rattle.std.proofs.lemmas.Str.{chars_past_char, chars-nil, chars-append, enco
 use Rattle.std.specs.List.{slice_get}
 use Rattle.std.specs.Str.{chars, encode_utf8_all, IsUtf8, IsCharBoundary}
 use Rattle.std.specs.Char.{encode_utf8}
-use Rattle.irs_xml.specs.Characters.{ends_after}
-use Rattle.irs_xml.specs.Comments.{rest_after}
-use Rattle.irs_xml.specs.Seen.{seen}
+use Rattle.irs_xml.specs.Characters.{ends_after, rest_after, seen}
 use Rattle.irs_xml.proofs.Steps.{after_complete}
 
 other : (b : Bool) (c : ℕ) (cs : List ℕ) → c ≢ 13 → (b ≡ true → c ≢ 10) → ends_after b (c ∷ cs) ≡ c ∷ ends_after false cs

@@ -1,6 +1,6 @@
 -- How the attributes of a tag go on, one after another.
 use Rattle.std.proofs.Common.{◌≡◌, ◌≢◌, ℕ, zero, suc, ◌-◌, Bool, true, false, List, [], ◌∷◌, ◌++◌, Option, Some, None, refl, sym, ◌∙◌, arith}
-use Rattle.irs_xml.specs.Namespaces.{Setting}
+use Rattle.irs_xml.specs.Tags.{Setting}
 use Rattle.irs_xml.specs.Private.Reading.{Takes, Fails, gap_at, skip_space, setting_at, settings_at, tag_end_at}
 use Rattle.irs_xml.specs.declared.failure.Failure.{Failure}
 use Rattle.irs_xml.specs.declared.failure.Failure.TheVariants.{NotXml, Memory}

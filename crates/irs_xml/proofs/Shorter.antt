@@ -2,12 +2,14 @@
 use Rattle.std.proofs.Common.{◌≡◌, inl, inr, ℕ, zero, suc, ◌<◌, ◌≤◌, Bool, true, false, List, [], ◌∷◌, ◌++◌, length, Option, Some, None, nat_eq, ap, ◌∙◌, arith, length-append}
 use Rattle.std.specs.Prelude.{codes}
 use Rattle.serde_json.specs.Data.{Data}
-use Rattle.irs_xml.specs.Comments.{rest_after, comment_text, cdata_text, instruction_text}
-use Rattle.irs_xml.specs.Namespaces.{Scope, Opening, is_opened, scope_in}
-use Rattle.irs_xml.specs.Private.Reading.{Got, ◌>>=◌, choose, skip_space, Inside, Mark, ending, commented, sectioned, instructed, nested, referred, standing, mark_at, markup_at, piece_at, content_at, closing_name_at, closing_at, filled_at, element_at, child_at, as_child, begun, with_one, with_text, with_character, comment_at, instruction_at, data_at, reference_at, tag_at}
-use Rattle.irs_xml.specs.Seen.{seen}
-use Rattle.irs_xml.specs.Tags.{tag_text}
-use Rattle.irs_xml.specs.Values.{Child, is_ours}
+use Rattle.irs_xml.specs.Characters.{rest_after, comment_text, cdata_text, instruction_text, seen}
+use Rattle.irs_xml.specs.Tags.{Scope, Opening, is_opened, scope_in, tag_text}
+use Rattle.irs_xml.specs.Private.Reading.{Got, ◌>>=◌, choose, skip_space, Inside, Mark, ending, commented, sectioned}
+use Rattle.irs_xml.specs.Private.Reading.{instructed, nested, referred, standing, mark_at, markup_at, piece_at}
+use Rattle.irs_xml.specs.Private.Reading.{content_at, closing_name_at, closing_at, filled_at, element_at, child_at}
+use Rattle.irs_xml.specs.Private.Reading.{as_child, begun, with_one, with_text, with_character, comment_at}
+use Rattle.irs_xml.specs.Private.Reading.{instruction_at, data_at, reference_at, tag_at}
+use Rattle.irs_xml.specs.Content.{Child, is_ours}
 use Rattle.irs_xml.proofs.Steps.{same_some, bind_some, choose_some, chosen, length_after, skip_sound, white_run}
 use Rattle.irs_xml.proofs.CommentLaws.{comment_sound, data_sound, instruction_sound}
 use Rattle.irs_xml.proofs.TagLaws.{end_text, tag_sound}

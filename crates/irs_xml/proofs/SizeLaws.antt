@@ -7,19 +7,19 @@ use Rattle.std.specs.Ordering.{match_ordering}
 use Rattle.std.specs.Str.{encode_utf8_all}
 use Rattle.serde_json.specs.Data.{Data, null, boolean, number, string, array, object, Items, no_items, item, Members, no_members, member, put}
 use Rattle.serde_json.specs.Find.{get_member}
-use Rattle.irs_xml.specs.Characters.{is_white, is_white_space, ends_after, without_mark}
-use Rattle.irs_xml.specs.Sizes.{text_size, items_size, members_size}
-use Rattle.irs_xml.specs.Comments.{cdata_text, comment_text, instruction_text}
-use Rattle.irs_xml.specs.Content.{Element, empty, full, element_text, Content, nothing, character, reference, cdata, comment, instruction, child, content_text}
-use Rattle.irs_xml.specs.Document.{Document, document_text, document_value, declaration_text, misc_text, rooted, root_value, XmlReads}
-use Rattle.irs_xml.specs.Names.{name_text}
-use Rattle.irs_xml.specs.Namespaces.{Setting, Scope, settings_of, first_scope}
-use Rattle.irs_xml.specs.References.{Reference, less, greater, ampersand, apostrophe, quotation, decimal, hexadecimal, reference_text, character_of}
-use Rattle.irs_xml.specs.Tags.{ValuePiece, plain, refers, piece_text, piece_character, pieces_text, pieces_value}
-use Rattle.irs_xml.specs.Tags.{Attribute, attribute_text, attributes_text, Tag, tag_text}
-use Rattle.irs_xml.specs.Values.{item_last, joined_values, without, with_child, with_children, Child, with_settings}
-use Rattle.irs_xml.specs.Values.{is_counted, leaf_value, value_from, element_data, named_child, both, element_child}
-use Rattle.irs_xml.specs.Values.{children_in, text_inside}
+use Rattle.irs_xml.specs.Characters.{is_white, is_white_space, ends_after, without_mark, cdata_text, comment_text}
+use Rattle.irs_xml.specs.Characters.{instruction_text, name_text, Reference, less, greater, ampersand, apostrophe}
+use Rattle.irs_xml.specs.Characters.{quotation, decimal, hexadecimal, reference_text, character_of}
+use Rattle.irs_xml.specs.Content.{text_size, items_size, members_size, Element, empty, full, element_text, Content}
+use Rattle.irs_xml.specs.Content.{nothing, character, reference, cdata, comment, instruction, child, content_text}
+use Rattle.irs_xml.specs.Content.{item_last, joined_values, without, with_child, with_children, Child, with_settings}
+use Rattle.irs_xml.specs.Content.{is_counted, leaf_value, value_from, element_data, named_child, both, element_child}
+use Rattle.irs_xml.specs.Content.{children_in, text_inside}
+use Rattle.irs_xml.specs.Document.{Document, document_text, document_value, declaration_text, misc_text, rooted}
+use Rattle.irs_xml.specs.Document.{root_value, XmlReads}
+use Rattle.irs_xml.specs.Tags.{Setting, Scope, settings_of, first_scope, ValuePiece, plain, refers, piece_text}
+use Rattle.irs_xml.specs.Tags.{piece_character, pieces_text, pieces_value, Attribute, attribute_text, attributes_text}
+use Rattle.irs_xml.specs.Tags.{Tag, tag_text}
 use Rattle.irs_xml.proofs.Steps.{same_some, chosen}
 
 -- values

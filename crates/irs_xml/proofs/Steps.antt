@@ -2,8 +2,7 @@
 use Rattle.std.proofs.Common.{◌≡◌, ◌≢◌, ◌⊎◌, inl, inr, ℕ, ◌+◌, Bool, true, false, cond, ◌&&◌, List, [], ◌∷◌, ◌++◌, length, Option, Some, None, nat_eq, refl, sym, ap, ◌∙◌, arith}
 use Rattle.std.proofs.lemmas.Bool.{cases_Bool}
 use Rattle.std.proofs.lemmas.Bool.Decides.{nat_tests}
-use Rattle.irs_xml.specs.Characters.{is_white_space, is_white, is_gap}
-use Rattle.irs_xml.specs.Comments.{rest_after}
+use Rattle.irs_xml.specs.Characters.{is_white_space, is_white, is_gap, rest_after}
 use Rattle.irs_xml.specs.Private.Reading.{◌>>=◌, choose, skip_space, gap_at, past}
 
 -- equal options have equal values

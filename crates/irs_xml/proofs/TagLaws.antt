@@ -7,17 +7,18 @@ use Rattle.std.specs.Char.{encode_utf8}
 use Rattle.std.specs.List.{list_all}
 use Rattle.std.specs.Prelude.{codes}
 use Rattle.std.specs.Str.{encode_utf8_all}
-use Rattle.irs_xml.specs.Characters.{is_white_space, is_white, is_gap}
-use Rattle.irs_xml.specs.Comments.{rest_after}
+use Rattle.irs_xml.specs.Characters.{is_white_space, is_white, is_gap, rest_after, is_name_start, is_name_char}
+use Rattle.irs_xml.specs.Characters.{is_nc_name, QName, name_text, prefixed, is_prefix, is_qname, Reference, less}
+use Rattle.irs_xml.specs.Characters.{greater, ampersand, apostrophe, quotation, decimal, hexadecimal, reference_text}
+use Rattle.irs_xml.specs.Characters.{character_of, is_reference}
 use Rattle.irs_xml.specs.Content.{most_attributes}
-use Rattle.irs_xml.specs.Names.{is_name_start, is_name_char, is_nc_name, QName, name_text, prefixed, is_prefix, is_qname}
-use Rattle.irs_xml.specs.Namespaces.{Setting, Opening, setting_of, settings_of, opening_of}
-use Rattle.irs_xml.specs.References.{Reference, less, greater, ampersand, apostrophe, quotation, decimal, hexadecimal, reference_text, character_of, is_reference}
-use Rattle.irs_xml.specs.Private.Reading.{Got, ◌>>=◌, choose, skip_space, gap_at, qname_at, reference_at, equals_at, quote_at, value_character_at, value_at, setting_at, tag_end_at, settings_at, tag_at}
-use Rattle.irs_xml.specs.Tags.{ValuePiece, plain, refers, piece_text, piece_character, is_piece, pieces_text}
-use Rattle.irs_xml.specs.Tags.{are_pieces}
-use Rattle.irs_xml.specs.Tags.{pieces_value, Attribute, attribute_text, is_quote, is_spaced_attribute, attributes_text}
-use Rattle.irs_xml.specs.Tags.{are_attributes, Tag, tag_text, is_tag}
+use Rattle.irs_xml.specs.Tags.{Setting, Opening, setting_of, settings_of, opening_of, ValuePiece, plain, refers}
+use Rattle.irs_xml.specs.Tags.{piece_text, piece_character, is_piece, pieces_text, are_pieces, pieces_value, Attribute}
+use Rattle.irs_xml.specs.Tags.{attribute_text, is_quote, is_spaced_attribute, attributes_text, are_attributes, Tag}
+use Rattle.irs_xml.specs.Tags.{tag_text, is_tag}
+use Rattle.irs_xml.specs.Private.Reading.{Got, ◌>>=◌, choose, skip_space, gap_at, qname_at, reference_at, equals_at}
+use Rattle.irs_xml.specs.Private.Reading.{quote_at, value_character_at, value_at, setting_at, tag_end_at, settings_at}
+use Rattle.irs_xml.specs.Private.Reading.{tag_at}
 use Rattle.irs_xml.proofs.Steps.{same_some, bind_some, choose_some, chosen, both_true, true_both, eq_true, true_eq, after_sound, begins, white_run, run_white, skip_sound, skip-white, gap_sound, gap_complete}
 use Rattle.irs_xml.proofs.NameLaws.{is_qname_char, qname_sound, qname_complete}
 use Rattle.irs_xml.proofs.ReferenceLaws.{reference_sound, reference_complete, tail}

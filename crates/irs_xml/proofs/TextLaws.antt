@@ -6,13 +6,9 @@ use Rattle.std.specs.Char.{encode_utf8}
 use Rattle.std.specs.List.{list_all}
 use Rattle.std.specs.Str.{chars, IsUtf8, all_scalars}
 use Rattle.serde_json.specs.Data.{Data}
-use Rattle.irs_xml.specs.Characters.{is_char, ends_after, line_ends, without_mark, IsText}
-use Rattle.irs_xml.specs.Comments.{rest_after}
-use Rattle.irs_xml.specs.Document.{XmlReads}
-use Rattle.irs_xml.specs.Places.{ReadsNone}
-use Rattle.irs_xml.specs.Private.Places.{IsNotXml}
-use Rattle.irs_xml.specs.Private.Reading.{Fails, Takes, document_at}
-use Rattle.irs_xml.specs.Seen.{seen}
+use Rattle.irs_xml.specs.Characters.{is_char, ends_after, line_ends, without_mark, IsText, rest_after, seen}
+use Rattle.irs_xml.specs.Document.{XmlReads, ReadsNone}
+use Rattle.irs_xml.specs.Private.Reading.{IsNotXml, Fails, Takes, document_at}
 use Rattle.irs_xml.specs.declared.failure.Failure.{Failure}
 use Rattle.irs_xml.specs.declared.failure.Failure.TheVariants.{NotXml as NotRead}
 use Rattle.irs_xml.specs.declared.reading.XmlErr.{XmlErr}

@@ -1,9 +1,9 @@
 -- How the value of an attribute goes on, a character after another.
 use Rattle.std.proofs.Common.{◌≡◌, ◌≢◌, inl, inr, ℕ, zero, suc, ◌<◌, ◌≤◌, cond, List, [], ◌∷◌, ◌++◌, length, Some, None, nat_eq, refl, sym, ap, ◌∙◌, arith, length-append}
 use Rattle.std.specs.Char.{encode_utf8}
-use Rattle.irs_xml.specs.Characters.{is_white_space}
+use Rattle.irs_xml.specs.Characters.{is_white_space, Reference, less, greater, ampersand, apostrophe, quotation}
+use Rattle.irs_xml.specs.Characters.{decimal, hexadecimal, reference_text}
 use Rattle.irs_xml.specs.Private.Reading.{reference_at, value_at, value_character_at}
-use Rattle.irs_xml.specs.References.{Reference, less, greater, ampersand, apostrophe, quotation, decimal, hexadecimal, reference_text}
 use Rattle.irs_xml.proofs.Steps.{same_some, chosen, true_eq, false_eq}
 use Rattle.irs_xml.proofs.ReferenceLaws.{reference_sound}
 

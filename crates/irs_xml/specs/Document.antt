@@ -1,16 +1,19 @@
--- A document: XML 1.0 (fifth edition), 2.1, 2.8 and 2.9. No document type is allowed, so no entity is declared.
-use Rattle.std.specs.Prelude.{◌≡◌, ℕ, Bool, true, false, ◌&&◌, List, [], ◌∷◌, ◌++◌, Option, Some, None}
-use Rattle.std.specs.Prelude.{if◌then◌else◌, codes, map, nat_eq}
+-- Documents, and places in a text.
+use Rattle.std.specs.Prelude.{◌≡◌, ℕ, Bool, true, false, ◌&&◌, List, [], ◌∷◌, ◌++◌, Option, Some, None, if◌then◌else◌}
+use Rattle.std.specs.Prelude.{codes, map, nat_eq, ◌+◌, ◌≤◌, ◌==◌, length, take}
 use Rattle.std.specs.List.{starts_with}
 use Rattle.std.specs.Char.{to_ascii_lowercase}
 use Rattle.std.specs.Str.{bytes_eq}
 use Rattle.serde_json.specs.Data.{Data, object, no_members, member}
-use Rattle.irs_xml.specs.Characters.{is_white_space, is_white, is_gap, line_ends, without_mark, IsText}
-use Rattle.irs_xml.specs.Comments.{is_comment_text, comment_text, Instruction, is_instruction, instruction_text}
-use Rattle.irs_xml.specs.Content.{Element, empty, full, element_text, IsElement, most_levels}
-use Rattle.irs_xml.specs.Namespaces.{Opening, opening_of, first_scope, scope_in, namespace_of}
-use Rattle.irs_xml.specs.Tags.{Tag, is_quote}
-use Rattle.irs_xml.specs.Values.{Child, element_child}
+use Rattle.irs_xml.specs.Characters.{is_white_space, is_white, is_gap, line_ends, without_mark, IsText, is_comment_text}
+use Rattle.irs_xml.specs.Characters.{comment_text, Instruction, is_instruction, instruction_text}
+use Rattle.irs_xml.specs.Content.{Element, empty, full, element_text, IsElement, most_levels, Child, element_child}
+use Rattle.irs_xml.specs.Tags.{Opening, opening_of, first_scope, scope_in, namespace_of, Tag, is_quote}
+use Rattle.irs_xml.specs.declared.reading.XmlErr.{XmlErr}
+use Rattle.irs_xml.specs.declared.reading.XmlErr.TheVariants.{NotXml, Memory}
+
+-- ---- a document: XML 1.0 (fifth edition), 2.1, 2.8 and 2.9
+-- No document type is allowed, so no entity is declared.
 
 -- a name and a quoted word of the declaration, with the white space round them
 pub record Pair : Type 0 where
@@ -156,3 +159,25 @@ pub record XmlReads (bytes : List ℕ) (value : Data) : Type 0 where
   pub well_formed : IsDocument document
   pub spelt : line_ends (without_mark characters) ≡ document_text document
   pub means : document_value document ≡ Some value
+
+-- ---- lines and columns of a text, from 1
+
+-- the place after bytes that begin at this place: LF ends a line
+abbrev pub place_after : ℕ → ℕ → List ℕ → ℕ × ℕ
+place_after line column [] = (line, column)
+place_after line column (b ∷ bs) =
+    if b == 10 then place_after (line + 1) 1 bs else place_after line (column + 1) bs
+
+-- the line and the column are those of a byte of the text, or of its end
+abbrev pub LiesIn : List ℕ → ℕ → ℕ → Type 0
+LiesIn bytes line column = (n : ℕ) × (n ≤ length bytes) × (place_after 1 1 (take n bytes) ≡ (line, column))
+
+-- where an error is about the text, its place lies in the text
+abbrev pub PlaceIn : List ℕ → XmlErr → Type 0
+PlaceIn bytes (NotXml line column) = LiesIn bytes line column
+PlaceIn bytes Memory = Unit {0}
+
+-- where an error is about the text, it has no reading
+abbrev pub ReadsNone : List ℕ → XmlErr → Type 0
+ReadsNone bytes (NotXml line column) = (d : Data) → ¬ (XmlReads bytes d)
+ReadsNone bytes Memory = Unit {0}

@@ -1,13 +1,5 @@
 pub mod Characters
-pub mod Names
-pub mod References
-pub mod Comments
 pub mod Tags
-pub mod Namespaces
 pub mod Content
-pub mod Values
 pub mod Document
-pub mod Places
-pub mod Seen
-pub mod Sizes
 pub mod Private

@@ -1,7 +1,7 @@
 //! Classes of characters: XML 1.0 (fifth edition), 2.2 and 2.3.
 ghost use Rattle.irs_xml.specs.Characters.{is_char as is_char_of, is_white_space as is_space_of};
-ghost use Rattle.irs_xml.specs.Names.{is_name_char as is_name_char_of, is_name_start as is_name_start_of};
-ghost use Rattle.irs_xml.specs.Private.Plain.{IsPlain};
+ghost use Rattle.irs_xml.specs.Characters.{is_name_char as is_name_char_of, is_name_start as is_name_start_of};
+ghost use Rattle.irs_xml.specs.Private.Reading.{IsPlain};
 ghost use Rattle.std.specs.Prelude.{◌≡◌, ◌<◌, IsTrue, true};
 
 /// XML allows the character.
@@ -21,7 +21,7 @@ pub(crate) fn is_space(c: char) -> bool
 }
 
 /// The first character of a name, which isn't a colon here.
-#[tactic(auto, unfolding(crate::specs::Names::is_name_start))]
+#[tactic(auto, unfolding(crate::specs::Characters::is_name_start))]
 pub(crate) fn is_name_start(c: char) -> bool
     ensures { result ≡ is_name_start_of c }
 {
@@ -35,7 +35,7 @@ pub(crate) fn is_name_start(c: char) -> bool
 }
 
 /// A later character of a name, which isn't a colon here.
-#[tactic(auto, unfolding(crate::specs::Names::is_name_char))]
+#[tactic(auto, unfolding(crate::specs::Characters::is_name_char))]
 pub(crate) fn is_name_char(c: char) -> bool
     ensures { result ≡ is_name_char_of c }
 {
@@ -52,7 +52,7 @@ pub(crate) fn is_ascii_char(byte: u8) -> bool
 }
 
 /// A byte that is a later character of a name.
-#[tactic(auto, unfolding(crate::specs::Names::is_name_char, crate::specs::Names::is_name_start))]
+#[tactic(auto, unfolding(crate::specs::Characters::is_name_char, crate::specs::Characters::is_name_start))]
 pub(crate) fn is_ascii_name(byte: u8) -> bool
     ensures { IsTrue result → ((byte < 128) × (is_name_char_of byte ≡ true)) }
 {

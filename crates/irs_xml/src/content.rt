@@ -1,12 +1,10 @@
 //! Elements and their content: XML 1.0 (fifth edition), 3 and 3.1.
-ghost use Rattle.irs_xml.specs.Comments.{rest_after};
-ghost use Rattle.irs_xml.specs.Private.InsideViews.{inside_view};
-ghost use Rattle.irs_xml.specs.Private.MarkViews.{mark_view};
-ghost use Rattle.irs_xml.specs.Private.Plain.{PlainPieces};
-ghost use Rattle.irs_xml.specs.Private.Reading.{Gives, Passes, Reads, child_at, closing_at, closing_name_at, content_at, element_at, filled_at, mark_at, markup_at, piece_at};
-ghost use Rattle.irs_xml.specs.Seen.{seen};
+ghost use Rattle.irs_xml.specs.Characters.{rest_after, seen};
+ghost use Rattle.irs_xml.specs.Private.Reading.{inside_view, mark_view, PlainPieces, Gives, Passes, Reads, child_at};
+ghost use Rattle.irs_xml.specs.Private.Reading.{closing_at, closing_name_at, content_at, element_at, filled_at};
+ghost use Rattle.irs_xml.specs.Private.Reading.{mark_at, markup_at, piece_at};
 ghost use Rattle.irs_xml.specs.Private.TagViews.{opening_view, scope_view, tag_view};
-ghost use Rattle.irs_xml.specs.Values.{is_ours as is_ours_of};
+ghost use Rattle.irs_xml.specs.Content.{is_ours as is_ours_of};
 ghost use Rattle.serde_json.specs.View.{view};
 ghost use Rattle.std.specs.Prelude.{◌≡◌, OnOk, Some, length, string_bytes};
 

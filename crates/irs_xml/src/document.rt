@@ -1,9 +1,10 @@
 //! Documents: XML 1.0 (fifth edition), 2.1, 2.8 and 2.9.
 ghost use Rattle.irs_xml.specs.Document.{is_fpml as is_fpml_of, root_key as root_key_of};
-ghost use Rattle.irs_xml.specs.Namespaces.{namespace_of};
-ghost use Rattle.irs_xml.specs.Private.Reading.{Gives, GivesValue, Passes, Takes, declaration_at, declared_at, document_at, misc_at, name_behind, opening_at, pair_at, quoted_at, root_at, root_by, standalone_at};
+ghost use Rattle.irs_xml.specs.Tags.{namespace_of};
+ghost use Rattle.irs_xml.specs.Private.Reading.{Gives, GivesValue, Passes, Takes, declaration_at, declared_at};
+ghost use Rattle.irs_xml.specs.Private.Reading.{document_at, misc_at, name_behind, opening_at, pair_at, quoted_at};
+ghost use Rattle.irs_xml.specs.Private.Reading.{root_at, root_by, standalone_at, word_at};
 ghost use Rattle.irs_xml.specs.Private.TagViews.{scope_view, tag_view};
-ghost use Rattle.irs_xml.specs.Private.WordViews.{word_at};
 ghost use Rattle.serde_json.specs.Data.{member, no_members, object};
 ghost use Rattle.serde_json.specs.View.{view};
 ghost use Rattle.std.specs.Prelude.{◌≡◌, IfOk, Some, length, suc};

@@ -1,9 +1,9 @@
 //! What is read of an element, and its value.
-ghost use Rattle.irs_xml.specs.Private.InsideViews.{inside_view};
+ghost use Rattle.irs_xml.specs.Private.Reading.{inside_view, begun as begun_of, finished, with_character, with_one};
+ghost use Rattle.irs_xml.specs.Private.Reading.{GivesValue};
 ghost use Rattle.irs_xml.specs.Characters.{is_white_space, is_white as is_white_of};
-ghost use Rattle.irs_xml.specs.Private.Reading.{begun as begun_of, finished, with_character, with_one, GivesValue};
 ghost use Rattle.irs_xml.specs.Private.TagViews.{setting_view};
-ghost use Rattle.irs_xml.specs.Values.{key_of, leaf_value};
+ghost use Rattle.irs_xml.specs.Content.{key_of, leaf_value};
 ghost use Rattle.serde_json.specs.Data.{object, put as put_member, string};
 ghost use Rattle.serde_json.specs.View.{members_view, view};
 ghost use Rattle.std.specs.Prelude.{◌≡◌, IfOk, OnOk, codes, map, string_bytes};

@@ -1,8 +1,8 @@
 //! The members of an element's value, one after another.
 
 ghost use Rattle.irs_xml.specs.Private.TagViews.{setting_view};
-ghost use Rattle.irs_xml.specs.Values.{is_counted as is_counted_of, item_last, joined_values, with_child};
-ghost use Rattle.irs_xml.specs.Values.{with_settings};
+ghost use Rattle.irs_xml.specs.Content.{is_counted as is_counted_of, item_last, joined_values, with_child};
+ghost use Rattle.irs_xml.specs.Content.{with_settings};
 ghost use Rattle.serde_json.specs.Data.{array, item, no_items, no_members, put, string};
 ghost use Rattle.serde_json.specs.View.{items_view, members_view, view};
 ghost use Rattle.std.specs.Prelude.{◌≡◌, ◌∷◌, IfOk, OnOk, map, option_map, string_bytes};

@@ -1,12 +1,11 @@
 //! Which namespace a prefix names, and what a tag may declare: Namespaces in XML 1.0 (third
 //! edition).
-ghost use Rattle.irs_xml.specs.Namespaces.{attribute_namespace as attribute_namespace_of, are_unlike as are_unlike_of};
-ghost use Rattle.irs_xml.specs.Namespaces.{declarations, declared_prefix as declared_prefix_of, first_scope};
-ghost use Rattle.irs_xml.specs.Namespaces.{is_declaration as is_declaration_of, is_lawful as is_lawful_of};
-ghost use Rattle.irs_xml.specs.Namespaces.{is_opened_in, is_same_namespace as is_same_of};
-ghost use Rattle.irs_xml.specs.Namespaces.{may_declare as may_declare_of, namespace_of};
-ghost use Rattle.irs_xml.specs.Private.Resolved.{are_distinct, is_alike, resolve as resolve_of};
-ghost use Rattle.irs_xml.specs.Private.TagViews.{opening_view, resolved_view, scope_view, setting_view};
+ghost use Rattle.irs_xml.specs.Tags.{attribute_namespace as attribute_namespace_of, are_unlike as are_unlike_of};
+ghost use Rattle.irs_xml.specs.Tags.{declarations, declared_prefix as declared_prefix_of, first_scope};
+ghost use Rattle.irs_xml.specs.Tags.{is_declaration as is_declaration_of, is_lawful as is_lawful_of, is_opened_in};
+ghost use Rattle.irs_xml.specs.Tags.{is_same_namespace as is_same_of, may_declare as may_declare_of, namespace_of};
+ghost use Rattle.irs_xml.specs.Private.TagViews.{are_distinct, is_alike, resolve as resolve_of, opening_view};
+ghost use Rattle.irs_xml.specs.Private.TagViews.{resolved_view, scope_view, setting_view};
 ghost use Rattle.std.specs.List.{list_all, list_any};
 ghost use Rattle.std.specs.Option.{option_map};
 ghost use Rattle.std.specs.Str.{bytes_eq};
@@ -20,7 +19,7 @@ const XML_NAMESPACE: &str = "http://www.w3.org/XML/1998/namespace";
 const XMLNS_NAMESPACE: &str = "http://www.w3.org/2000/xmlns/";
 
 /// What is in scope round the root: no default, and the two prefixes that are bound by definition.
-#[tactic(auto, unfolding(crate::specs::Namespaces::first_scope))]
+#[tactic(auto, unfolding(crate::specs::Tags::first_scope))]
 pub(crate) fn first_declarations<'a>(alloc: Global) -> Result<Vec<Declaration<'a>>, AllocError>
     ensures { IfOk result (λ v. scope_view v.items ≡ first_scope) }
 {
@@ -70,7 +69,7 @@ pub(crate) fn declare_all<'a>(
 }
 
 // The prefix that a declaration declares, empty for the default.
-#[tactic(auto, unfolding(crate::specs::Namespaces::declared_prefix))]
+#[tactic(auto, unfolding(crate::specs::Tags::declared_prefix))]
 fn declared_prefix<'a>(setting: &Setting<'a>) -> &'a str
     ensures { result.now ≡ declared_prefix_of (setting_view setting.now) }
 {
@@ -82,7 +81,7 @@ fn declared_prefix<'a>(setting: &Setting<'a>) -> &'a str
 }
 
 /// The attribute declares a namespace.
-#[tactic(auto, unfolding(crate::specs::Namespaces::is_declaration))]
+#[tactic(auto, unfolding(crate::specs::Tags::is_declaration))]
 pub(crate) fn is_declaration(setting: &Setting<'_>) -> bool
     ensures { result ≡ is_declaration_of (setting_view setting.now) }
 {
@@ -113,7 +112,7 @@ pub(crate) fn namespace<'s>(scope: &'s [Declaration<'_>], prefix: &str) -> Optio
 }
 
 // A namespace may be declared by that prefix.
-#[tactic(auto, unfolding(crate::specs::Namespaces::may_declare))]
+#[tactic(auto, unfolding(crate::specs::Tags::may_declare))]
 fn may_declare(prefix: &str, namespace: &str) -> bool
     ensures { result ≡ may_declare_of prefix.now namespace.now }
 {
@@ -124,7 +123,7 @@ fn may_declare(prefix: &str, namespace: &str) -> bool
 }
 
 // What the attribute declares, if it does, may be declared.
-#[tactic(auto, unfolding(crate::specs::Namespaces::is_lawful))]
+#[tactic(auto, unfolding(crate::specs::Tags::is_lawful))]
 fn is_lawful(setting: &Setting<'_>) -> bool
     ensures { result ≡ is_lawful_of (setting_view setting.now) }
 {

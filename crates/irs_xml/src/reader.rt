@@ -1,9 +1,8 @@
 //! The characters of a text, one after another.
-ghost use Rattle.irs_xml.specs.Comments.{rest_after};
-ghost use Rattle.irs_xml.specs.Private.Reading.{EndsName, NameOf, SplitsName, Takes, after_any_case, gap_at, name_at, skip_space as behind_space, Reads};
-ghost use Rattle.irs_xml.specs.Private.Plain.{PlainTaken, SplitsPlain};
-ghost use Rattle.irs_xml.specs.Seen.{seen};
-ghost use Rattle.irs_xml.specs.Private.Seen.{FirstOf, Uncons};
+ghost use Rattle.irs_xml.specs.Characters.{rest_after, seen};
+ghost use Rattle.irs_xml.specs.Private.Reading.{EndsName, NameOf, SplitsName, Takes, after_any_case, gap_at, name_at};
+ghost use Rattle.irs_xml.specs.Private.Reading.{skip_space as behind_space, Reads, PlainTaken, SplitsPlain, FirstOf};
+ghost use Rattle.irs_xml.specs.Private.Reading.{Uncons};
 ghost use Rattle.std.specs.Prelude.{◌≡◌, [], ◌∷◌, IfSome, Some};
 
 use crate::chars::{is_ascii_name, is_name_char, is_name_start, is_plain, is_space};
@@ -17,7 +16,7 @@ pub(crate) struct Reader<'a> {
 
 impl<'a> Model for Reader<'a> {
     ghost use Rattle.std.specs.Prelude.{ℕ, List};
-    ghost use Rattle.irs_xml.specs.Seen.{seen};
+    ghost use Rattle.irs_xml.specs.Characters.{seen};
 
     ghost Value = { List ℕ };
 

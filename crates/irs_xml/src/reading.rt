@@ -1,10 +1,8 @@
 //! The value that the bytes of an FpML document in XML mean.
 ghost use Rattle.irs_xml.specs.Characters.{is_char as is_char_of, without_mark};
-ghost use Rattle.irs_xml.specs.Document.{XmlReads};
-ghost use Rattle.irs_xml.specs.Places.{PlaceIn, ReadsNone};
-ghost use Rattle.irs_xml.specs.Private.Places.{IsNotXml};
-ghost use Rattle.irs_xml.specs.Private.Reading.{GivesValue, document_at};
-ghost use Rattle.irs_xml.specs.Sizes.{text_size};
+ghost use Rattle.irs_xml.specs.Document.{XmlReads, PlaceIn, ReadsNone};
+ghost use Rattle.irs_xml.specs.Private.Reading.{IsNotXml, GivesValue, document_at};
+ghost use Rattle.irs_xml.specs.Content.{text_size};
 ghost use Rattle.serde_json.specs.Data.{Data};
 ghost use Rattle.serde_json.specs.View.{view};
 ghost use Rattle.std.specs.List.{list_all};

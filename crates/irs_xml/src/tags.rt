@@ -1,5 +1,6 @@
 //! Tags, after their `<`: XML 1.0 (fifth edition), 3.1 and 3.3.3.
-ghost use Rattle.irs_xml.specs.Private.Reading.{Gives, Passes, Reads, Tries, equals_at, qname_at, quote_at, setting_at, settings_at, tag_at, tag_end_at, value_at, value_character_at};
+ghost use Rattle.irs_xml.specs.Private.Reading.{Gives, Passes, Reads, Tries, equals_at, qname_at, quote_at, setting_at};
+ghost use Rattle.irs_xml.specs.Private.Reading.{settings_at, tag_at, tag_end_at, value_at, value_character_at};
 ghost use Rattle.irs_xml.specs.Characters.{is_white_space as is_space_of};
 ghost use Rattle.irs_xml.specs.Content.{most_attributes};
 ghost use Rattle.irs_xml.specs.Private.TagViews.{setting_view, tag_view};

@@ -1,10 +1,14 @@
 -- Private: no public contract rests on this file.
--- Two lists of rows in the order of their dates, cut into blocks of rows that belong together.
-use Rattle.std.specs.Prelude.{◌≡◌, ◌⊎◌, ℕ, ◌+◌, ◌-◌, ◌<◌, ◌≤◌, List, length, Option, Some, None, ℤ, ◌<ℤ◌}
-use Rattle.irs_breaks.specs.Pairing.{ArePaired}
+-- Of private functions: two lists of rows, merged block by block.
+use Rattle.std.specs.Prelude.{◌≡◌, ◌⊎◌, ℕ, ◌+◌, ◌-◌, ◌<◌, ◌≤◌, List, length, Option, Some, None, ℤ, ◌<ℤ◌, ◌≤ℤ◌, ◌≢◌}
+use Rattle.std.specs.List.{Contains}
+use Rattle.irs_breaks.specs.Pairing.{ArePaired, At, AreRowsInOrder, ComesBefore, row_of_ours, row_of_theirs}
+use Rattle.irs_breaks.specs.Pairing.{IsListedRow, undated_ours, undated_theirs}
 use Rattle.irs_breaks.specs.declared.blocks.Block.{Block}
 use Rattle.irs_breaks.specs.declared.dated.DatedRow.{DatedRow}
-use Rattle.irs_breaks.specs.Blocks.{At}
+use Rattle.irs_breaks.specs.declared.dated.PairedRow.{PairedRow}
+
+-- ---- two lists of rows in the order of their dates, cut into blocks of rows that belong together
 
 -- a row comes before another: by its date, then by its place
 abbrev pub IsEarlier : DatedRow → DatedRow → Type 0
@@ -110,3 +114,64 @@ MeetsAt ours theirs p q =
 abbrev pub IsPartner : List DatedRow → List DatedRow → DatedRow → Option ℕ → Type 0
 IsPartner ours theirs x None = (y : DatedRow) → ¬ (ArePaired ours theirs x y)
 IsPartner ours theirs x (Some n) = (y : DatedRow) × ArePaired ours theirs x y × (n ≡ y.place)
+
+-- ---- how far two lists of rows have been merged into one
+
+-- a row of theirs has no partner
+abbrev pub IsAlone : List DatedRow → List DatedRow → DatedRow → Type 0
+IsAlone ours theirs y = (x : DatedRow) → ¬ (ArePaired ours theirs x y)
+
+-- a row of ours with its partner, or one of theirs that has none
+abbrev pub IsDatedRow : List DatedRow → List DatedRow → PairedRow → Type 0
+IsDatedRow ours theirs m =
+    ((x : DatedRow) × (o : Option ℕ) × Contains ours x × IsPartner ours theirs x o × (m ≡ row_of_ours x o))
+    ⊎ ((y : DatedRow) × Contains theirs y × IsAlone ours theirs y × (m ≡ row_of_theirs y))
+
+-- the rows list those of ours before the place p and those of theirs before the place q, in order
+pub record IsMergedTo (ours theirs : List DatedRow) (p q : ℕ) (rows : List PairedRow) : Type 0 where
+  pub sound : (m : PairedRow) → Contains rows m → IsDatedRow ours theirs m
+  pub of_ours : (k : ℕ) (x : DatedRow) → k < p → At ours k x
+      → (o : Option ℕ) × IsPartner ours theirs x o × Contains rows (row_of_ours x o)
+  pub of_theirs : (k : ℕ) (y : DatedRow) → k < q → At theirs k y → IsAlone ours theirs y → Contains rows (row_of_theirs y)
+  pub in_order : AreRowsInOrder rows
+  pub before_ours : (m : PairedRow) → Contains rows m → (k : ℕ) (x : DatedRow) (o : Option ℕ) → p ≤ k → At ours k x
+      → ComesBefore m (row_of_ours x o)
+  pub before_theirs : (m : PairedRow) → Contains rows m → (k : ℕ) (y : DatedRow) → q ≤ k → At theirs k y
+      → ComesBefore m (row_of_theirs y)
+
+-- the row of theirs at the place q has an earlier date than the rows of ours from the place p on
+abbrev pub IsBeforeAll : List DatedRow → ℕ → List DatedRow → ℕ → Type 0
+IsBeforeAll ours p theirs q = (k : ℕ) (x y : DatedRow) → p ≤ k → At ours k x → At theirs q y → y.day <ℤ x.day
+
+-- there is a row of ours at the place p, and the row of theirs at the place q hasn't an earlier date
+abbrev pub IsNotBefore : List DatedRow → ℕ → List DatedRow → ℕ → Type 0
+IsNotBefore ours p theirs q =
+    (p < length ours) × ((x y : DatedRow) → At ours p x → At theirs q y → x.day ≤ℤ y.day)
+
+-- merged so far, and no row of theirs from the place q on has an earlier date than the row of ours at p
+pub record IsMergedBefore (ours theirs : List DatedRow) (p q : ℕ) (rows : List PairedRow) : Type 0 where
+  pub merged : IsMergedTo ours theirs p q rows
+  pub not_before : (k : ℕ) (x y : DatedRow) → q ≤ k → At ours p x → At theirs k y → x.day ≤ℤ y.day
+  pub all : p ≡ length ours → length theirs ≤ q
+
+-- ---- how far the rows without a date have been listed after the others
+
+-- the rows list those with a date, then those without: ours before the place i, theirs before the place j
+pub record AreListedTo (from : ℤ) (ours theirs : List (Option ℤ)) (i j : ℕ) (rows : List PairedRow) : Type 0 where
+  pub sound : (m : PairedRow) → Contains rows m → IsListedRow from ours theirs m
+  pub dated : (m : PairedRow) → IsListedRow from ours theirs m → m.day ≢ None → Contains rows m
+  pub of_ours : (n : ℕ) → n < i → At ours n None → Contains rows (undated_ours n)
+  pub of_theirs : (n : ℕ) → n < j → At theirs n None → Contains rows (undated_theirs n)
+  pub in_order : AreRowsInOrder rows
+  pub before_ours : (m : PairedRow) → Contains rows m → (n : ℕ) → i ≤ n → n < length ours → ComesBefore m (undated_ours n)
+  pub before_theirs : (m : PairedRow) → Contains rows m → (n : ℕ) → j ≤ n → ComesBefore m (undated_theirs n)
+
+-- our rows without a date, before the place n, were added to the list of those with a date
+abbrev pub ListsUndated : List (Option ℤ) → List PairedRow → List PairedRow → ℕ → Type 0
+ListsUndated ours old new n = (from : ℤ) (theirs : List (Option ℤ)) → AreListedTo from ours theirs 0 0 old
+    → AreListedTo from ours theirs n 0 new
+
+-- their rows without a date, before the place n, were added after all of ours
+abbrev pub ListsUndatedExtras : List (Option ℤ) → List PairedRow → List PairedRow → ℕ → Type 0
+ListsUndatedExtras theirs old new n = (from : ℤ) (ours : List (Option ℤ))
+    → AreListedTo from ours theirs (length ours) 0 old → AreListedTo from ours theirs (length ours) n new

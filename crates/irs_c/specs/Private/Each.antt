@@ -4,13 +4,12 @@ use Rattle.std.specs.Prelude.{◌≡◌, ℕ, List, [], ◌∷◌, ◌++◌, Res
 use Rattle.std.specs.Prelude.{String}
 use Rattle.std.specs.declared.alloc.Global.{Global}
 use Rattle.irs_cli.specs.Commands.{Words, word_texts}
-use Rattle.irs_cli.specs.Sharing.{IsCommon}
+use Rattle.irs_cli.specs.Given.{IsCommon}
 use Rattle.irs_answers.specs.declared.common.Common.{Common}
-use Rattle.irs_c.specs.Given.{file_in, gives_in}
+use Rattle.irs_c.specs.Each.{file_in, gives_in, Outcome, status_alone, IsRun}
 use Rattle.irs_c.specs.declared.given.File.{File}
 use Rattle.irs_c.specs.declared.given.Trade.{Trade}
 use Rattle.irs_c.specs.declared.telling.Told.{Told}
-use Rattle.irs_c.specs.Each.{Outcome, status_alone, IsRun}
 
 -- what the code keeps of what a run comes to
 abbrev pub outcome_by : Told → Outcome

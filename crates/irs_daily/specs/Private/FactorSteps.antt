@@ -1,17 +1,26 @@
 -- Private: no public contract rests on this file.
--- One step of a factor, and what is known of it through the observations.
-use Rattle.std.specs.Prelude.{◌≡◌, ℕ, ◌+◌, ◌*◌, ◌^◌, ◌<◌, ◌≤◌, List, Option, Some, None, ℤ, pos, ◌+ℤ◌, ◌*ℤ◌, unsigned_abs}
-use Rattle.irs_base.specs.Rounding.{Rounded}
+-- Of private functions: factors, one observation after another, and what they come to.
+use Rattle.std.specs.Prelude.{◌≡◌, ℕ, ◌+◌, ◌*◌, ◌^◌, ◌<◌, ◌≤◌, List, Option, Some, None, ℤ, pos, ◌+ℤ◌, ◌*ℤ◌}
+use Rattle.std.specs.Prelude.{unsigned_abs, ◌∷◌}
+use Rattle.irs_base.specs.Limits.{Rounded}
 use Rattle.irs_base.specs.declared.rounding.Direction.TheVariants.{Nearest}
-use Rattle.irs_observed.specs.DailyRates.{AreKnown, DailyRates}
-use Rattle.irs_observed.specs.Factors.{one_factor, unit_rate}
-use Rattle.irs_observed.specs.ObservedRates.{PassesLimit, days_of_year, rate_precision}
+use Rattle.irs_base.specs.Outcomes.{Spec}
+use Rattle.irs_resets.specs.Rates.{RateTable}
+use Rattle.irs_observed.specs.ObservedRates.{AreKnown, DailyRates, one_factor, unit_rate, PassesLimit, days_of_year}
+use Rattle.irs_observed.specs.ObservedRates.{rate_precision}
 use Rattle.irs_observed.specs.declared.method.DailyRateMethod.{DailyRateMethod}
 use Rattle.irs_observed.specs.declared.method.DailyRateMethod.TheVariants.{Compounding, Averaging}
 use Rattle.irs_observed.specs.declared.observation.Observation.{Observation}
-use Rattle.irs_daily.specs.PeriodFactors.{IsFactor}
+use Rattle.irs_observed.specs.Observations.{ObservedPeriod}
+use Rattle.irs_observed.specs.OvernightRates.{OvernightSource}
+use Rattle.irs_daily.specs.ObservedRows.{IsFactor, AreDailyRows, AreRowsBy, AreRowsOf, HasNoDailyRows, HasNoRows}
 use Rattle.irs_daily.specs.declared.growth.Growth.{Growth}
 use Rattle.irs_daily.specs.declared.growth.Growth.TheVariants.{Known, Passed, Absent}
+use Rattle.irs_daily.specs.declared.periods.PeriodRows.{PeriodRows}
+use Rattle.irs_daily.specs.declared.rows.NoRowsWhy.{NoRowsWhy}
+use Rattle.irs_daily.specs.declared.rows.NoRowsWhy.TheVariants.{OutOfRange}
+
+-- ---- one step of a factor, and what is known of it through the observations
 
 -- the factor before the first observation, or the empty sum
 abbrev pub first_factor : DailyRateMethod → ℤ
@@ -54,3 +63,29 @@ abbrev pub IsGrowthOf : DailyRateMethod → DailyRates → List Observation → 
 IsGrowthOf method daily os (Known f) = (PassesLimit method daily os → ⊥) × IsFactor method daily os f
 IsGrowthOf method daily os Passed = PassesLimit method daily os
 IsGrowthOf method daily os Absent = AreKnown daily os → ⊥
+
+-- ---- what the rows of a stream with calculation parameters are, and why it may have none
+
+-- ---- one period
+
+-- the rows of period i by its observations, and no factor passes the limit; or the reason that one does
+abbrev pub rows_by_of : DailyRateMethod → DailyRates → ℕ → List Observation → Spec PeriodRows NoRowsWhy
+rows_by_of method daily i os = record {
+  Answers = λ r. (PassesLimit method daily os → ⊥) × AreRowsBy method daily i os (r.head ∷ r.days);
+  Refuses = λ why. (why ≡ OutOfRange) × PassesLimit method daily os;
+}
+
+-- the rows of a calculation period that takes daily rates, or why it has none
+abbrev pub daily_rows_of : DailyRateMethod → DailyRates → ObservedPeriod → ℕ → Spec PeriodRows NoRowsWhy
+daily_rows_of method daily p i = record {
+  Answers = λ r. ((why : NoRowsWhy) → HasNoDailyRows method daily p why → ⊥)
+      × AreDailyRows method daily p i (r.head ∷ r.days);
+  Refuses = HasNoDailyRows method daily p;
+}
+
+-- the rows of period i, or why it has none
+abbrev pub period_rows_of : OvernightSource → RateTable → ℕ → Spec PeriodRows NoRowsWhy
+period_rows_of source rates i = record {
+  Answers = λ r. ((why : NoRowsWhy) → HasNoRows source rates i why → ⊥) × AreRowsOf source rates i (r.head ∷ r.days);
+  Refuses = HasNoRows source rates i;
+}

@@ -1,13 +1,36 @@
 -- Private: no public contract rests on this file.
--- A period has one number of days and one fraction by a code; its denominator depends on the code alone.
-use Rattle.std.proofs.Common.{◌≡◌, Bool, ℤ, pos, negsuc, ◌-ℤ◌, ◌<ℤ◌, unsigned_abs, arith, refl, sym, ◌∙◌}
+-- Of private functions: a day's place, and the laws of fractions.
+use Rattle.std.specs.Prelude.{ℕ, ◌+◌, ◌*◌, if◌then◌else◌, ℤ, pos}
+use Rattle.jiff_core.specs.Calendar.{is_leap_year}
+use Rattle.std.proofs.Common.{◌≡◌, Bool, negsuc, ◌-ℤ◌, ◌<ℤ◌, unsigned_abs, arith, refl, sym, ◌∙◌}
 use Rattle.jiff_core.proofs.SignedLemmas.{signed_arith}
+use Rattle.irs_base.specs.Days.{last_year, year_part}
 use Rattle.irs_terms.specs.declared.results.Frac.{Frac}
 use Rattle.irs_terms.specs.declared.codes.DayCountCode.{DayCountCode}
 use Rattle.irs_terms.specs.declared.codes.DayCountCode.TheVariants.{OneOne, ActActIsda, Act365Fixed, Act360, Thirty360}
 use Rattle.irs_terms.specs.declared.codes.DayCountCode.TheVariants.{ThirtyE360, ThirtyE360Isda}
-use Rattle.irs_daycount.specs.Fractions.{Days, Fraction, days_of, fraction_of, denominator_of}
+use Rattle.irs_daycount.specs.Fractions.{act_act_denominator, Days, Fraction, days_of, fraction_of, denominator_of}
 use Rattle.irs_daycount.specs.FractionLaws.{one_fraction}
+
+-- ---- a day's place: years of 365 * 366 parts, each day of a year as many parts as the other kind of year has days
+
+-- the parts of one day of the year
+abbrev pub weight_of : ℕ → ℕ
+weight_of year = if is_leap_year (pos year) then 365 else 366
+
+-- the place where the day begins that is `days` days after 1 January of the year
+abbrev pub place_at : ℕ → ℕ → ℕ
+place_at year days = act_act_denominator * year + days * weight_of year
+
+-- where the day begins
+abbrev pub place_of_day : ℤ → ℕ
+place_of_day d = place_at (year_part d).0 (year_part d).1
+
+-- no day begins later: the end of the last year that there is
+abbrev pub most_place : ℕ
+most_place = act_act_denominator * (last_year + 1)
+
+-- ---- a period has one number of days and one fraction by a code; its denominator depends on the code alone
 
 -- a number above 0 is its own size
 later : (z : ℤ) → pos 0 <ℤ z → z ≡ pos (unsigned_abs z)

@@ -1,18 +1,58 @@
--- How the walk goes: which leaves it passes at a glance, where the members of an object end, and the faults of parts.
+-- Private: no public contract rests on this file.
+-- Of private functions: how a value is walked by the table of elements.
+use Rattle.std.specs.List.{list_all}
+use Rattle.std.specs.Prelude.{ℕ, nat_lt, nat_le, ◌&&◌, List, length, Option, Some, None, if◌then◌else◌, Bool, [], ◌≡◌}
+use Rattle.std.specs.Prelude.{◌<◌, false, not, ◌||◌, ◌∷◌, is_none, slice_get}
+use Rattle.serde_json.specs.Data.{Data}
+use Rattle.irs_base.specs.Texts.{is_digit, number_after}
 use Rattle.irs_base.specs.declared.places.Broken.{Broken}
+use Rattle.irs_base.specs.declared.places.Rule.{Rule}
+use Rattle.irs_base.specs.declared.places.Rule.TheVariants.{K2, K3, K4, K5, K6, K7}
+use Rattle.irs_json.specs.Leaves.{child_of, is_attribute_name, leaf_of, items_of}
 use Rattle.irs_elements.specs.Elements.{FaultAt, FaultUnder, IsMemberRow, is_known, most, name_at}
 use Rattle.irs_elements.specs.Leaves.{leaf_rule}
 use Rattle.irs_elements.specs.declared.table.Kind.{Kind}
 use Rattle.irs_elements.specs.declared.table.Kind.TheVariants.{Object, Leaf, Passed, Refused}
 use Rattle.irs_elements.specs.declared.table.Leaf.{Leaf as LeafKind}
 use Rattle.irs_elements.specs.declared.table.Row.{Row}
-use Rattle.irs_json.specs.Carrier.{child_of}
-use Rattle.irs_json.specs.Leaves.{is_attribute_name, leaf_of}
-use Rattle.irs_json.specs.Values.{items_of}
-use Rattle.serde_json.specs.Data.{Data}
-use Rattle.std.specs.Prelude.{◌≡◌, ℕ, ◌<◌, Bool, false, not, ◌&&◌, ◌||◌, List, [], ◌∷◌, length, Option, Some, None}
-use Rattle.std.specs.Prelude.{is_none}
-use Rattle.std.specs.Prelude.{nat_lt, slice_get}
+
+-- ---- the number that the text of a decimal spells, as a function of the text
+
+-- the number that a text of nothing but digits spells after those of n
+abbrev pub digits_at : ℕ → List ℕ → Option ℕ
+digits_at n s = if list_all is_digit s then Some (number_after n s) else None
+
+-- the number that one to nine digits spell
+abbrev pub few_digits_at : List ℕ → Option ℕ
+few_digits_at s = if nat_lt 0 (length s) && nat_le (length s) 9 then digits_at 0 s else None
+
+-- ---- a table of elements, and the rules that a value breaks by it
+
+-- ---- places
+
+-- a broken rule, where the test is true
+abbrev pub fault_if : Bool → Broken → Option Broken
+fault_if b f = if b then Some f else None
+
+-- ---- names
+
+-- the names of a value's elements, none where it is no object
+abbrev pub names_among : Option (List (List ℕ)) → List (List ℕ)
+names_among None = []
+names_among (Some names) = names
+
+-- a rule that a table of elements can break: one of K2 to K7
+abbrev pub IsOfTables : Rule → Type 0
+IsOfTables K2 = Unit {0}
+IsOfTables K3 = Unit {0}
+IsOfTables K4 = Unit {0}
+IsOfTables K5 = Unit {0}
+IsOfTables K6 = Unit {0}
+IsOfTables K7 = Unit {0}
+IsOfTables k = ⊥
+
+-- ---- how the walk goes: which leaves it passes at a glance, where the members of an object end, and the faults of
+-- parts
 
 module _ (rows : List Row) (names : List (List ℕ)) where
   -- a name that is an attribute's or that no row has

@@ -1,17 +1,28 @@
 -- Private: no public contract rests on this file.
--- The texts of cash flows, piece by piece: what the code appends for each part of the value.
-use Rattle.std.specs.Prelude.{ℕ, Bool, true, false, ◌&&◌, ◌≡◌, not, ◌==◌, List, [], ◌∷◌, ◌++◌, codes, map, Option, Some}
-use Rattle.std.specs.Prelude.{None}
-use Rattle.std.specs.Prelude.{option_map}
+-- Of private functions: the texts of cash flows, piece by piece.
+use Rattle.std.specs.Prelude.{◌≤◌, IfSome, ℕ, Bool, true, false, ◌&&◌, ◌≡◌, not, ◌==◌, List, [], ◌∷◌, ◌++◌, codes, map}
+use Rattle.std.specs.Prelude.{Option, Some, None, option_map}
 use Rattle.std.specs.Int.{is_in_range}
 use Rattle.std.specs.List.{list_all}
-use Rattle.irs_emit.specs.Emitted.{definition_value, exchange_value}
-use Rattle.irs_emit.specs.Leaves.{count_leaf, day_leaf, fraction_leaf, notional_leaf, rate_leaf}
-use Rattle.irs_schedule.specs.declared.views.CalculationPeriod.{CalculationPeriod}
-use Rattle.irs_terms.specs.declared.results.Exchange.{Exchange}
-use Rattle.irs_terms.specs.declared.results.Reset.{Reset}
 use Rattle.serde_json.specs.Data.{Data}
 use Rattle.serde_json.specs.Written.{comma_if, compact_text}
+use Rattle.irs_terms.specs.declared.results.Exchange.{Exchange}
+use Rattle.irs_terms.specs.declared.results.Reset.{Reset}
+use Rattle.irs_schedule.specs.RowsOf.{IsFew}
+use Rattle.irs_schedule.specs.declared.entries.PaymentEntry.{PaymentEntry}
+use Rattle.irs_schedule.specs.declared.views.CalculationPeriod.{CalculationPeriod}
+use Rattle.irs_emit.specs.Emitted.{definition_value, exchange_value, count_leaf, day_leaf, fraction_leaf, notional_leaf}
+use Rattle.irs_emit.specs.Emitted.{rate_leaf}
+
+-- ---- what a payment of a schedule keeps
+
+-- the periods of a payment count from 1 and are in order, and its amount has few decimals
+pub record IsPaid (y : PaymentEntry) : Type 0 where
+  pub first : 1 ≤ y.first_period
+  pub order : y.first_period ≤ y.last_period
+  pub decimals : IfSome y.amount IsFew
+
+-- ---- the texts of cash flows, piece by piece: what the code appends for each part of the value
 
 -- ---- characters
 

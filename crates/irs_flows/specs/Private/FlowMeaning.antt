@@ -2,7 +2,7 @@
 -- The cash flows that a document states: each field is the value of the leaf at its element, where the leaf occurs.
 use Rattle.irs_flows.specs.FlowFaults.{payments_in, flow_periods_of}
 use Rattle.irs_base.specs.Limits.{most_rows}
-use Rattle.irs_elements.specs.Find.{once}
+use Rattle.irs_elements.specs.Elements.{once}
 use Rattle.serde_json.specs.Data.{Data}
 use Rattle.std.specs.Prelude.{◌≡◌, ◌≤◌, ℕ, List, length, slice_get, Some, codes}
 

@@ -1,7 +1,7 @@
 -- Private: no public contract rests on this file.
 -- Text without the white space at its ends: space, tab, LF, CR.
 use Rattle.std.specs.Prelude.{◌≡◌, ℕ, nat_lt, Bool, false, Option, Some, None, List, [], ◌∷◌, ◌++◌}
-use Rattle.irs_json.specs.Trim.{is_white_space}
+use Rattle.irs_json.specs.Leaves.{is_white_space}
 
 -- the byte after the space; all white space is below it
 abbrev pub is_past_space : Option ℕ → Bool

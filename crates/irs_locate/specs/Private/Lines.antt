@@ -1,11 +1,11 @@
 -- Private: no public contract rests on this file.
--- The line of an element in a text in XML, from 1.
-use Rattle.irs_locate.specs.Markup.{Piece, opening, empty, piece_of}
+-- Of private functions: lines, and ways to elements.
+use Rattle.std.specs.Prelude.{◌≡◌, ℕ, ◌+◌, ◌≤◌, List, [], ◌∷◌, ◌++◌, drop, Option, Some, None, length, if◌then◌else◌}
+use Rattle.irs_locate.specs.Lines.{Piece, opening, empty, piece_of, Open, IsOpenAfter}
 use Rattle.irs_locate.specs.declared.lines.Tag.{Tag}
-use Rattle.std.specs.Prelude.{◌≡◌, ℕ, ◌+◌, ◌≤◌, List, [], ◌∷◌, ◌++◌}
-use Rattle.std.specs.Prelude.{drop}
-use Rattle.std.specs.Prelude.{Option, Some, None, length, if◌then◌else◌}
-use Rattle.irs_locate.specs.Lines.{Open, IsOpenAfter}
+use Rattle.irs_locate.specs.Ways.{others_in, names_on_way}
+
+-- ---- the line of an element in a text in XML, from 1
 
 -- ---- the line of an element
 
@@ -26,3 +26,10 @@ abbrev pub PassesOver : List ℕ → ℕ → Open → Option ℕ → Type 0
 PassesOver text start lists (Some end) = IsOpenAfter text start ([] ∷ lists) → IsOpenAfter text end lists
 PassesOver text start lists None = IsOpenAfter text start ([] ∷ lists)
     → (n : ℕ) × ((inner : Open) × (IsOpenAfter text n (inner ++ lists) × (piece_of (drop n text) ≡ None)))
+
+-- ---- the way from the root of a document to the element at a place
+
+-- what is left of a path after its first name, where it has more
+abbrev pub IsRestOf : List ℕ → Option (List ℕ) → Type 0
+IsRestOf p None = others_in p ≡ []
+IsRestOf p (Some q) = others_in p ≡ names_on_way q

@@ -1,8 +1,8 @@
 -- Private: no public contract rests on this file.
 -- The mathematical values that the types of this crate have.
 use Rattle.irs_elements.specs.Elements.{referenced_texts}
-use Rattle.irs_locate.specs.Markup as text
-use Rattle.irs_locate.specs.Members as table
+use Rattle.irs_locate.specs.Lines as text
+use Rattle.irs_locate.specs.Ways as table
 use Rattle.irs_locate.specs.Ways as ways
 use Rattle.irs_locate.specs.declared.markup.Mark.{Mark}
 use Rattle.irs_locate.specs.declared.markup.Mark.TheVariants.{Plain, Passed, Opening, Empty, Closing}

@@ -1,11 +1,10 @@
 -- Private: no public contract rests on this file.
 -- A sentence as parts that are written one after the other.
-use Rattle.irs_main.specs.Visible.{shown_front}
+use Rattle.irs_main.specs.Shown.{shown_front, joined_texts}
 use Rattle.irs_main.specs.declared.parts.Part.{Part}
 use Rattle.irs_main.specs.declared.parts.Part.TheVariants.{Text, Number, Count, Shown}
 use Rattle.irs_main.specs.declared.parts.Sentence.{Sentence}
 use Rattle.std.specs.Prelude.{ℕ, List, map, decimal}
-use Rattle.irs_main.specs.Parts.{joined_texts}
 
 -- the most parts of a sentence
 abbrev pub most_parts : ℕ

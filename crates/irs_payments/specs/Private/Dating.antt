@@ -1,22 +1,67 @@
 -- Private: no public contract rests on this file.
--- Of private functions: payments worked out one after another, from the places at which payment periods end.
-use Rattle.std.specs.Prelude.{◌≡◌, ◌⊎◌, ℕ, ◌+◌, ◌-◌, ◌<◌, ◌≤◌, List, [], ◌∷◌, ◌++◌, length, Option, Some, None, Result}
-use Rattle.std.specs.Prelude.{Ok, Err, ℤ, nat_lt}
+-- Of private functions: payments and exchanges, worked out one after another.
+use Rattle.std.specs.Prelude.{◌≡◌, ℕ, ◌<◌, ◌≤◌, List, [], ◌∷◌, slice_index_or, ℤ, ◌+◌, length, ◌⊎◌, ◌-◌, ◌++◌, Option}
+use Rattle.std.specs.Prelude.{Some, None, Result, Ok, Err, nat_lt, drop, take, IfSome}
+use Rattle.irs_base.specs.Lists.{Member, IsRising, day_at, EachNumbered, HoldsOf, Pairs}
 use Rattle.irs_base.specs.Elements.{payment_dates}
-use Rattle.irs_base.specs.Order.{First}
-use Rattle.irs_base.specs.Outcomes.{Spec}
+use Rattle.irs_base.specs.Outcomes.{First, Spec, fault_at, comes_before}
 use Rattle.irs_base.specs.declared.places.Rule.TheVariants.{K33, K38}
 use Rattle.irs_base.specs.declared.places.Fault.{Fault}
-use Rattle.irs_terms.specs.declared.results.Payment.{Payment}
 use Rattle.irs_terms.specs.declared.stream.Stream.{Stream}
+use Rattle.irs_terms.specs.declared.results.Payment.{Payment}
 use Rattle.irs_calendar.specs.GoodDays.{DaySet}
 use Rattle.irs_adjust.specs.declared.moved.NoDate.{NoDate}
 use Rattle.irs_adjust.specs.declared.moved.NoDate.TheVariants.{NoResult, OutOfRange}
-use Rattle.irs_base.specs.Faults.{fault_at}
-use Rattle.irs_payments.specs.Private.Cuts.{cut_at}
-use Rattle.irs_payments.specs.PaymentDates.{IsPaymentDate, PaymentLacksResult, PaymentLeavesRange}
+use Rattle.irs_payments.specs.Payments.{pay_anchor, EndsPayment, IsPaymentDate, PaymentLacksResult, PaymentLeavesRange}
 use Rattle.irs_payments.specs.Payments.{pay_place, Covers}
-use Rattle.irs_base.specs.Members.{day_at, EachNumbered}
+use Rattle.irs_payments.specs.declared.exchanges.Transfer.{Transfer}
+use Rattle.irs_payments.specs.Exchanges.{BreaksExchanges, IsExchange, LacksTransferDay, transfers_of}
+use Rattle.irs_payments.specs.declared.exchanges.Listing.{Listing}
+
+-- ---- of private functions: the places in the list of boundaries at which payment periods end
+
+-- the days at these places
+abbrev pub days_at : List ℤ → List ℕ → List ℤ
+days_at boundaries [] = []
+days_at boundaries (place ∷ places) = day_at boundaries place ∷ days_at boundaries places
+
+-- P holds of each place
+abbrev pub EachPlace : (ℕ → Type 0) → List ℕ → Type 0
+EachPlace P [] = Unit {0}
+EachPlace P (place ∷ places) = P place × EachPlace P places
+
+-- a payment period ends at the boundary with this number
+abbrev pub EndsAt : Stream → List ℤ → ℕ → Type 0
+EndsAt s boundaries place = EndsPayment s (pay_anchor s boundaries) (day_at boundaries place)
+
+-- a place after the first and below the limit, at which a payment period ends
+pub record IsCut (s : Stream) (boundaries : List ℤ) (limit place : ℕ) : Type 0 where
+  pub from_one : 1 ≤ place
+  pub below : place < limit
+  pub ends : EndsAt s boundaries place
+
+-- place 0, and then the places below the limit at which payment periods end, in order
+pub record AreCuts (s : Stream) (boundaries : List ℤ) (limit : ℕ) (cuts : List ℕ) : Type 0 where
+  pub later : List ℕ
+  pub from_zero : cuts ≡ 0 ∷ later
+  pub rising : IsRising (days_at boundaries later)
+  pub sound : EachPlace (IsCut s boundaries limit) later
+  pub complete : (place : ℕ) → 1 ≤ place → place < limit → EndsAt s boundaries place →
+      Member (day_at boundaries place) (days_at boundaries later)
+
+-- the place of cut j
+abbrev pub cut_at : List ℕ → ℕ → ℕ
+cut_at cuts j = slice_index_or cuts j 0
+
+-- ---- of private functions: rising places in a list
+
+-- the places rise strictly from 0 and lie in the list
+pub record ArePlaces (days : List ℤ) (places : List ℕ) : Type 0 where
+  pub begins : cut_at places 0 ≡ 0
+  pub rise : (j : ℕ) → j + 1 < length places → cut_at places j < cut_at places (j + 1)
+  pub within : (j : ℕ) → j < length places → cut_at places j < length days
+
+-- ---- of private functions: payments worked out one after another, from the places at which payment periods end
 
 -- the place of the unadjusted date of payment j
 abbrev pub date_place : Stream → List ℕ → ℕ → ℕ
@@ -109,4 +154,27 @@ paid_at s set boundaries adjusted cuts = record {
   Answers = λ ps. ArePaid s set boundaries adjusted cuts (length cuts) ps ×
       NoneLacks s set adjusted cuts (length cuts);
   Refuses = λ f. (n : ℕ) × IsDateFault s set adjusted cuts n f;
+}
+
+-- ---- what the payer pays on a date
+
+-- the transfer alone, where there is one
+abbrev pub listed_transfer : Option Transfer → List Transfer
+listed_transfer None = []
+listed_transfer (Some t) = t ∷ []
+
+-- ---- of private functions: the exchanges listed in order, up to the first whose date has no adjusted day
+
+-- the exchanges up to this number have adjusted days and are listed, and these are left
+pub record ListsUpTo (s : Stream) (set : DaySet) (left : List Transfer) (l : Listing) : Type 0 where
+  pub within : l.number ≤ length (transfers_of s)
+  pub is_left : drop l.number (transfers_of s) ≡ left
+  pub dated : (n : ℕ) → n ≤ l.number → HoldsOf (LacksTransferDay s set) (transfers_of s) n → ⊥
+  pub listed : IfSome l.list (λ xs. Pairs (IsExchange s set) (take l.number (transfers_of s)) xs)
+
+-- the exchanges listed up to those left, or K33 of the first one whose date has no adjusted day
+abbrev pub listing_to : Stream → DaySet → List Transfer → Spec Listing Fault
+listing_to s set left = record {
+  Answers = ListsUpTo s set left;
+  Refuses = First comes_before (BreaksExchanges s set);
 }

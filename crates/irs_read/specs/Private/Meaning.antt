@@ -1,25 +1,15 @@
--- What the private readers give, by functions. Each has a value also where an element that must occur is absent, which
--- is never met: of a swap that breaks no rule this is the swap that it says (`StreamElements`).
+-- Private: no public contract rests on this file.
+-- Of private functions: what the readers give.
+use Rattle.serde_json.specs.Data.{Data}
+use Rattle.std.specs.Prelude.{Option, Some, None, if◌then◌else◌, ℕ, List, [], ◌∷◌, map, ℤ, pos, false, Bool, option_map}
+use Rattle.std.specs.Prelude.{unwrap_or, codes}
 use Rattle.irs_base.specs.Days.{first_day}
 use Rattle.irs_base.specs.declared.rounding.Direction.TheVariants.{Nearest}
-use Rattle.irs_elements.specs.Codes.{calculation_method_at, compounding_at, convention_at, day_count_at, day_kind_at}
-use Rattle.irs_elements.specs.Codes.{direction_at}
-use Rattle.irs_elements.specs.Codes.{relative_at, roll_at, stub_kind_at, tenor_unit_at, treatment_at, truth_at}
-use Rattle.irs_elements.specs.Codes.{period_unit_at}
-use Rattle.irs_elements.specs.Dates.{leaf_date_at}
-use Rattle.irs_elements.specs.Find.{member, once, leaf_text_in, values_in}
-use Rattle.irs_elements.specs.Numbers.{multiplier_at, notional_at, observation_days_at, offset_at, precision_at}
-use Rattle.irs_elements.specs.Numbers.{leaf_rate_at}
-use Rattle.irs_elements.specs.Words.{currency_at}
-use Rattle.irs_read.specs.Readings.{said}
-use Rattle.irs_read.specs.References.{href_of, lists_of, streams_in, the_one}
-use Rattle.irs_read.specs.Private.References.{reference_in}
-use Rattle.irs_read.specs.StreamElements.{places_by}
-use Rattle.irs_read.specs.declared.leaf_values.Scale.{Scale}
-use Rattle.irs_read.specs.declared.leaf_values.Scale.TheVariants.{Notionals, Rates}
+use Rattle.irs_terms.specs.declared.codes.RefState.{RefState}
+use Rattle.irs_terms.specs.declared.codes.RefState.TheVariants.{Good}
 use Rattle.irs_terms.specs.declared.adjustments.Adjustments.{Adjustments}
 use Rattle.irs_terms.specs.declared.adjustments.Centers.{Centers}
-use Rattle.irs_terms.specs.declared.adjustments.Centers.TheVariants.{Absent, Listed, Dangling}
+use Rattle.irs_terms.specs.declared.adjustments.Centers.TheVariants.{Listed}
 use Rattle.irs_terms.specs.declared.adjustments.AdjustableDate.{AdjustableDate}
 use Rattle.irs_terms.specs.declared.adjustments.Offset.{Offset}
 use Rattle.irs_terms.specs.declared.amounts.ExchangeFlags.{ExchangeFlags}
@@ -54,9 +44,30 @@ use Rattle.irs_terms.specs.declared.step_list.Step.{Step}
 use Rattle.irs_terms.specs.declared.step_list.StepValues.{StepValues}
 use Rattle.irs_terms.specs.declared.stream.Stream.{Stream}
 use Rattle.irs_terms.specs.declared.stream_list.Swap.{Swap}
-use Rattle.serde_json.specs.Data.{Data}
-use Rattle.std.specs.Prelude.{ℕ, List, [], ◌∷◌, map, ℤ, pos, false, Bool, Option, Some, None, option_map}
-use Rattle.std.specs.Prelude.{unwrap_or, codes}
+use Rattle.irs_terms.specs.declared.codes.RefState.TheVariants as ref_state
+use Rattle.irs_terms.specs.declared.adjustments.Centers.TheVariants as centers
+use Rattle.irs_elements.specs.Codes.{calculation_method_at, compounding_at, convention_at, day_count_at, day_kind_at}
+use Rattle.irs_elements.specs.Codes.{direction_at, relative_at, roll_at, stub_kind_at, tenor_unit_at, treatment_at}
+use Rattle.irs_elements.specs.Codes.{truth_at, period_unit_at}
+use Rattle.irs_elements.specs.Leaves.{leaf_date_at, currency_at}
+use Rattle.irs_elements.specs.Elements.{member, once, leaf_text_in, values_in}
+use Rattle.irs_elements.specs.Numbers.{multiplier_at, notional_at, observation_days_at, offset_at, precision_at}
+use Rattle.irs_elements.specs.Numbers.{leaf_rate_at}
+use Rattle.irs_read.specs.Readings.{has_id, href_of, said, lists_of, streams_in, the_one}
+use Rattle.irs_read.specs.StreamElements.{places_by}
+use Rattle.irs_read.specs.declared.leaf_values.Scale.{Scale}
+use Rattle.irs_read.specs.declared.leaf_values.Scale.TheVariants.{Notionals, Rates}
+
+-- ---- references by `@href`, and the lists of centres that they may name
+
+-- a reference names its target by the target's `@id`
+abbrev pub reference_in : Option Data → Option Data → RefState
+reference_in target None = ref_state.Absent
+reference_in target (Some reference) = if has_id (href_of reference) target then Good else ref_state.Dangling
+
+-- ---- what the private readers give, by functions
+-- Each has a value also where an element that must occur is absent, which is never met: of a swap that breaks no rule
+-- this is the swap that it says (`StreamElements`).
 
 -- ---- leaves
 
@@ -128,12 +139,12 @@ names_in d = map (λ x. word_in (Some x)) (values_in (codes "businessCenter") (S
 
 -- the centres of the list that a reference names, if it names one
 abbrev pub named_centers : Option Data → Centers
-named_centers None = Dangling
+named_centers None = centers.Dangling
 named_centers (Some d) = Listed (names_in d)
 
 -- the centres that are listed, if they are
 abbrev pub own_centers : Option Data → Centers
-own_centers None = Absent
+own_centers None = centers.Absent
 own_centers (Some d) = Listed (names_in d)
 
 -- the centres are those of the list that is referenced, else those that are given here

@@ -1,16 +1,51 @@
 -- Private: no public contract rests on this file.
--- What a fixing file holds, and its first line that is at fault. Lines count from 1. They are those that are read:
--- a false end line in the last place is outside the grammar.
-use Rattle.std.specs.Prelude.{◌≡◌, ◌⊎◌, ℕ, IsTrue, List}
-use Rattle.std.specs.Prelude.{None, IsSome, ℤ}
+-- Of private functions: how fixing files are read and rates kept.
+use Rattle.std.specs.Prelude.{◌≡◌, ℕ, Bool, true, false, ◌&&◌, Some, None, ℤ, List, IsSome, if◌then◌else◌, Option, ◌⊎◌}
+use Rattle.std.specs.Prelude.{IsTrue}
+use Rattle.std.specs.Map.{lookup}
+use Rattle.std.specs.Str.{bytes_eq}
+use Rattle.irs_base.specs.Outcomes.{Spec}
+use Rattle.irs_terms.specs.declared.frequency.Frequency.{Frequency}
+use Rattle.irs_resets.specs.declared.store.Slot.{Slot}
+use Rattle.irs_resets.specs.Rates.{is_slot, SlotRates, RateTable, rate_at}
+use Rattle.irs_resets.specs.FixingFiles.{word, behind_gap, trimmed, tenor_at, IsIndexText, is_passed, SpellsRate}
+use Rattle.irs_resets.specs.FixingFiles.{IsBadLine}
 use Rattle.irs_resets.specs.declared.fixings.FixErr.{FixErr}
 use Rattle.irs_resets.specs.declared.fixings.FixErr.TheVariants.{Syntax, Repeat, Memory}
-use Rattle.irs_resets.specs.declared.store.Slot.{Slot}
-use Rattle.irs_resets.specs.Words.{is_passed}
-use Rattle.irs_resets.specs.FixingLines.{SpellsRate}
-use Rattle.irs_resets.specs.Rates.{RateTable, rate_at}
-use Rattle.irs_resets.specs.Private.Rates.{Adds}
-use Rattle.irs_resets.specs.FixingFiles.{IsBadLine}
+
+-- ---- rates by index, date and tenor
+
+-- new has the rate there, and at every other place what old has
+abbrev pub AddsTo : SlotRates → Slot → ℤ → SlotRates → Type 0
+AddsTo old slot rate new =
+    (q : Slot) → lookup (is_slot q) new ≡ (if is_slot slot q then Some rate else lookup (is_slot q) old)
+
+-- the table has this rate too, and else what it had
+abbrev pub Adds : RateTable → List ℕ → Slot → ℤ → RateTable → Type 0
+Adds old index slot rate new =
+    (i : List ℕ) (q : Slot)
+    → rate_at new i q ≡ (if bytes_eq index i && is_slot slot q then Some rate else rate_at old i q)
+
+-- whether the slot had no rate; if it had none, it has this one now
+abbrev pub AddsNew : SlotRates → Slot → ℤ → SlotRates → Bool → Type 0
+AddsNew old slot rate new true = (lookup (is_slot slot) old ≡ None) × AddsTo old slot rate new
+AddsNew old slot rate new false = IsSome (lookup (is_slot slot) old)
+
+-- the same of an index, a date and a tenor
+abbrev pub AddsNewAt : RateTable → List ℕ → Slot → ℤ → RateTable → Bool → Type 0
+AddsNewAt old index slot rate new true = (rate_at old index slot ≡ None) × Adds old index slot rate new
+AddsNewAt old index slot rate new false = IsSome (rate_at old index slot)
+
+-- ---- what a line of a fixing file spells: DATE RATE TENOR INDEX
+
+-- the bytes from the third word on are a tenor, and an index after it
+pub record IsTail (text : List ℕ) (tenor : Option Frequency) (index : List ℕ) : Type 0 where
+  pub tenor_text : tenor_at (word text) ≡ Some tenor
+  pub rest : index ≡ trimmed (behind_gap text)
+  pub lawful : IsIndexText index
+
+-- ---- what a fixing file holds, and its first line that is at fault
+-- Lines count from 1. They are those that are read: a false end line in the last place is outside the grammar.
 
 -- ---- one line
 
@@ -51,3 +86,12 @@ abbrev pub IsLineFault : RateTable → List ℕ → ℕ → FixErr → Type 0
 IsLineFault table line number (Syntax n) = (n ≡ number) × IsBadLine line
 IsLineFault table line number (Repeat n) = (n ≡ number) × HasOldRate table line
 IsLineFault table line number Memory = ⊥
+
+-- ---- what the calls of this crate answer, and what they refuse
+
+-- the rates with those of one line more, or the fault of that line
+abbrev pub line_of : RateTable → List ℕ → ℕ → Spec RateTable FixErr
+line_of table line number = record {
+  Answers = ReadsLine table line;
+  Refuses = IsLineFault table line number;
+}

@@ -2,7 +2,7 @@
 -- The order of dates and tenors.
 use Rattle.std.specs.Prelude.{◌≡◌, ℕ, Some, ℤ, slice_get}
 use Rattle.std.specs.declared.cmp.Ordering.TheVariants.{Less}
-use Rattle.irs_base.specs.Members.{Every}
+use Rattle.irs_base.specs.Lists.{Every}
 use Rattle.irs_resets.specs.Rates.{SlotRates}
 use Rattle.irs_resets.specs.declared.store.Slot.{Slot}
 use Rattle.irs_resets.specs.SlotOrder.{slot_cmp}

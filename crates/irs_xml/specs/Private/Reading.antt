@@ -1,22 +1,41 @@
 -- Private: no public contract rests on this file.
--- How the reader goes through the characters: functions from the characters to what is read and what is left after it.
--- The contracts of this crate's own functions cite them. What a document is and means doesn't rest on them.
-use Rattle.std.specs.Prelude.{◌≡◌, ℕ, zero, suc, ◌+◌, ◌*◌, min, Bool, true, false, ◌&&◌, ◌==◌, List, [], ◌∷◌, ◌++◌}
+-- Of private functions: how the reader goes through the characters.
+use Rattle.std.specs.Prelude.{◌≡◌, ℕ, List, [], ◌∷◌, Option, MatchOption, zero, suc, ◌+◌, ◌*◌, min, Bool, true, false}
+use Rattle.std.specs.Prelude.{◌&&◌, ◌==◌, ◌++◌, length, Some, None, Result, Ok, Err, if◌then◌else◌, codes, ◌≢◌, ◌<◌}
+use Rattle.std.specs.Prelude.{string_bytes}
 use denote.Ref.{Bor}
-use Rattle.std.specs.Prelude.{MatchOption, length, Option, Some, None, Result, Ok, Err, if◌then◌else◌, codes}
 use Rattle.std.specs.Char.{encode_utf8, is_digit, digit_value, to_ascii_lowercase}
 use Rattle.std.specs.Str.{chars, encode_utf8_all}
 use Rattle.serde_json.specs.Data.{Data, string, object, Members, no_members, member}
-use Rattle.irs_xml.specs.Characters.{is_char, is_white_space, is_white}
-use Rattle.irs_xml.specs.Seen.{seen}
-use Rattle.irs_xml.specs.Comments.{rest_after, is_xml}
-use Rattle.irs_xml.specs.Content.{most_attributes}
+use Rattle.serde_json.specs.View.{members_view}
+use Rattle.irs_xml.specs.Characters.{seen, is_char, is_white_space, is_white, rest_after, is_xml, is_name_start}
+use Rattle.irs_xml.specs.Characters.{is_name_char}
+use Rattle.irs_xml.specs.Content.{most_attributes, Child, is_ours, key_of, leaf_value, with_child, with_settings}
 use Rattle.irs_xml.specs.Document.{is_fpml, root_key}
-use Rattle.irs_xml.specs.Names.{is_name_start, is_name_char}
-use Rattle.irs_xml.specs.Namespaces.{Setting, Opening, Scope, first_scope, scope_in, namespace_of, is_opened}
-use Rattle.irs_xml.specs.Values.{Child, is_ours, key_of, leaf_value, with_child, with_settings}
+use Rattle.irs_xml.specs.Tags.{Setting, Opening, Scope, first_scope, scope_in, namespace_of, is_opened}
 use Rattle.irs_xml.specs.declared.failure.Failure.{Failure}
-use Rattle.irs_xml.specs.declared.failure.Failure.TheVariants.{NotXml, Memory}
+use Rattle.irs_xml.specs.declared.inside.Inside.{Inside as GivenInside}
+use Rattle.irs_xml.specs.declared.content.Mark.{Mark as GivenMark}
+use Rattle.irs_xml.specs.declared.document.Word.{Word}
+use Rattle.irs_xml.specs.declared.reading.XmlErr.{XmlErr}
+use Rattle.irs_xml.specs.declared.failure.Failure.TheVariants as failure
+use Rattle.irs_xml.specs.declared.content.Mark.TheVariants as of_mark
+use Rattle.irs_xml.specs.declared.document.Word.TheVariants as of_word
+use Rattle.irs_xml.specs.declared.reading.XmlErr.TheVariants as xml_err
+
+-- ---- what a reader has before it
+
+-- the first character, and what is left after it
+abbrev pub Uncons : List ℕ → Option ℕ → List ℕ → Type 0
+Uncons old c new = MatchOption c ((old ≡ []) × (new ≡ [])) (λ x. old ≡ x ∷ new)
+
+-- the first character and the text after it, where there is one
+abbrev pub FirstOf : List ℕ → Option (ℕ × Bor (List ℕ)) → Type 0
+FirstOf text found = MatchOption found (seen text ≡ []) (λ x. seen text ≡ x.0 ∷ seen x.1.now)
+
+-- ---- how the reader goes through the characters: functions from the characters to what is read and what is left after
+-- it
+-- The contracts of this crate's own functions cite them. What a document is and means doesn't rest on them.
 
 -- what is read, and the characters after it
 abbrev pub Got : Type 0 → Type 0
@@ -55,8 +74,8 @@ Tries view None old new read = (read ≡ None) × (new ≡ old)
 
 -- a failure: the bytes have no reading, or memory ran out, which says nothing of them
 abbrev pub Fails : {Y : Type 0} → Failure → Option Y → Type 0
-Fails NotXml read = read ≡ None
-Fails Memory read = Unit {0}
+Fails failure.NotXml read = read ≡ None
+Fails failure.Memory read = Unit {0}
 
 -- what a call returned and what it left is what reading gives, where memory may run out
 abbrev pub Gives : {X Y : Type 0} → (X → Y) → Result X Failure → List ℕ → Got Y → Type 0
@@ -435,3 +454,64 @@ document_at cs = do
   value ← root_at rest
   end ← misc_at (suc (length value.1)) value.1
   ended value.0 end
+
+-- ---- plain characters, which content may have many of in a row
+
+-- an ASCII character that begins nothing in content: not `&`, `<` or `]`; and not CR, which ends a line
+abbrev pub IsPlain : ℕ → Type 0
+IsPlain c = (c < 128) × (c ≢ 13) × (c ≢ 38) × (c ≢ 60) × (c ≢ 93)
+
+-- each character is plain
+abbrev pub ArePlain : List ℕ → Type 0
+ArePlain [] = Unit {0}
+ArePlain (c ∷ cs) = IsPlain c × ArePlain cs
+
+-- the text is plain characters, and then what is left
+pub record SplitsPlain (text left : List ℕ) : Type 0 where
+  pub run : List ℕ
+  pub whole : text ≡ run ++ left
+  pub plain : ArePlain run
+
+-- these plain characters were in front, and are taken
+pub record PlainTaken (run old new : List ℕ) : Type 0 where
+  pub plain : ArePlain run
+  pub front : old ≡ run ++ new
+
+-- plain characters were in front; they are taken, and appended to what was read of an element
+pub record PlainPieces (i : Inside) (cs : List ℕ) (j : Inside) (rest : List ℕ) : Type 0 where
+  pub run : List ℕ
+  pub taken : PlainTaken run cs rest
+  pub text : j ≡ with_text i (i.text ++ run)
+
+-- ---- what was read of an element, as the definitions see it
+
+-- what was read of an element: its text, its members, and whether it has a child
+abbrev pub inside_view : GivenInside → Inside
+inside_view i = record { text = string_bytes i.text; members = members_view i.members.entries; has_child = i.has_child }
+
+-- ---- what comes next in content, as the definitions see it
+
+-- each mark of the code as the mark of the definitions
+abbrev pub mark_view : GivenMark → Mark
+mark_view of_mark.Ending = ending
+mark_view of_mark.Comment = commented
+mark_view of_mark.Section = sectioned
+mark_view of_mark.Instruction = instructed
+mark_view of_mark.Child = nested
+mark_view of_mark.Reference = referred
+mark_view (of_mark.Character c) = standing c
+
+-- ---- what reads the words of an XML declaration
+
+-- each word of the declaration by what reads it
+abbrev pub word_at : Word → List ℕ → Option (List ℕ)
+word_at of_word.Version cs = version_at cs
+word_at of_word.Encoding cs = encoding_at cs
+word_at of_word.Standalone cs = standalone_at cs
+
+-- ---- lines and columns of a text, from 1
+
+-- the error is about the text
+abbrev pub IsNotXml : XmlErr → Type 0
+IsNotXml (xml_err.NotXml line column) = Unit {0}
+IsNotXml xml_err.Memory = ⊥

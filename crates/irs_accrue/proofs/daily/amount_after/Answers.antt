@@ -3,7 +3,7 @@ use Rattle.std.proofs.lemmas.Result.{IfOk-weaker}
 use Rattle.irs_base.proofs.Orders.{le_false, le_true}
 use Rattle.irs_base.specs.declared.line.Dec.{Dec}
 use Rattle.irs_calendar.specs.GoodDays.{DaySet}
-use Rattle.irs_terms.specs.Currencies.{decimals_of}
+use Rattle.irs_terms.specs.Lawful.{decimals_of}
 use Rattle.irs_observed.proofs.PeriodLemmas.{one_shift}
 use Rattle.irs_accrue.specs.DailyAccruals.{AccruesDaily, DailyTerms, EarnsBefore, before_first, daily_terms, observing}
 use Rattle.irs_accrue.proofs.daily.amount_after.Goals as goal

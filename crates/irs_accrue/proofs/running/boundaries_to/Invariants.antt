@@ -1,5 +1,5 @@
 use Rattle.std.proofs.Common.{ℕ, ◌<◌, ◌≤ℤ◌}
-use Rattle.irs_base.specs.Members.{day_at}
+use Rattle.irs_base.specs.Lists.{day_at}
 use Rattle.irs_accrue.proofs.running.boundaries_to.Given as goal
 
 abbrev pub invariant-loop-i : goal.invariant-loop-i

@@ -1,10 +1,9 @@
 use Rattle.std.proofs.Common.{arith, ◌≡◌, ℤ, pos, FitsSigned, w32, to_z, to_z-of_z, sym, ap, ◌∙◌, subst, true, int_eq}
 use Rattle.jiff_core.proofs.SignedLemmas.{signed_arith, nat_eq-bits}
-use Rattle.irs_base.specs.Days.{IsDay, month_index_of}
-use Rattle.irs_base.specs.DateOf.{year_of, month_of, day_of_month}
+use Rattle.irs_base.specs.Days.{IsDay, month_index_of, year_of, month_of, day_of_month}
 use Rattle.irs_base.proofs.DateWalks.{date_of_day}
 use Rattle.irs_base.proofs.MonthLemmas.{date_in_month}
-use Rattle.irs_adjust.specs.Conventions.{SameMonth}
+use Rattle.irs_adjust.specs.MovedDays.{SameMonth}
 use Rattle.irs_adjust.proofs.months.in_same_month.Goals as goal
 
 -- a day lies in the month of itself

@@ -1,8 +1,7 @@
 use Rattle.std.proofs.Common.{arith, ◌≡◌, ℤ, ap, subst, sym, ◌∙◌, to_z, of_z, w16, w32}
 use Rattle.jiff_core.specs.Calendar.{days_in_month}
 use Rattle.jiff_core.proofs.SignedLemmas.{signed_arith}
-use Rattle.irs_base.specs.Days.{month_index_of}
-use Rattle.irs_base.specs.Months.{InMonth, dim}
+use Rattle.irs_base.specs.Days.{month_index_of, InMonth, dim}
 use Rattle.irs_base.proofs.MonthLemmas.{date_in_month, same_month}
 use Rattle.irs_adjust.proofs.months.is_in_month_of.Goals as goal
 

@@ -2,7 +2,7 @@ use Rattle.std.proofs.Common.{arith, ◌≡◌, ℕ, ℤ, ◌<◌, ap, subst, sy
 use Rattle.jiff_core.proofs.SignedLemmas.{signed_arith}
 use Rattle.irs_base.proofs.Orders.{lt_false}
 use Rattle.irs_calendar.specs.GoodDays.{DaySet, InCover}
-use Rattle.irs_adjust.specs.Ways.{MovesOn}
+use Rattle.irs_adjust.specs.MovedDays.{MovesOn}
 use Rattle.irs_adjust.proofs.WayLemmas.{reached_none, reached_more, gap_of, moved, none_moved}
 use Rattle.irs_adjust.proofs.ways.walk.Goals as goal
 

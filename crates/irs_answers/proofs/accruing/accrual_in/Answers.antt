@@ -2,23 +2,23 @@ use Rattle.std.proofs.Common.{◌≡◌, ◌∙◌, ◌+◌, ◌<◌, ℕ, List,
 use Rattle.std.specs.Prelude.{slice_get, get_or}
 use Rattle.std.proofs.lemmas.Option.{same_Some, slice_get_read}
 use Rattle.std.proofs.lemmas.Result.{IfOk-weaker}
-use Rattle.irs_base.specs.Order.{Only}
+use Rattle.irs_base.specs.Outcomes.{Only}
 use Rattle.irs_base.proofs.EveryLemmas.{pairs_length}
 use Rattle.irs_base.proofs.MemberLemmas.{every_get}
 use Rattle.irs_calendar.specs.GoodDays.{DaySet}
-use Rattle.irs_rules.specs.TermsKept.{TermsKept}
+use Rattle.irs_rules.specs.TermsRules.{TermsKept}
 use Rattle.irs_rules.proofs.Kept.{lawful_stream, terms_kept}
 use Rattle.irs_schedule.specs.DaySets.{applicable_days, stream_sets}
 use Rattle.irs_schedule.specs.Parts.{KeepsBounds, Part}
 use Rattle.irs_schedule.specs.Schedules.{IsPart}
 use Rattle.irs_terms.specs.Lawful.{IsLawfulStream}
 use Rattle.irs_terms.specs.declared.stream.Stream.{Stream}
-use Rattle.irs_periods.specs.Outcomes.{HasSpan}
+use Rattle.irs_periods.specs.Boundaries.{HasSpan}
 use Rattle.irs_accrue.specs.DailyAccruals.{IsAccrualOf}
 use Rattle.irs_accrue.specs.declared.accruals.Accrual.{Accrual}
 use Rattle.irs_accrue.proofs.OneDaily.{one_accrual_of}
-use Rattle.irs_answers.specs.Accrued.{AccruesAt, Accruing, accruing}
-use Rattle.irs_answers.specs.Private.Accrued.{IsAccruing}
+use Rattle.irs_answers.specs.Tasks.{AccruesAt, Accruing, accruing}
+use Rattle.irs_answers.specs.Private.Outcomes.{IsAccruing}
 use Rattle.irs_answers.proofs.AccrueLemmas.{only_accrual, stream_span}
 use Rattle.irs_answers.proofs.accruing.accrual_in.Goals as goal
 

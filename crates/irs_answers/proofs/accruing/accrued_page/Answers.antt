@@ -1,6 +1,6 @@
 use Rattle.std.proofs.Common.{◌≡◌, ◌+◌, ◌<◌, ◌++◌, ◌∙◌, List, length, ap, arith, append_assoc}
-use Rattle.irs_accrue.specs.AccrualTexts.{accrual_text}
-use Rattle.irs_answers.specs.Accrued.{accrued_header, accruing}
+use Rattle.irs_accrue.specs.Accruals.{accrual_text}
+use Rattle.irs_answers.specs.Tasks.{accrued_header, accruing}
 use Rattle.irs_answers.proofs.AccrueLemmas.{accrued_next, part_at}
 use Rattle.irs_answers.proofs.accruing.accrued_page.Goals as goal
 

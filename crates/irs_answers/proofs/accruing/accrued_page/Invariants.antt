@@ -1,5 +1,5 @@
 use Rattle.std.proofs.Common.{◌≡◌, ◌++◌, ℕ, List, take}
-use Rattle.irs_answers.specs.Accrued.{AreAccrued, accrued_header, accruing}
+use Rattle.irs_answers.specs.Tasks.{AreAccrued, accrued_header, accruing}
 use Rattle.irs_answers.proofs.accruing.accrued_page.Given as goal
 
 -- the text has the lines of the streams so far

@@ -1,9 +1,7 @@
 use Rattle.std.proofs.Common.{subst}
 use Rattle.irs_answers.specs.declared.tasks.Task.{Task}
-use Rattle.irs_answers.specs.Due.{PassesEachStep}
-use Rattle.irs_answers.specs.Found.{facts_by}
-use Rattle.irs_answers.specs.Forms.{source_by}
-use Rattle.irs_answers.specs.Given.{given_with}
+use Rattle.irs_answers.specs.Due.{PassesEachStep, facts_by}
+use Rattle.irs_answers.specs.Forms.{source_by, given_with}
 use Rattle.irs_answers.proofs.NetLemmas.{sided_by}
 use Rattle.irs_answers.proofs.answers.answer_by.Goals as goal
 

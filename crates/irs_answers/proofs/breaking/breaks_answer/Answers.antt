@@ -1,10 +1,10 @@
 use Rattle.std.proofs.Common.{◌∙◌}
-use Rattle.irs_base.specs.Order.{Only}
+use Rattle.irs_base.specs.Outcomes.{Only}
 use Rattle.irs_breaks.specs.BreakLists.{IsBreakList}
-use Rattle.irs_answers.specs.CashFlows.{DueBreaks, DueFlows}
+use Rattle.irs_answers.specs.Tasks.{DueBreaks, DueFlows}
 use Rattle.irs_answers.specs.Forms.{source_by}
-use Rattle.irs_answers.specs.Outcomes.{Ends}
-use Rattle.irs_answers.specs.Replying.{reply_status, reply_text}
+use Rattle.irs_answers.specs.Due.{Ends}
+use Rattle.irs_answers.specs.Messages.{reply_status, reply_text}
 use Rattle.irs_answers.proofs.FlowLemmas.{due_breaks, flows_placed, refuse_flows}
 use Rattle.irs_answers.proofs.StepLemmas.{answered_by}
 use Rattle.irs_answers.proofs.UnreadLemmas.{placed_by}

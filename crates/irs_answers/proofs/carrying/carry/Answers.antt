@@ -1,6 +1,6 @@
 use Rattle.serde_json.specs.View.{view}
 use Rattle.irs_answers.specs.Forms.{no_source_text, xml_text}
-use Rattle.irs_answers.specs.Outcomes.{of_read}
+use Rattle.irs_answers.specs.Due.{of_read}
 use Rattle.irs_answers.proofs.CarrierLemmas.{Carries, carries, refuse_carrier}
 use Rattle.irs_answers.proofs.StepLemmas.{answered_by}
 use Rattle.irs_answers.proofs.UnreadLemmas.{placed_by, read_placed}

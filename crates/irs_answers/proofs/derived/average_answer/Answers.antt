@@ -1,14 +1,14 @@
 use Rattle.std.proofs.Common.{ℕ, List, ap, subst, sym, ◌∙◌}
 use Rattle.irs_calendar.specs.GoodDays.{DaySet}
 use Rattle.irs_schedule.specs.DaySets.{reset_days}
-use Rattle.irs_overnight.specs.FileLaw.{file_text}
+use Rattle.irs_overnight.specs.Texts.{file_text}
 use Rattle.irs_overnight.specs.Overnight.{asked}
 use Rattle.irs_average.specs.Averages.{IsFirstOfAverage, averaged}
 use Rattle.irs_average.proofs.AverageLemmas.{one_average, one_average_broken}
 use Rattle.irs_answers.specs.Derived.{DueAverage, DueAveraged, FloatingStream}
 use Rattle.irs_overnight.specs.declared.derived.DerivedRow.{DerivedRow}
 use Rattle.irs_answers.specs.Messages.{refused}
-use Rattle.irs_answers.specs.Outcomes.{Ends, of_stopped}
+use Rattle.irs_answers.specs.Due.{Ends, of_stopped}
 use Rattle.irs_answers.proofs.DerivedLemmas.{averaged_first, averaged_rows, ends_done, float_lawful, overnight_asked}
 use Rattle.irs_answers.proofs.DerivedLemmas.{refuse_stopped, stream_kept}
 use Rattle.irs_answers.proofs.StepLemmas.{answered_by}

@@ -1,9 +1,9 @@
 use Rattle.std.proofs.Common.{ℕ, List, [], ◌∷◌, subst, sym}
-use Rattle.irs_average.specs.Stubs.{stub_asked}
+use Rattle.irs_average.specs.Interpolations.{stub_asked}
 use Rattle.irs_average.proofs.StubLemmas.{one_interpolated, one_stub_broken}
-use Rattle.irs_overnight.specs.FileLaw.{file_text}
+use Rattle.irs_overnight.specs.Texts.{file_text}
 use Rattle.irs_answers.specs.Derived.{DueInterpolate, DueStub, FloatingStream}
-use Rattle.irs_answers.specs.Outcomes.{Ends}
+use Rattle.irs_answers.specs.Due.{Ends}
 use Rattle.irs_answers.specs.declared.refusals.Refusal.TheVariants.{Rule}
 use Rattle.irs_answers.proofs.DerivedLemmas.{ends_done, refuse_broken, stub_broken, stub_is_asked, stub_printed}
 use Rattle.irs_answers.proofs.DerivedLemmas.{stub_short}

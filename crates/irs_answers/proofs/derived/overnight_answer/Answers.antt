@@ -1,12 +1,12 @@
 use Rattle.std.proofs.Common.{ℕ, List, ap, subst, sym, ◌∙◌}
 use Rattle.irs_calendar.specs.GoodDays.{DaySet}
 use Rattle.irs_schedule.specs.DaySets.{reset_days}
-use Rattle.irs_overnight.specs.FileLaw.{file_text}
+use Rattle.irs_overnight.specs.Texts.{file_text}
 use Rattle.irs_overnight.specs.Overnight.{IsFirstDerived, asked}
 use Rattle.irs_answers.specs.Derived.{DueCompounded, DueOvernight, FloatingStream}
 use Rattle.irs_overnight.specs.declared.derived.DerivedRow.{DerivedRow}
 use Rattle.irs_answers.specs.Messages.{refused}
-use Rattle.irs_answers.specs.Outcomes.{Ends, of_stopped}
+use Rattle.irs_answers.specs.Due.{Ends, of_stopped}
 use Rattle.irs_answers.proofs.DerivedLemmas.{compounded_first, compounded_rows, ends_done, float_lawful}
 use Rattle.irs_answers.proofs.DerivedLemmas.{overnight_asked, refuse_stopped, stream_kept}
 use Rattle.irs_answers.proofs.StepLemmas.{answered_by}

@@ -1,11 +1,7 @@
 use Rattle.std.proofs.Common.{Ok, Err}
 use Rattle.irs_answers.specs.declared.refusals.Refusal.TheVariants.{Memory}
-use Rattle.irs_answers.specs.Due.{DueFor}
-use Rattle.irs_answers.specs.Forms.{source_by}
-use Rattle.irs_answers.specs.Found.{facts_by}
-use Rattle.irs_answers.specs.Given.{given_with}
-use Rattle.irs_answers.specs.Outcomes.{Ends, IfRefused}
-use Rattle.irs_answers.specs.Unread.{IsPlacedRefusal}
+use Rattle.irs_answers.specs.Due.{DueFor, facts_by, Ends, IfRefused}
+use Rattle.irs_answers.specs.Forms.{source_by, given_with, IsPlacedRefusal}
 use Rattle.irs_answers.proofs.CauseLemmas.{caused_by}
 use Rattle.irs_answers.proofs.DueLemmas.{passed_answer}
 use Rattle.irs_answers.proofs.NoteLemmas.{carried_noted, made_by_passing}

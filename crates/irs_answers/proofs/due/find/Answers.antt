@@ -2,11 +2,8 @@ use Rattle.serde_json.specs.Data.{Data}
 use Rattle.serde_json.specs.View.{view}
 use Rattle.irs_calendar.specs.Grammar.{CalFiles}
 use Rattle.irs_answers.specs.declared.refusals.Refusal.TheVariants.{Rule, Calendars, Fixings}
-use Rattle.irs_answers.specs.Due.{DueFor, SpellsTask, facts}
-use Rattle.irs_answers.specs.Forms.{source_by}
-use Rattle.irs_answers.specs.Given.{given_with}
-use Rattle.irs_answers.specs.Outcomes.{IfRefused, Ends, of_read, of_stopped}
-use Rattle.irs_answers.specs.Unread.{IsPlacedRefusal}
+use Rattle.irs_answers.specs.Due.{DueFor, SpellsTask, facts, IfRefused, Ends, of_read, of_stopped}
+use Rattle.irs_answers.specs.Forms.{source_by, given_with, IsPlacedRefusal}
 use Rattle.irs_answers.proofs.DueLemmas.{passes_by, refuse_text, refuse_read, refuse_sides, refuse_calendars}
 use Rattle.irs_answers.proofs.DueLemmas.{refuse_fixings, refuse_rules}
 use Rattle.irs_answers.proofs.StepLemmas.{refused_by}

@@ -1,5 +1,4 @@
-use Rattle.irs_answers.specs.Forms.{source_by}
-use Rattle.irs_answers.specs.Given.{given_with}
+use Rattle.irs_answers.specs.Forms.{source_by, given_with}
 use Rattle.irs_answers.proofs.NoteLemmas.{noted_caused, noted_placed, refused_noted}
 use Rattle.irs_answers.proofs.due.reply_by.Goals as goal
 

@@ -2,7 +2,7 @@ use Rattle.std.proofs.Common.{inl, refl}
 use Rattle.irs_base.proofs.Outcomes.{answered_free}
 use Rattle.irs_rules.specs.TermsRules.{BreaksTerms}
 use Rattle.irs_schedule.proofs.OnePart.{one_schedule, schedule_determined}
-use Rattle.irs_answers.specs.Outcomes.{IfRefused, IsUnscheduled, of_stopped}
+use Rattle.irs_answers.specs.Due.{IfRefused, IsUnscheduled, of_stopped}
 use Rattle.irs_answers.proofs.DueLemmas.{refuse_making}
 use Rattle.irs_answers.proofs.FirstLemmas.{one_first}
 use Rattle.irs_answers.proofs.StepLemmas.{refused_by}

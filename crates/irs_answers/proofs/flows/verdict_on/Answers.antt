@@ -1,7 +1,7 @@
-use Rattle.irs_answers.specs.CashFlows.{DueFlows, DueVerdict}
+use Rattle.irs_answers.specs.Tasks.{DueFlows, DueVerdict}
 use Rattle.irs_answers.specs.Forms.{source_by}
-use Rattle.irs_answers.specs.Outcomes.{Ends, IfRefused}
-use Rattle.irs_answers.specs.Private.Unread.{IsOfFlows}
+use Rattle.irs_answers.specs.Due.{Ends, IfRefused}
+use Rattle.irs_answers.specs.Private.Outcomes.{IsOfFlows}
 use Rattle.irs_answers.proofs.FlowLemmas.{due_verdict, flows_placed, refuse_flows}
 use Rattle.irs_answers.proofs.StepLemmas.{refused_by}
 use Rattle.irs_answers.proofs.flows.verdict_on.Goals as goal

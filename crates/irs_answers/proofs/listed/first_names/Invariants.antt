@@ -1,6 +1,6 @@
 use Rattle.std.proofs.Common.{◌≡◌, ◌≤◌, take}
 use Rattle.irs_calendar.specs.Sections.{center_names}
-use Rattle.irs_answers.specs.Listed.{most_listed}
+use Rattle.irs_answers.specs.Notes.{most_listed}
 use Rattle.irs_answers.proofs.listed.first_names.Given as goal
 
 -- the names so far are kept

@@ -1,6 +1,6 @@
 use Rattle.std.proofs.Common.{ap, ◌∙◌, ◌++◌, List, ℕ}
-use Rattle.irs_net.specs.NetTexts.{net_text}
-use Rattle.irs_answers.specs.Netted.{net_header}
+use Rattle.irs_net.specs.Nets.{net_text}
+use Rattle.irs_answers.specs.Tasks.{net_header}
 use Rattle.irs_answers.proofs.PageLemmas.{page_more, page_whole}
 use Rattle.irs_answers.proofs.netting.rows_page.Goals as goal
 

@@ -1,7 +1,7 @@
 use Rattle.std.proofs.Common.{◌≡◌, ◌++◌, take}
 use Rattle.std.specs.List.{flat_map}
-use Rattle.irs_net.specs.NetTexts.{net_text}
-use Rattle.irs_answers.specs.Netted.{net_header}
+use Rattle.irs_net.specs.Nets.{net_text}
+use Rattle.irs_answers.specs.Tasks.{net_header}
 use Rattle.irs_answers.proofs.netting.rows_page.Given as goal
 
 -- the text has the rows so far

@@ -1,6 +1,6 @@
 use Rattle.std.proofs.Common.{Option, subst}
 use Rattle.std.specs.Prelude.{IfSome}
-use Rattle.irs_unfixed.specs.Missing.{IsFirstMissing, made_from}
+use Rattle.irs_unfixed.specs.Unfixed.{IsFirstMissing, made_from}
 use Rattle.irs_unfixed.specs.declared.missing.Missing.{Missing}
 use Rattle.irs_answers.proofs.NoteLemmas.{counted_is}
 use Rattle.irs_answers.proofs.notes.amounts_note.Goals as goal

@@ -1,6 +1,6 @@
 use Rattle.std.proofs.Common.{◌∙◌, sym}
 use Rattle.std.proofs.lemmas.Result.{IfOk-weaker}
-use Rattle.irs_answers.specs.Found.{facts_by}
+use Rattle.irs_answers.specs.Due.{facts_by}
 use Rattle.irs_answers.specs.Notes.{IsFixedNote}
 use Rattle.irs_answers.specs.declared.notes.Note.{Note}
 use Rattle.irs_answers.proofs.NoteLemmas.{amounts_fixed, made_with_table, nothing_fixed}

@@ -4,8 +4,8 @@ use Rattle.irs_base.proofs.DateTexts.{IfNone_then}
 use Rattle.irs_terms.specs.declared.amounts.FloatTerms.{FloatTerms}
 use Rattle.irs_terms.specs.declared.amounts.Leg.TheVariants.{Floating}
 use Rattle.irs_terms.specs.declared.stream.Stream.{Stream}
-use Rattle.irs_answers.specs.Observed.{DailyStream, IsDailyAt}
-use Rattle.irs_answers.specs.Private.Observed.{daily_stream}
+use Rattle.irs_answers.specs.Tasks.{DailyStream, IsDailyAt}
+use Rattle.irs_answers.specs.Private.Outcomes.{daily_stream}
 use Rattle.irs_answers.proofs.ObservedLemmas.{same_leg, some_none}
 use Rattle.irs_answers.proofs.observing.daily_at.Goals as goal
 

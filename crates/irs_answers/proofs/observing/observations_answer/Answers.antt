@@ -1,8 +1,7 @@
 use Rattle.std.proofs.Common.{ℕ, List, subst, sym}
-use Rattle.irs_answers.specs.Accrued.{Accruing, accruing}
-use Rattle.irs_answers.specs.Observed.{DailyStream, DueObservations}
-use Rattle.irs_answers.specs.Private.Observed.{daily_stream}
-use Rattle.irs_answers.specs.Outcomes.{Ends}
+use Rattle.irs_answers.specs.Tasks.{Accruing, accruing, DailyStream, DueObservations}
+use Rattle.irs_answers.specs.Private.Outcomes.{daily_stream}
+use Rattle.irs_answers.specs.Due.{Ends}
 use Rattle.irs_answers.proofs.ObservedLemmas.{shows}
 use Rattle.irs_answers.proofs.observing.observations_answer.Goals as goal
 

@@ -1,8 +1,7 @@
 use Rattle.std.proofs.Common.{◌-◌}
-use Rattle.irs_daily.specs.Outcomes.{IsFirstWithout}
-use Rattle.irs_answers.specs.Accrued.{Accruing, accruing}
-use Rattle.irs_answers.specs.Observed.{DailyStream, source_in}
-use Rattle.irs_answers.specs.Private.Observed.{daily_stream}
+use Rattle.irs_daily.specs.ObservedRows.{IsFirstWithout}
+use Rattle.irs_answers.specs.Tasks.{Accruing, accruing, DailyStream, source_in}
+use Rattle.irs_answers.specs.Private.Outcomes.{daily_stream}
 use Rattle.irs_answers.proofs.ObservedLemmas.{few, has_rows, has_span, kept_at, lawful_at, part_within, rising}
 use Rattle.irs_answers.proofs.observing.rows_of.Goals as goal
 

@@ -1,5 +1,5 @@
 use Rattle.std.proofs.Common.{arith}
-use Rattle.irs_audit.specs.Private.StatedRows.{flow_parts_of}
+use Rattle.irs_audit.specs.Private.Comparisons.{flow_parts_of}
 use Rattle.irs_audit.proofs.StreamLemmas.{none_at_all, none_more, place_found}
 use Rattle.irs_audit.proofs.agreement.first_departure.Goals as goal
 

@@ -1,4 +1,4 @@
-use Rattle.irs_audit.specs.Private.StatedRows.{flow_parts_of}
+use Rattle.irs_audit.specs.Private.Comparisons.{flow_parts_of}
 use Rattle.irs_audit.proofs.StreamLemmas.{NoneUpTo}
 use Rattle.irs_audit.proofs.agreement.first_departure.Given as goal
 

@@ -1,5 +1,5 @@
 use Rattle.std.proofs.Common.{◌≡◌, drop}
-use Rattle.irs_audit.specs.Private.FieldTables.{first_true}
+use Rattle.irs_audit.specs.Private.Comparisons.{first_true}
 use Rattle.irs_audit.proofs.row_fields.first_of.Given as goal
 
 -- the first field that departs is among those still to be tested

@@ -1,5 +1,5 @@
 use Rattle.std.proofs.Common.{arith}
-use Rattle.irs_audit.specs.Private.StatedRows.{rows_in}
+use Rattle.irs_audit.specs.Private.Comparisons.{rows_in}
 use Rattle.irs_audit.proofs.BoundLemmas.{payments_few}
 use Rattle.irs_audit.proofs.RowLemmas.{stream_first}
 use Rattle.irs_audit.proofs.rows.first_of_rows.Goals as goal

@@ -1,4 +1,4 @@
-use Rattle.irs_audit.specs.Private.StatedRows.{rows_in}
+use Rattle.irs_audit.specs.Private.Comparisons.{rows_in}
 use Rattle.irs_audit.proofs.RowLemmas.{row_found}
 use Rattle.irs_audit.proofs.rows.first_row.Goals as goal
 

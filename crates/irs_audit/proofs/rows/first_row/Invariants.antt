@@ -1,4 +1,4 @@
-use Rattle.irs_audit.specs.Private.StatedRows.{rows_in}
+use Rattle.irs_audit.specs.Private.Comparisons.{rows_in}
 use Rattle.irs_audit.proofs.RowLemmas.{NoneBelow}
 use Rattle.irs_audit.proofs.rows.first_row.Given as goal
 

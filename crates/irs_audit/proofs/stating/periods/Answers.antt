@@ -1,5 +1,5 @@
 use Rattle.std.proofs.Common.{◌≡◌, ◌<◌, length, Some, refl, sym, ◌∙◌}
-use Rattle.irs_schedule.specs.PeriodViews.{period_at}
+use Rattle.irs_schedule.specs.RowsOf.{period_at}
 use Rattle.irs_audit.proofs.BoundLemmas.{period_small}
 use Rattle.irs_audit.proofs.StatedBounds.{period_statable}
 use Rattle.irs_audit.proofs.StatedLemmas.{one_period_more, period_there}

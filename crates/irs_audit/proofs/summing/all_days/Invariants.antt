@@ -1,5 +1,5 @@
 use Rattle.std.proofs.Common.{◌≡◌, ◌*◌, ◌≤◌, drop, pos, unsigned_abs}
-use Rattle.irs_audit.specs.Sums.{all_days_from, most_of_stream}
+use Rattle.irs_audit.specs.StatedFlows.{all_days_from, most_of_stream}
 use Rattle.irs_audit.proofs.summing.all_days.Given as goal
 
 -- the days with those of the streams still to be added are the schedule's, and are bounded

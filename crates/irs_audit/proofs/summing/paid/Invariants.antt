@@ -1,5 +1,5 @@
 use Rattle.std.proofs.Common.{◌≡◌, ◌+◌, ◌*◌, ◌≤◌, drop, unsigned_abs}
-use Rattle.irs_audit.specs.Sums.{most_stated_amount, paid_from}
+use Rattle.irs_audit.specs.StatedFlows.{most_stated_amount, paid_from}
 use Rattle.irs_audit.proofs.summing.paid.Given as goal
 
 -- the sum with the payments still to be added is the stream's total, and is bounded

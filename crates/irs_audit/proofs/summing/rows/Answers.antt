@@ -1,7 +1,7 @@
 use Rattle.std.proofs.Common.{rules}
 use Rattle.std.proofs.lemmas.Iterator.{YieldsList-from_map, YieldsList-from_slice}
 use Rattle.std.proofs.lemmas.Iterator.Consumers.{YieldsList-at, sum_by_from_yields_List}
-use Rattle.irs_audit.specs.Sums.{payment_row_count}
+use Rattle.irs_audit.specs.StatedFlows.{payment_row_count}
 use Rattle.irs_audit.proofs.summing.rows.Goals as goal
 
 pub returns : goal.returns

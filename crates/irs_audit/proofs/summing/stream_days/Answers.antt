@@ -2,7 +2,7 @@ use Rattle.std.proofs.Common.{◌≡◌, ◌+◌, ◌*◌, ◌<◌, ◌≤◌, l
 use Rattle.std.specs.Prelude.{slice_get, IfSome}
 use Rattle.std.specs.Int.{w128}
 use Rattle.std.proofs.lemmas.Int.{to_z-of_z}
-use Rattle.irs_audit.specs.Sums.{most_stated_amount}
+use Rattle.irs_audit.specs.StatedFlows.{most_stated_amount}
 use Rattle.irs_audit.proofs.SumLemmas.{days_more}
 use Rattle.irs_audit.proofs.summing.stream_days.Goals as goal
 

@@ -1,5 +1,5 @@
 use Rattle.std.proofs.Common.{◌≡◌, ◌+◌, ◌*◌, ◌≤◌, drop, unsigned_abs}
-use Rattle.irs_audit.specs.Sums.{days_added_from, most_stated_amount}
+use Rattle.irs_audit.specs.StatedFlows.{days_added_from, most_stated_amount}
 use Rattle.irs_audit.proofs.summing.stream_days.Given as goal
 
 -- the sum with the days still to be added is the stream's total, and is bounded

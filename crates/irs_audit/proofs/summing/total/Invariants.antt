@@ -1,5 +1,5 @@
 use Rattle.std.proofs.Common.{◌≡◌, ◌*◌, ◌≤◌, drop, pos, unsigned_abs}
-use Rattle.irs_audit.specs.Sums.{most_of_stream, total_from}
+use Rattle.irs_audit.specs.StatedFlows.{most_of_stream, total_from}
 use Rattle.irs_audit.proofs.summing.total.Given as goal
 
 -- the sum with the streams still to be added is the schedule's total, and is bounded

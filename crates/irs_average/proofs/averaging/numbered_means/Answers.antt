@@ -1,12 +1,9 @@
 use Rattle.std.proofs.Common.{◌≡◌, ◌-◌, Some}
 use Rattle.std.specs.Prelude.{slice_get}
-use Rattle.irs_base.specs.Order.{First}
-use Rattle.irs_overnight.specs.DerivedRules.{derived_before}
-use Rattle.irs_overnight.specs.Overnight.{asked}
+use Rattle.irs_base.specs.Outcomes.{First}
+use Rattle.irs_overnight.specs.Overnight.{derived_before, asked}
 use Rattle.irs_overnight.proofs.SourceLemmas.{asked_place, part_floats, part_read}
-use Rattle.irs_average.specs.Averages.{AverageAsked, HasMeanSource, averaged}
-use Rattle.irs_average.specs.MeanRules.{BreaksMeans}
-use Rattle.irs_average.specs.MeanSources.{MeanSource}
+use Rattle.irs_average.specs.Averages.{AverageAsked, HasMeanSource, averaged, BreaksMeans, MeanSource}
 use Rattle.irs_average.proofs.AverageLemmas.{average_broken, average_kept, average_rows, has_mean_source, source_with}
 use Rattle.irs_average.proofs.averaging.numbered_means.Goals as goal
 

@@ -1,10 +1,8 @@
 use Rattle.std.proofs.Common.{◌≡◌, inl, inr, ℕ, ◌-◌, Some, length, subst}
 use Rattle.std.specs.Prelude.{slice_get}
 use Rattle.irs_overnight.proofs.SourceLemmas.{asked_place, part_floats, part_read}
-use Rattle.irs_average.specs.Interpolations.{outside_at}
-use Rattle.irs_average.specs.StubRates.{IsStubRow, LiesOutside}
-use Rattle.irs_average.specs.Stubs.{StubAsked, stub_asked, stub_source}
-use Rattle.irs_average.specs.Private.Stubs.{number_on}
+use Rattle.irs_average.specs.Interpolations.{outside_at, IsStubRow, LiesOutside, StubAsked, stub_asked, stub_source}
+use Rattle.irs_average.specs.Private.Means.{number_on}
 use Rattle.irs_average.proofs.StubLemmas.{has_stub, is_with_days, stub_with, with_days}
 use Rattle.irs_average.proofs.interpolating.asked_row.Goals as goal
 

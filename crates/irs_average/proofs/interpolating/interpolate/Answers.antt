@@ -1,4 +1,4 @@
-use Rattle.irs_average.specs.Stubs.{StubAsked, stub_asked}
+use Rattle.irs_average.specs.Interpolations.{StubAsked, stub_asked}
 use Rattle.irs_average.proofs.StubLemmas.{row_kept}
 use Rattle.irs_average.proofs.StubReading.{read_back}
 use Rattle.irs_average.proofs.interpolating.interpolate.Goals as goal

@@ -1,4 +1,4 @@
-use Rattle.irs_average.specs.Stubs.{StubAsked, stub_asked}
+use Rattle.irs_average.specs.Interpolations.{StubAsked, stub_asked}
 use Rattle.irs_average.proofs.StubLemmas.{one_interpolated, one_stub_broken, row_there}
 use Rattle.irs_average.proofs.interpolating.interpolation_is_determined.Goals as goal
 

@@ -1,4 +1,4 @@
-use Rattle.irs_average.specs.Stubs.{StubAsked, stub_asked}
+use Rattle.irs_average.specs.Interpolations.{StubAsked, stub_asked}
 use Rattle.irs_average.proofs.StubLemmas.{lies_among}
 use Rattle.irs_average.proofs.interpolating.interpolation_lies_between_rates.Goals as goal
 

@@ -1,10 +1,9 @@
 use Rattle.std.proofs.Common.{ℕ}
 use Rattle.std.proofs.lemmas.Result.{IfOk-weaker}
-use Rattle.irs_base.specs.Order.{First}
+use Rattle.irs_base.specs.Outcomes.{First}
 use Rattle.irs_base.proofs.HandedAnswers.{handed_back}
-use Rattle.irs_overnight.specs.DerivedRules.{FixingNotAfter, derived_before}
-use Rattle.irs_average.specs.MeanRules.{BreaksMeans, BreaksSamples}
-use Rattle.irs_average.specs.MeanSources.{MeanSource, averaging_by, mean_source, own_lines}
+use Rattle.irs_overnight.specs.Overnight.{FixingNotAfter, derived_before}
+use Rattle.irs_average.specs.Averages.{BreaksMeans, BreaksSamples, MeanSource, averaging_by, mean_source, own_lines}
 use Rattle.irs_average.proofs.MeanOrder.{first_of_samples, means_kept}
 use Rattle.irs_average.proofs.mean_rows.averages.Goals as goal
 

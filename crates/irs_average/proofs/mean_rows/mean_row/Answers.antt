@@ -1,5 +1,5 @@
 use Rattle.std.proofs.Common.{◌≡◌, ◌<ℤ◌, ◌-◌, sym, arith}
-use Rattle.irs_base.specs.Members.{day_at}
+use Rattle.irs_base.specs.Lists.{day_at}
 use Rattle.irs_overnight.proofs.RowLemmas.{day_read, in_order}
 use Rattle.irs_average.proofs.mean_rows.mean_row.Goals as goal
 

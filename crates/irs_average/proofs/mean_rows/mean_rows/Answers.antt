@@ -1,13 +1,12 @@
 use Rattle.std.proofs.Common.{◌≡◌, inl, inr, ℕ, ◌+◌, ◌<◌, [], ◌∷◌, length, length-append, sym, subst, arith}
 use Rattle.std.proofs.lemmas.Bool.{cases_lt}
 use Rattle.std.proofs.lemmas.List.Elements.{All-push}
-use Rattle.irs_base.specs.Order.{First}
+use Rattle.irs_base.specs.Outcomes.{First}
 use Rattle.irs_base.proofs.MemberLemmas.{numbered_push}
-use Rattle.irs_overnight.specs.DerivedRules.{derived_before}
-use Rattle.irs_overnight.specs.Private.FileLaw.{IsInRange}
-use Rattle.irs_average.specs.MeanRows.{IsMeanRow}
-use Rattle.irs_average.specs.MeanRules.{BreaksSamples, LacksSampleDay}
-use Rattle.irs_average.specs.MeanSources.{MeanSource, averaging_by, mean_period_at, mean_source, own_lines}
+use Rattle.irs_overnight.specs.Overnight.{derived_before}
+use Rattle.irs_overnight.specs.Private.Bounds.{IsInRange}
+use Rattle.irs_average.specs.Averages.{IsMeanRow, BreaksSamples, LacksSampleDay, MeanSource, averaging_by}
+use Rattle.irs_average.specs.Averages.{mean_period_at, mean_source, own_lines}
 use Rattle.irs_average.proofs.MeanOrder.{first_lacking}
 use Rattle.irs_average.proofs.mean_rows.mean_rows.Goals as goal
 

@@ -1,8 +1,7 @@
 use Rattle.std.proofs.Common.{◌≡◌, ◌+◌, ◌<◌, ◌≤◌, length, All}
-use Rattle.irs_base.specs.Members.{EachNumbered}
-use Rattle.irs_overnight.specs.Private.FileLaw.{IsInRange}
-use Rattle.irs_average.specs.MeanRows.{IsMeanRow}
-use Rattle.irs_average.specs.MeanSources.{averaging_by, mean_source, own_lines}
+use Rattle.irs_base.specs.Lists.{EachNumbered}
+use Rattle.irs_overnight.specs.Private.Bounds.{IsInRange}
+use Rattle.irs_average.specs.Averages.{IsMeanRow, averaging_by, mean_source, own_lines}
 use Rattle.irs_average.proofs.MeanOrder.{KeptBelow}
 use Rattle.irs_average.proofs.mean_rows.mean_rows.Given as goal
 

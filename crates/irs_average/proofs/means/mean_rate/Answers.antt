@@ -1,7 +1,7 @@
 use Rattle.std.proofs.Common.{rules, FitsSigned}
 use Rattle.std.specs.Int.{w64, w128}
 use Rattle.std.proofs.lemmas.Int.{to_z-of_z}
-use Rattle.irs_average.specs.Means.{IsMean}
+use Rattle.irs_average.specs.Averages.{IsMean}
 use Rattle.irs_average.proofs.MeanLemmas.{mean_small}
 use Rattle.irs_average.proofs.means.mean_rate.Goals as goal
 

@@ -3,7 +3,7 @@ use Rattle.std.specs.Prelude.{unsigned_abs}
 use Rattle.std.specs.Int.{w128}
 use Rattle.std.proofs.lemmas.Int.{to_z-of_z}
 use Rattle.irs_base.specs.Days.{all_days}
-use Rattle.irs_average.specs.Means.{counted_rate, sum_over}
+use Rattle.irs_average.specs.Averages.{counted_rate, sum_over}
 use Rattle.irs_average.proofs.MeanLemmas.{sum_step}
 use Rattle.irs_average.proofs.means.total.Goals as goal
 

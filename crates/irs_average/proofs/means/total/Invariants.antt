@@ -1,6 +1,6 @@
 use Rattle.std.proofs.Common.{◌≡◌, ◌*◌, ◌^◌, ◌≤◌, drop, ◌+ℤ◌, unsigned_abs}
 use Rattle.irs_base.specs.Days.{all_days}
-use Rattle.irs_average.specs.Means.{counted_rate, sum_over}
+use Rattle.irs_average.specs.Averages.{counted_rate, sum_over}
 use Rattle.irs_average.proofs.means.total.Given as goal
 
 abbrev pub invariant-loop-place : goal.invariant-loop-place

@@ -1,7 +1,6 @@
 use Rattle.irs_calendar.specs.GoodDays.{DaySet}
-use Rattle.irs_overnight.specs.Sources.{RateLines}
-use Rattle.irs_average.specs.MeanSources.{own_lines}
-use Rattle.irs_average.specs.Samples.{AreSamples}
+use Rattle.irs_overnight.specs.Observations.{RateLines}
+use Rattle.irs_average.specs.Averages.{own_lines, AreSamples}
 use Rattle.irs_average.proofs.SampleLemmas.{in_order, lacks_none, samples_pushed, shares_out, whole}
 use Rattle.irs_average.proofs.samples.samples.Goals as goal
 

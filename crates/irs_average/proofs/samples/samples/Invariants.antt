@@ -1,4 +1,4 @@
-use Rattle.irs_average.specs.MeanSources.{own_lines}
+use Rattle.irs_average.specs.Averages.{own_lines}
 use Rattle.irs_average.proofs.SampleLemmas.{Samples}
 use Rattle.irs_average.proofs.samples.samples.Given as goal
 

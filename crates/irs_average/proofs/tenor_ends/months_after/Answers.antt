@@ -2,8 +2,7 @@ use Rattle.std.proofs.Common.{rules, ◌≡◌, ℤ, pos, ◌+ℤ◌, SomeIff, F
 use Rattle.std.specs.Int.{w32, w64}
 use Rattle.std.proofs.lemmas.Int.{to_z-of_z}
 use Rattle.jiff_core.proofs.SignedLemmas.{signed_arith}
-use Rattle.irs_base.specs.Days.{IsDay}
-use Rattle.irs_base.specs.Months.{day_in_month}
+use Rattle.irs_base.specs.Days.{IsDay, day_in_month}
 use Rattle.irs_average.proofs.TenorLemmas.{months_end, months_none, months_some}
 use Rattle.irs_average.proofs.tenor_ends.months_after.Goals as goal
 

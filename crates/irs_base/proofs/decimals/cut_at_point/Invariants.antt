@@ -1,5 +1,5 @@
 use Rattle.std.proofs.Common.{◌≡◌, true, take}
-use Rattle.irs_base.specs.Decimals.{has_no_point}
+use Rattle.irs_base.specs.Texts.{has_no_point}
 use Rattle.irs_base.proofs.decimals.cut_at_point.Given as goal
 
 abbrev pub invariant-loop-i : goal.invariant-loop-i

@@ -1,8 +1,8 @@
 use Rattle.std.proofs.Common.{rules, ◌≡◌, ℤ, List, ℕ, sym, subst, FitsSigned}
 use Rattle.std.specs.Int.{w128}
 use Rattle.std.proofs.lemmas.Int.{to_z-of_z}
-use Rattle.irs_base.specs.Decimals.{DecText}
-use Rattle.irs_base.specs.Decimals.DecText.{bare, plus, minus}
+use Rattle.irs_base.specs.Texts.{DecText}
+use Rattle.irs_base.specs.Texts.DecText.{bare, plus, minus}
 use Rattle.irs_base.proofs.DecimalLemmas.{plus_none, minus_none, bare_none}
 use Rattle.irs_base.proofs.decimals.read_dec.Goals as goal
 

@@ -1,5 +1,5 @@
 use Rattle.std.proofs.Common.{rules, sym, subst}
-use Rattle.irs_base.specs.Decimals.{IsUnsigned}
+use Rattle.irs_base.specs.Texts.{IsUnsigned}
 use Rattle.irs_base.proofs.DecimalLemmas.{no_parts, not_zeros, unsigned_is}
 use Rattle.irs_base.proofs.decimals.read_unsigned.Goals as goal
 

@@ -1,5 +1,5 @@
 use Rattle.std.proofs.Common.{◌≡◌, ℕ, ◌<◌, get_or, false}
-use Rattle.irs_base.specs.Fields.{is_space_or_tab}
+use Rattle.irs_base.specs.Texts.{is_space_or_tab}
 use Rattle.irs_base.proofs.fields.split_field.Given as goal
 
 abbrev pub invariant-loop-i : goal.invariant-loop-i

@@ -1,5 +1,5 @@
 use Rattle.std.proofs.Common.{arith, ℕ, suc, List, ◌∷◌, drop, sym, ap, ◌∙◌}
-use Rattle.irs_base.specs.Lines.{lines_of}
+use Rattle.irs_base.specs.Texts.{lines_of}
 use Rattle.irs_base.proofs.LineLemmas.{line_at, line_alone, rest_of}
 use Rattle.irs_base.proofs.lines.split_line.Goals as goal
 

@@ -3,8 +3,7 @@ use Rattle.std.proofs.lemmas.Int.{to_z_pos}
 use Rattle.jiff_core.proofs.SignedLemmas.{signed_arith}
 use Rattle.jiff_core.specs.Calendar.{days_in_month}
 use Rattle.jiff_core.specs.declared.civil.date.Date.{Date}
-use Rattle.irs_base.specs.Days.{HasDate, IsDay, last_month}
-use Rattle.irs_base.specs.Months.{day_in_month}
+use Rattle.irs_base.specs.Days.{HasDate, IsDay, last_month, day_in_month}
 use Rattle.irs_base.proofs.MonthLemmas.{day_in_month-is_day, day_in_month-date}
 use Rattle.irs_base.proofs.months.day_of_month.Goals as goal
 

@@ -1,6 +1,6 @@
 use Rattle.std.proofs.Common.{arith, ap, ◌∙◌}
 use Rattle.jiff_core.proofs.SignedLemmas.{signed_arith}
-use Rattle.irs_base.specs.Months.{day_in_month}
+use Rattle.irs_base.specs.Days.{day_in_month}
 use Rattle.irs_base.proofs.MonthLemmas.{day_in_month-is_day, day_in_month_range, cast_of}
 use Rattle.irs_base.proofs.months.month_day.Goals as goal
 

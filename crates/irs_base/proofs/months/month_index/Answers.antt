@@ -1,7 +1,6 @@
 use Rattle.std.proofs.Common.{arith, ◌≡◌, ℤ, pos, ◌+ℤ◌, ◌-ℤ◌, ◌*ℤ◌, subst, w32, to_z, of_z}
 use Rattle.jiff_core.proofs.SignedLemmas.{signed_arith}
-use Rattle.irs_base.specs.Months.{InMonth}
-use Rattle.irs_base.specs.Days.{month_index_of}
+use Rattle.irs_base.specs.Days.{InMonth, month_index_of}
 use Rattle.irs_base.proofs.MonthLemmas.{date_in_month}
 use Rattle.irs_base.proofs.months.month_index.Goals as goal
 

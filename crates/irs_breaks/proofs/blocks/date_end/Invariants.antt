@@ -1,5 +1,5 @@
 use Rattle.std.proofs.Common.{◌≡◌, ℕ, ℤ, ◌-◌, ◌<◌, ◌≤◌, List, length}
-use Rattle.irs_breaks.specs.Blocks.{At}
+use Rattle.irs_breaks.specs.Pairing.{At}
 use Rattle.irs_breaks.specs.declared.dated.DatedRow.{DatedRow}
 use Rattle.irs_breaks.proofs.blocks.date_end.Given as goal
 

@@ -1,5 +1,5 @@
 use Rattle.std.proofs.Common.{◌≡◌, ℕ, ◌≤◌, List, take}
-use Rattle.irs_breaks.specs.Counting.{number_of}
+use Rattle.irs_breaks.specs.Findings.{number_of}
 use Rattle.irs_breaks.specs.declared.values.FieldValues.{FieldValues}
 use Rattle.irs_breaks.specs.declared.values.Standing.TheVariants.{Compared, Unknown, Unstated}
 use Rattle.irs_breaks.proofs.counting.counts_of.Given as goal

@@ -1,5 +1,5 @@
 use Rattle.std.proofs.Common.{arith, ap, sym, ◌∙◌, Option, ℤ}
-use Rattle.irs_breaks.specs.Dated.{dated_row}
+use Rattle.irs_breaks.specs.Pairing.{dated_row}
 use Rattle.irs_breaks.proofs.RowSteps.{all_rows, push_row, skip_row}
 use Rattle.irs_breaks.proofs.dated.rows_of.Goals as goal
 use Rattle.irs_breaks.proofs.dated.rows_of.Goals.{in-Some+in_ok-push, in_default}

@@ -1,5 +1,5 @@
 use Rattle.std.proofs.Common.{◌≡◌, ◌++◌, drop}
-use Rattle.irs_breaks.specs.Dated.{rows_from}
+use Rattle.irs_breaks.specs.Pairing.{rows_from}
 use Rattle.irs_breaks.proofs.dated.rows_of.Given as goal
 
 -- the rows so far and those of the dates that are left are the rows of all dates

@@ -1,12 +1,12 @@
 use Rattle.std.proofs.Common.{◌≡◌, ℕ, Some, None, refl, subst, arith, ap, ap₂, ◌∙◌}
 use Rattle.std.proofs.lemmas.Result.{on_ok_weaker}
 use Rattle.irs_schedule.proofs.PlaceLemmas.{decimals_few}
-use Rattle.irs_terms.specs.Currencies.{decimals_of}
+use Rattle.irs_terms.specs.Lawful.{decimals_of}
 use Rattle.irs_terms.specs.declared.currency.Currency.{Currency}
 use Rattle.irs_audit.specs.declared.departures.RowKind.TheVariants as row
 use Rattle.irs_breaks.specs.Findings.{joined_findings}
 use Rattle.irs_breaks.specs.Private.Findings.{Adds}
-use Rattle.irs_breaks.specs.RowFindings.{FindsExchange, IsExchangeRow, member_at, ours_alone, break_place, theirs_alone}
+use Rattle.irs_breaks.specs.BreakLists.{FindsExchange, IsExchangeRow, member_at, ours_alone, break_place, theirs_alone}
 use Rattle.irs_breaks.specs.declared.findings.BreakPlace.{BreakPlace}
 use Rattle.irs_breaks.proofs.RowsTold.{adds_both, adds_neither, adds_ours, adds_theirs, exchange_few}
 use Rattle.irs_breaks.proofs.exchange_breaks.push_exchange.Goals as goal

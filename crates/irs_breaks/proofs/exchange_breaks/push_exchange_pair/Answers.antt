@@ -1,9 +1,7 @@
 use Rattle.std.proofs.Common.{◌≡◌, ap, subst, ◌∙◌, List}
-use Rattle.irs_breaks.specs.Counting.{counts_in}
-use Rattle.irs_breaks.specs.Fields.{exchange_fields}
-use Rattle.irs_breaks.specs.Findings.{one_pair, joined_findings}
+use Rattle.irs_breaks.specs.Findings.{counts_in, exchange_fields, one_pair, joined_findings}
 use Rattle.irs_breaks.specs.Private.Findings.{Adds}
-use Rattle.irs_breaks.specs.RowFindings.{AreFieldBreaks}
+use Rattle.irs_breaks.specs.BreakLists.{AreFieldBreaks}
 use Rattle.irs_breaks.specs.declared.counting.Counts.{Counts}
 use Rattle.irs_breaks.specs.declared.values.FieldValues.{FieldValues}
 use Rattle.irs_breaks.proofs.RowsTold.{counted_then}

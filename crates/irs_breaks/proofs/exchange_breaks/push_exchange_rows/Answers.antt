@@ -1,7 +1,7 @@
 use Rattle.std.proofs.Common.{arith}
 use Rattle.irs_breaks.proofs.Joining.{adds_all, adds_none, adds_row}
 use Rattle.irs_breaks.specs.Findings.{RowAt}
-use Rattle.irs_breaks.specs.RowFindings.{IsExchangeRow}
+use Rattle.irs_breaks.specs.BreakLists.{IsExchangeRow}
 use Rattle.irs_breaks.proofs.exchange_breaks.push_exchange_rows.Goals as goal
 
 pub loop-row-init : goal.loop-row-init

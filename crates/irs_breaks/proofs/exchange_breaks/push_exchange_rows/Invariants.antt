@@ -1,6 +1,6 @@
 use Rattle.irs_breaks.specs.Findings.{RowAt, UpTo}
 use Rattle.irs_breaks.specs.Private.Findings.{Adds}
-use Rattle.irs_breaks.specs.RowFindings.{IsExchangeRow}
+use Rattle.irs_breaks.specs.BreakLists.{IsExchangeRow}
 use Rattle.irs_breaks.proofs.exchange_breaks.push_exchange_rows.Given as goal
 
 -- the findings of the rows so far have been added

@@ -2,8 +2,7 @@ use Rattle.std.proofs.Common.{◌≡◌, length, Some, refl, ap, ◌∙◌}
 use Rattle.std.proofs.lemmas.List.{length-map}
 use Rattle.irs_terms.specs.declared.results.Exchange.{Exchange}
 use Rattle.irs_flows.specs.declared.flows.FlowExchange.{FlowExchange}
-use Rattle.irs_breaks.specs.BreakLists.{exchange_dates, stated_exchange_dates}
-use Rattle.irs_breaks.specs.RowFindings.{IsExchangeRow}
+use Rattle.irs_breaks.specs.BreakLists.{exchange_dates, stated_exchange_dates, IsExchangeRow}
 use Rattle.irs_breaks.proofs.TablesTold.{same_placed, told_of}
 use Rattle.irs_breaks.proofs.exchange_breaks.push_exchanges.Goals as goal
 

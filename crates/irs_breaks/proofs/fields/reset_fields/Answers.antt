@@ -1,4 +1,4 @@
-use Rattle.irs_breaks.specs.Fields.{reset_or_nothing}
+use Rattle.irs_breaks.specs.Findings.{reset_or_nothing}
 use Rattle.irs_breaks.proofs.FieldTies.{reset_comparable, reset_ties}
 use Rattle.irs_breaks.proofs.fields.reset_fields.Goals as goal
 

@@ -1,4 +1,4 @@
-use Rattle.irs_breaks.specs.Private.Merging.{IsMergedTo}
+use Rattle.irs_breaks.specs.Private.Blocks.{IsMergedTo}
 use Rattle.irs_breaks.proofs.pairing.merged.Given as goal
 
 -- the rows are merged up to these places

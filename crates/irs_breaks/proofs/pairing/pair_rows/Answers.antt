@@ -1,6 +1,6 @@
 use Rattle.std.proofs.Common.{List, subst, sym}
 use Rattle.std.specs.List.Sorted.{IsPermutation}
-use Rattle.irs_breaks.specs.Dated.{rows_from}
+use Rattle.irs_breaks.specs.Pairing.{rows_from}
 use Rattle.irs_breaks.specs.declared.dated.DatedRow.{DatedRow}
 use Rattle.irs_breaks.proofs.Listing.{paired_all}
 use Rattle.irs_breaks.proofs.PlacedRows.{rows_placed}

@@ -1,6 +1,6 @@
 use Rattle.std.proofs.Common.{◌≡◌, ℕ, ◌+◌, ◌-◌, ◌<◌, arith, get_or, length, refl, subst}
 use Rattle.std.proofs.lemmas.Option.{slice_get-get_or}
-use Rattle.irs_breaks.specs.Blocks.{At}
+use Rattle.irs_breaks.specs.Pairing.{At}
 use Rattle.irs_breaks.proofs.BlockLemmas.{kth_of_ours, paired_inside}
 use Rattle.irs_breaks.proofs.pairing.partner.Goals as goal
 

@@ -1,6 +1,6 @@
 use Rattle.std.proofs.Common.{ℕ, ◌+◌, ◌-◌, List, Option, length, take}
 use Rattle.irs_breaks.specs.declared.dated.DatedRow.{DatedRow}
-use Rattle.irs_base.specs.Members.{Pairs}
+use Rattle.irs_base.specs.Lists.{Pairs}
 use Rattle.irs_breaks.specs.Private.Blocks.{IsEdge, IsPartner}
 use Rattle.irs_breaks.proofs.pairing.partners.Given as goal
 

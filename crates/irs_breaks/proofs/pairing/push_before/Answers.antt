@@ -1,6 +1,6 @@
 use Rattle.std.proofs.Common.{None, arith, get_or, length, refl, sym, ◌∙◌}
 use Rattle.std.proofs.lemmas.Option.{slice_get-get_or, slice_get_read}
-use Rattle.irs_breaks.specs.Blocks.{At}
+use Rattle.irs_breaks.specs.Pairing.{At}
 use Rattle.irs_breaks.specs.Private.Blocks.{IsPartner}
 use Rattle.irs_breaks.proofs.Merging.{pairs_get, pairs_length, push_step, skip_there, stopped_at_end, stopped_before}
 use Rattle.irs_breaks.proofs.pairing.push_before.Goals as goal

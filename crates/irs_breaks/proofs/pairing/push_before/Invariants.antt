@@ -1,5 +1,5 @@
 use Rattle.std.proofs.Common.{◌-◌, length}
-use Rattle.irs_breaks.specs.Private.Merging.{IsMergedTo}
+use Rattle.irs_breaks.specs.Private.Blocks.{IsMergedTo}
 use Rattle.irs_breaks.proofs.pairing.push_before.Given as goal
 
 -- the rows are merged up to these places

@@ -1,5 +1,5 @@
 use Rattle.std.proofs.Common.{take}
-use Rattle.irs_base.specs.Members.{Pairs}
+use Rattle.irs_base.specs.Lists.{Pairs}
 use Rattle.irs_breaks.specs.Private.Blocks.{IsPartner}
 use Rattle.irs_breaks.proofs.pairing.push_partners.Given as goal
 

@@ -1,6 +1,6 @@
 use Rattle.std.proofs.Common.{◌≡◌, ℕ, None, arith, get_or, length, subst, sym, ◌∙◌}
 use Rattle.std.proofs.lemmas.Option.{slice_get-get_or}
-use Rattle.irs_breaks.specs.Private.Undated.{ListsUndated}
+use Rattle.irs_breaks.specs.Private.Blocks.{ListsUndated}
 use Rattle.irs_breaks.proofs.Listing.{ours_push, ours_skip}
 use Rattle.irs_breaks.proofs.pairing.push_undated.Goals as goal
 use Rattle.irs_breaks.proofs.pairing.push_undated.Goals.{then-is_undated+in_ok-push, else-is_undated}

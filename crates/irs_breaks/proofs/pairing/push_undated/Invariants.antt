@@ -1,4 +1,4 @@
-use Rattle.irs_breaks.specs.Private.Undated.{ListsUndated}
+use Rattle.irs_breaks.specs.Private.Blocks.{ListsUndated}
 use Rattle.irs_breaks.proofs.pairing.push_undated.Given as goal
 
 -- our rows without a date before this place are listed

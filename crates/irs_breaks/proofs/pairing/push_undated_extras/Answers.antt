@@ -1,6 +1,6 @@
 use Rattle.std.proofs.Common.{◌≡◌, ℕ, None, arith, get_or, length, subst, sym, ◌∙◌}
 use Rattle.std.proofs.lemmas.Option.{slice_get-get_or}
-use Rattle.irs_breaks.specs.Private.Undated.{ListsUndatedExtras}
+use Rattle.irs_breaks.specs.Private.Blocks.{ListsUndatedExtras}
 use Rattle.irs_breaks.proofs.Listing.{theirs_push, theirs_skip}
 use Rattle.irs_breaks.proofs.pairing.push_undated_extras.Goals as goal
 use Rattle.irs_breaks.proofs.pairing.push_undated_extras.Goals.{then-is_undated+in_ok-push, else-is_undated}

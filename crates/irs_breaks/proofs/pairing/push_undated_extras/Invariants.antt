@@ -1,4 +1,4 @@
-use Rattle.irs_breaks.specs.Private.Undated.{ListsUndatedExtras}
+use Rattle.irs_breaks.specs.Private.Blocks.{ListsUndatedExtras}
 use Rattle.irs_breaks.proofs.pairing.push_undated_extras.Given as goal
 
 -- their rows without a date before this place are listed

@@ -1,13 +1,13 @@
 use Rattle.std.proofs.Common.{◌≡◌, ℕ, Some, None, refl, subst, arith, ap, ap₂, ◌∙◌}
 use Rattle.std.specs.Prelude.{unwrap_or}
 use Rattle.std.proofs.lemmas.Result.{on_ok_weaker}
-use Rattle.irs_terms.specs.Currencies.{decimals_of}
+use Rattle.irs_terms.specs.Lawful.{decimals_of}
 use Rattle.irs_terms.specs.declared.currency.Currency.{Currency}
 use Rattle.irs_audit.specs.declared.departures.RowKind.TheVariants as row
 use Rattle.irs_breaks.specs.Findings.{joined_findings}
 use Rattle.irs_breaks.specs.Private.Findings.{Adds}
-use Rattle.irs_breaks.specs.RowFindings.{FindsPayment, IsPaymentRow, member_at, ours_alone, periods_before, break_place}
-use Rattle.irs_breaks.specs.RowFindings.{theirs_alone}
+use Rattle.irs_breaks.specs.BreakLists.{FindsPayment, IsPaymentRow, member_at, ours_alone, periods_before, break_place}
+use Rattle.irs_breaks.specs.BreakLists.{theirs_alone}
 use Rattle.irs_breaks.specs.declared.findings.BreakPlace.{BreakPlace}
 use Rattle.irs_breaks.proofs.PaymentsTold.{payment_few, payment_periods, start_there}
 use Rattle.irs_breaks.proofs.RowsTold.{adds_both, adds_neither, adds_ours, adds_theirs}

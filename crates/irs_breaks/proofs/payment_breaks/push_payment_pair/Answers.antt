@@ -1,9 +1,9 @@
 use Rattle.std.proofs.Common.{◌≡◌, ap, ◌∙◌}
 use Rattle.std.specs.Prelude.{◌==◌}
 use Rattle.irs_terms.specs.declared.currency.Currency.{Currency}
-use Rattle.irs_breaks.specs.Fields.{payment_fields}
+use Rattle.irs_breaks.specs.Findings.{payment_fields}
 use Rattle.irs_breaks.specs.Private.Findings.{Adds}
-use Rattle.irs_breaks.specs.RowFindings.{FindsPayment, ArePeriodsOf}
+use Rattle.irs_breaks.specs.BreakLists.{FindsPayment, ArePeriodsOf}
 use Rattle.std.proofs.lemmas.Result.{on_ok_weaker}
 use Rattle.irs_breaks.proofs.PaymentsTold.{bare_told, is_bare, not_bare, payments_told, periods_told}
 use Rattle.irs_breaks.proofs.payment_breaks.push_payment_pair.Goals as goal

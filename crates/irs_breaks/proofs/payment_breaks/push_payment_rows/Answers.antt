@@ -1,6 +1,6 @@
 use Rattle.std.proofs.Common.{arith}
 use Rattle.irs_breaks.proofs.Joining.{adds_row}
-use Rattle.irs_breaks.specs.RowFindings.{IsPaymentRow}
+use Rattle.irs_breaks.specs.BreakLists.{IsPaymentRow}
 use Rattle.irs_breaks.proofs.payment_breaks.push_payment_rows.Goals as goal
 
 pub loop-row-preserved : goal.loop-row-preserved

@@ -1,6 +1,6 @@
 use Rattle.irs_breaks.specs.Findings.{RowAt, UpTo}
 use Rattle.irs_breaks.specs.Private.Findings.{Adds}
-use Rattle.irs_breaks.specs.RowFindings.{IsPaymentRow}
+use Rattle.irs_breaks.specs.BreakLists.{IsPaymentRow}
 use Rattle.irs_breaks.proofs.payment_breaks.push_payment_rows.Given as goal
 
 -- the findings of the rows so far have been added

@@ -2,8 +2,7 @@ use Rattle.std.proofs.Common.{◌≡◌, length, Some, refl, ap, ◌∙◌}
 use Rattle.std.proofs.lemmas.List.{length-map}
 use Rattle.irs_schedule.specs.declared.entries.PaymentEntry.{PaymentEntry}
 use Rattle.irs_flows.specs.declared.flows.FlowPayment.{FlowPayment}
-use Rattle.irs_breaks.specs.BreakLists.{payment_row_dates, stated_payment_dates}
-use Rattle.irs_breaks.specs.RowFindings.{IsPaymentRow}
+use Rattle.irs_breaks.specs.BreakLists.{payment_row_dates, stated_payment_dates, IsPaymentRow}
 use Rattle.irs_breaks.proofs.TablesTold.{same_placed, told_of}
 use Rattle.irs_breaks.proofs.payment_breaks.push_payments.Goals as goal
 

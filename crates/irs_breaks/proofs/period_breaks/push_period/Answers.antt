@@ -3,12 +3,11 @@ use Rattle.std.specs.Prelude.{option_and_then, option_copied}
 use Rattle.std.proofs.lemmas.Result.{on_ok_weaker}
 use Rattle.irs_base.specs.declared.line.Dec.{Dec}
 use Rattle.irs_terms.specs.declared.results.Reset.{Reset}
-use Rattle.irs_schedule.specs.PeriodViews.{period_at}
+use Rattle.irs_schedule.specs.RowsOf.{period_at}
 use Rattle.irs_audit.specs.declared.departures.RowKind.TheVariants as row
-use Rattle.irs_breaks.specs.Fields.{notional_of}
-use Rattle.irs_breaks.specs.Findings.{joined_findings}
+use Rattle.irs_breaks.specs.Findings.{notional_of, joined_findings}
 use Rattle.irs_breaks.specs.Private.Findings.{Adds}
-use Rattle.irs_breaks.specs.RowFindings.{ArePeriods, IsPeriodRow, member_at, ours_alone, break_place, theirs_alone}
+use Rattle.irs_breaks.specs.BreakLists.{ArePeriods, IsPeriodRow, member_at, ours_alone, break_place, theirs_alone}
 use Rattle.irs_breaks.specs.declared.findings.BreakPlace.{BreakPlace}
 use Rattle.irs_breaks.proofs.RowsTold.{adds_both, adds_neither, adds_ours, adds_theirs}
 use Rattle.irs_breaks.proofs.period_breaks.push_period.Goals as goal

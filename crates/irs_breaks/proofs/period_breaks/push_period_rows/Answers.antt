@@ -1,7 +1,7 @@
 use Rattle.std.proofs.Common.{arith, subst}
 use Rattle.irs_breaks.proofs.Joining.{adds_row}
 use Rattle.irs_breaks.specs.Private.Findings.{Adds}
-use Rattle.irs_breaks.specs.RowFindings.{IsPeriodRow, moved}
+use Rattle.irs_breaks.specs.BreakLists.{IsPeriodRow, moved}
 use Rattle.irs_breaks.specs.declared.dated.PairedRow.{PairedRow}
 use Rattle.irs_breaks.proofs.period_breaks.push_period_rows.Goals as goal
 

@@ -1,6 +1,6 @@
 use Rattle.irs_breaks.specs.Findings.{RowAt, UpTo}
 use Rattle.irs_breaks.specs.Private.Findings.{Adds}
-use Rattle.irs_breaks.specs.RowFindings.{IsPeriodRow, moved}
+use Rattle.irs_breaks.specs.BreakLists.{IsPeriodRow, moved}
 use Rattle.irs_breaks.proofs.period_breaks.push_period_rows.Given as goal
 
 -- the findings of the rows so far have been added

@@ -1,6 +1,6 @@
 use Rattle.std.proofs.Common.{◌≡◌, ◌-◌, ◌∙◌}
 use Rattle.irs_base.specs.Days.{first_day}
-use Rattle.irs_breaks.specs.RowFindings.{IsPeriodRow, moved, our_starts, their_starts}
+use Rattle.irs_breaks.specs.BreakLists.{IsPeriodRow, moved, our_starts, their_starts}
 use Rattle.irs_breaks.specs.declared.dated.PairedRow.{PairedRow}
 use Rattle.irs_breaks.proofs.TablesTold.{their_rows, told_of}
 use Rattle.irs_breaks.proofs.period_breaks.push_periods.Goals as goal

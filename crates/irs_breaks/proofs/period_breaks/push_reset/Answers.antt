@@ -3,7 +3,7 @@ use Rattle.std.specs.Prelude.{option_copied}
 use Rattle.std.proofs.lemmas.Result.{on_ok_weaker}
 use Rattle.irs_breaks.specs.Findings.{joined_findings, one_break}
 use Rattle.irs_breaks.specs.Private.Findings.{Adds}
-use Rattle.irs_breaks.specs.RowFindings.{FindsReset, extra_reset}
+use Rattle.irs_breaks.specs.BreakLists.{FindsReset, extra_reset}
 use Rattle.irs_breaks.proofs.PaymentsTold.{reset_extra, reset_none}
 use Rattle.irs_breaks.proofs.period_breaks.push_reset.Goals as goal
 

@@ -1,6 +1,6 @@
 use Rattle.std.proofs.Common.{take}
 use Rattle.irs_breaks.specs.Private.Findings.{Adds}
-use Rattle.irs_breaks.specs.RowFindings.{AreFieldBreaks}
+use Rattle.irs_breaks.specs.BreakLists.{AreFieldBreaks}
 use Rattle.irs_breaks.proofs.row_breaks.push_fields.Given as goal
 
 -- the breaks of the fields so far have been added

@@ -1,7 +1,7 @@
 use Rattle.std.proofs.Common.{◌≡◌, ◌+◌, Option, subst}
 use Rattle.std.specs.Prelude.{option_copied, slice_get}
 use Rattle.irs_schedule.specs.Parts.{Part}
-use Rattle.irs_flows.specs.FlowParts.{FlowPart}
+use Rattle.irs_flows.specs.FlowReading.{FlowPart}
 use Rattle.irs_breaks.specs.BreakLists.{IsStream, StreamAt}
 use Rattle.irs_breaks.specs.Private.Findings.{Adds}
 use Rattle.irs_breaks.proofs.Joining.{adds_more}

@@ -1,6 +1,6 @@
 use Rattle.std.proofs.Common.{ap, ◌∙◌, ◌++◌, List, ℕ, codes, length}
 use Rattle.std.specs.List.{sum_by}
-use Rattle.irs_breaks.specs.Counting.{counted_as}
+use Rattle.irs_breaks.specs.Findings.{counted_as}
 use Rattle.irs_breaks.specs.declared.counting.Counts.{Counts}
 use Rattle.irs_breaks.specs.declared.findings.Break.{Break}
 use Rattle.irs_breaks.specs.declared.values.Standing.TheVariants.{Compared, Unknown, Unstated}

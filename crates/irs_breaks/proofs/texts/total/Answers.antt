@@ -1,5 +1,5 @@
 use Rattle.std.proofs.Common.{arith, ◌∙◌}
-use Rattle.irs_breaks.specs.Counting.{counted_as}
+use Rattle.irs_breaks.specs.Findings.{counted_as}
 use Rattle.irs_breaks.proofs.TextSums.{sums_all, sums_more, sums_none}
 use Rattle.irs_breaks.proofs.texts.total.Goals as goal
 

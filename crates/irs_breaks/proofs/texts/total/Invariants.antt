@@ -1,4 +1,4 @@
-use Rattle.irs_breaks.specs.Counting.{counted_as}
+use Rattle.irs_breaks.specs.Findings.{counted_as}
 use Rattle.irs_breaks.proofs.TextSums.{SumsTo}
 use Rattle.irs_breaks.proofs.texts.total.Given as goal
 

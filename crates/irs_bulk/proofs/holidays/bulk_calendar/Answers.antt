@@ -1,6 +1,6 @@
 use Rattle.std.proofs.Common.{◌≡◌, ℕ, suc, ◌+◌, ◌-◌, ◌<◌, List, ◌++◌, append_assoc, ◌∙◌, arith}
 use Rattle.std.specs.List.{flat_map}
-use Rattle.irs_bulk.specs.BulkCalendars.{holidays_text, years_from}
+use Rattle.irs_bulk.specs.BulkRuns.{holidays_text, years_from}
 use Rattle.irs_bulk.proofs.holidays.bulk_calendar.Goals as goal
 
 -- the lines of one more year, and those of the years that are left

@@ -2,7 +2,7 @@ use Rattle.std.proofs.Common.{◌≡◌, ℕ, zero, suc, ◌<◌, ◌≤◌, Lis
 use Rattle.std.specs.Prelude.{All}
 use Rattle.std.specs.declared.alloc.Global.{Global}
 use Rattle.irs_base.specs.Limits.{most_bytes}
-use Rattle.irs_bulk.specs.BulkCalendars.{calendar_text}
+use Rattle.irs_bulk.specs.BulkRuns.{calendar_text}
 use Rattle.irs_bulk.proofs.CalendarLengths.{calendar_short}
 use Rattle.irs_bulk.proofs.runs.calendars.Goals as goal
 

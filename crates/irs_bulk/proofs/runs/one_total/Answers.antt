@@ -1,4 +1,4 @@
-use Rattle.irs_answers.specs.Outcomes.{Ends, IfRefused}
+use Rattle.irs_answers.specs.Due.{Ends, IfRefused}
 use Rattle.irs_answers.proofs.StepLemmas.{refused_by}
 use Rattle.irs_bulk.specs.BulkRuns.{DueAt}
 use Rattle.irs_bulk.proofs.BulkRunLemmas.{refused_document, refused_plain}

@@ -1,8 +1,7 @@
 use Rattle.std.proofs.Common.{ℕ, List, sym, subst, arith}
-use Rattle.irs_answers.specs.Outcomes.{Ends}
+use Rattle.irs_answers.specs.Due.{Ends}
 use Rattle.irs_answers.proofs.StepLemmas.{answered_by}
-use Rattle.irs_bulk.specs.BulkLines.{line_text}
-use Rattle.irs_bulk.specs.BulkRuns.{DueBulk}
+use Rattle.irs_bulk.specs.BulkRuns.{line_text, DueBulk}
 use Rattle.irs_bulk.proofs.BulkRunLemmas.{bulk_sums}
 use Rattle.irs_bulk.proofs.runs.run.Goals as goal
 

@@ -2,7 +2,7 @@ use Rattle.std.proofs.Common.{None, subst}
 use Rattle.irs_answers.specs.declared.tasks.Task.TheVariants.{Schedule}
 use Rattle.irs_answers.proofs.DueLemmas.{refuse_calendars}
 use Rattle.irs_bulk.specs.BulkRuns.{files_of}
-use Rattle.irs_bulk.specs.Private.Tables.{IsTable}
+use Rattle.irs_bulk.specs.Private.BulkRuns.{IsTable}
 use Rattle.irs_bulk.proofs.BulkRunLemmas.{schedule_by, unscheduled_by}
 use Rattle.irs_bulk.proofs.runs.schedule_at.Goals as goal
 

@@ -3,7 +3,7 @@ use Rattle.serde_json.specs.Data.{Data}
 use Rattle.serde_json.specs.View.{view}
 use Rattle.irs_answers.specs.declared.tasks.Task.TheVariants.{Schedule}
 use Rattle.irs_answers.specs.Forms.{TextReads, json_text}
-use Rattle.irs_answers.specs.Outcomes.{Ends, IfRefused, ReadFails, of_read, of_stopped}
+use Rattle.irs_answers.specs.Due.{Ends, IfRefused, ReadFails, of_read, of_stopped}
 use Rattle.irs_answers.proofs.DueLemmas.{refuse_read, refuse_text}
 use Rattle.irs_answers.proofs.StepLemmas.{refused_by}
 use Rattle.irs_bulk.specs.BulkRuns.{DueSchedule, files_of}

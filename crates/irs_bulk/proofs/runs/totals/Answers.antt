@@ -1,7 +1,6 @@
 use Rattle.std.proofs.Common.{◌≡◌, ℕ, suc, ◌+◌, sym, subst, arith}
-use Rattle.irs_answers.specs.Outcomes.{Ends, IfRefused}
-use Rattle.irs_bulk.specs.BulkLines.{both_totals}
-use Rattle.irs_bulk.specs.BulkRuns.{AddsDocument, AreSums, DueAt}
+use Rattle.irs_answers.specs.Due.{Ends, IfRefused}
+use Rattle.irs_bulk.specs.BulkRuns.{both_totals, AddsDocument, AreSums, DueAt}
 use Rattle.irs_bulk.specs.declared.totals.Totals.{Totals}
 use Rattle.irs_bulk.proofs.BulkRunLemmas.{bulk_refused, sums_more}
 use Rattle.irs_bulk.proofs.runs.totals.Goals as goal

@@ -1,6 +1,5 @@
 use Rattle.std.proofs.Common.{◌≡◌}
-use Rattle.irs_bulk.specs.BulkLines.{AreRunTotals}
-use Rattle.irs_bulk.specs.BulkRuns.{AreSums}
+use Rattle.irs_bulk.specs.BulkRuns.{AreRunTotals, AreSums}
 use Rattle.irs_bulk.proofs.runs.totals.Given as goal
 
 -- the sums over the documents so far

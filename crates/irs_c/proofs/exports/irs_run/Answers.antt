@@ -1,7 +1,6 @@
 use Rattle.std.proofs.Common.{inl, inr, refl}
 use Rattle.irs_cli.proofs.OneAnswer.{one_answer}
-use Rattle.irs_c.specs.Each.{status_alone}
-use Rattle.irs_c.specs.Given.{words_in, file_in}
+use Rattle.irs_c.specs.Each.{status_alone, words_in, file_in}
 use Rattle.irs_c.specs.Private.Each.{outcome_by}
 use Rattle.irs_c.proofs.ShownLemmas.{nothing_shown}
 use Rattle.irs_c.proofs.exports.irs_run.Goals as goal

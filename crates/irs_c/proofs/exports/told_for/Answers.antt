@@ -2,9 +2,8 @@ use Rattle.std.proofs.Common.{List, [], ◌++◌, ap, subst, ◌∙◌}
 use Rattle.std.proofs.lemmas.List.{append-nil}
 use Rattle.std.specs.Prelude.{IfOk}
 use Rattle.irs_cli.specs.Commands.{Words, word_texts}
-use Rattle.irs_c.specs.Each.{IsRun}
+use Rattle.irs_c.specs.Each.{IsRun, words_in}
 use Rattle.irs_c.specs.Private.Each.{outcome_by}
-use Rattle.irs_c.specs.Given.{words_in}
 use Rattle.irs_c.specs.declared.given.File.{File}
 use Rattle.irs_c.proofs.exports.told_for.Goals as goal
 

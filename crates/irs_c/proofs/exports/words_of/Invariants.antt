@@ -1,6 +1,6 @@
 use Rattle.std.proofs.Common.{◌≡◌, take}
 use Rattle.irs_cli.specs.Commands.{word_texts}
-use Rattle.irs_c.specs.Given.{words_in}
+use Rattle.irs_c.specs.Each.{words_in}
 use Rattle.irs_c.proofs.exports.words_of.Given as goal
 
 -- the texts of the words so far

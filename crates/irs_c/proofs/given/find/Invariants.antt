@@ -1,5 +1,5 @@
 use Rattle.std.proofs.Common.{◌≡◌, drop}
-use Rattle.irs_c.specs.Given.{file_in}
+use Rattle.irs_c.specs.Each.{file_in}
 use Rattle.irs_c.proofs.given.find.Given as goal
 
 -- the files so far have another name

@@ -1,6 +1,6 @@
 use Rattle.std.proofs.Common.{◌≡◌, ℕ, List, Option, Some, None, Bor, ap, sym, ◌∙◌}
 use Rattle.std.specs.Prelude.{option_map}
-use Rattle.irs_c.specs.Given.{file_in}
+use Rattle.irs_c.specs.Each.{file_in}
 use Rattle.irs_c.proofs.LentLemmas.{looked_after, still_in}
 use Rattle.irs_c.proofs.given.find_in.Goals as goal
 

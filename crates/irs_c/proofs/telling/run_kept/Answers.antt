@@ -1,13 +1,10 @@
 use Rattle.std.proofs.Common.{arith, ◌≡◌, inl, inr, ℕ, List, [], ◌∷◌, ◌++◌, Option, Some, None, subst, sym, ◌∙◌}
 use Rattle.irs_outside.specs.Outside.{Grew}
 use Rattle.irs_cli.specs.Commands.{Words, Wanted, word_texts}
-use Rattle.irs_cli.specs.Due.{Due}
-use Rattle.irs_cli.specs.Fetching.{FailedAt, Gives, NotLong}
-use Rattle.irs_cli.specs.Given.{ReachesFile}
-use Rattle.irs_cli.specs.Causes.{IsCauseOfWritten, IsRunCause, run_status}
-use Rattle.irs_cli.specs.Run.{NoFile, Ran, Source, Written, source}
+use Rattle.irs_cli.specs.Run.{Due, IsCauseOfWritten, IsRunCause, run_status, NoFile, Ran, Source, Written, source}
+use Rattle.irs_cli.specs.Given.{FailedAt, Gives, NotLong, ReachesFile}
 use Rattle.irs_cli.specs.declared.causes.RunCause.{RunCause}
-use Rattle.irs_c.specs.Given.{file_in, gives_in, AbsentAt, IsAbsent}
+use Rattle.irs_c.specs.Each.{file_in, gives_in, AbsentAt, IsAbsent}
 use Rattle.irs_c.specs.declared.given.File.{File}
 use Rattle.irs_c.proofs.LentLemmas.{common_for}
 use Rattle.irs_c.proofs.telling.run_kept.Goals as goal

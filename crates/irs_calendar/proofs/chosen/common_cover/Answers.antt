@@ -1,5 +1,5 @@
 use Rattle.irs_base.specs.Days.{first_day, last_day}
-use Rattle.irs_calendar.specs.Selected.{latest_first, earliest_last}
+use Rattle.irs_calendar.specs.Sections.{latest_first, earliest_last}
 use Rattle.irs_calendar.proofs.CoverLemmas.{sections_at, first_more, last_more, first_end, last_end}
 use Rattle.irs_calendar.proofs.chosen.common_cover.Goals as goal
 

@@ -1,6 +1,6 @@
 use Rattle.std.proofs.Common.{◌≡◌, drop}
 use Rattle.irs_base.specs.Days.{first_day, last_day}
-use Rattle.irs_calendar.specs.Selected.{latest_first, earliest_last}
+use Rattle.irs_calendar.specs.Sections.{latest_first, earliest_last}
 use Rattle.irs_calendar.proofs.CoverLemmas.{sections_at}
 use Rattle.irs_calendar.proofs.chosen.common_cover.Given as goal
 

@@ -1,8 +1,8 @@
 use Rattle.std.proofs.Common.{◌+◌, arith, length, ◌≤◌, subst}
 use Rattle.std.proofs.lemmas.Result.{err_from_is_err_and}
-use Rattle.irs_calendar.specs.EndLines.{seen_from}
+use Rattle.irs_calendar.specs.Grammar.{seen_from}
 use Rattle.irs_calendar.specs.Private.Files.{GivesFile, sections_of}
-use Rattle.irs_base.specs.Lines.{lines_of}
+use Rattle.irs_base.specs.Texts.{lines_of}
 use Rattle.irs_calendar.proofs.FileLemmas.{goes_on, fails, ended}
 use Rattle.irs_calendar.proofs.files.read_file.Goals as goal
 

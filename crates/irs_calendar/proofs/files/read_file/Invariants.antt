@@ -1,7 +1,7 @@
 use Rattle.std.proofs.Common.{◌≡◌, ◌+◌, ◌≤◌, length}
 use Rattle.irs_base.specs.Limits.{most_bytes}
-use Rattle.irs_base.specs.Lines.{lines_of}
-use Rattle.irs_calendar.specs.EndLines.{seen_from}
+use Rattle.irs_base.specs.Texts.{lines_of}
+use Rattle.irs_calendar.specs.Grammar.{seen_from}
 use Rattle.irs_calendar.specs.Private.Files.{sections_in, sections_of}
 use Rattle.irs_calendar.proofs.files.read_file.Given as goal
 

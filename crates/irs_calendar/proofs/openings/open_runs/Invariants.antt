@@ -1,8 +1,7 @@
 use Rattle.std.proofs.Common.{◌-◌, ◌<◌, map, Bor}
 use Rattle.irs_calendar.specs.declared.sections.Section.{Section}
 use Rattle.irs_calendar.specs.Sections.{all_open}
-use Rattle.irs_calendar.specs.Private.Weekends.{IsWeekend}
-use Rattle.irs_calendar.specs.Private.Closed.{is_marked, IsNext}
+use Rattle.irs_calendar.specs.Private.Closed.{IsWeekend, is_marked, IsNext}
 use Rattle.irs_calendar.proofs.GrownLemmas.{Among}
 use Rattle.irs_calendar.proofs.openings.open_runs.Given as goal
 

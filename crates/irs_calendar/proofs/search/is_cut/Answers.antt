@@ -1,5 +1,5 @@
 use Rattle.std.proofs.Common.{sym, ◌∙◌, arith}
-use Rattle.irs_calendar.specs.Private.Splits.{begins_or_ends_before}
+use Rattle.irs_calendar.specs.Private.Closed.{begins_or_ends_before}
 use Rattle.irs_calendar.proofs.Halving.{cut_here, false_from_not}
 use Rattle.irs_calendar.proofs.search.is_cut.Goals as goal
 

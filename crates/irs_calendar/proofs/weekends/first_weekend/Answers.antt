@@ -1,5 +1,5 @@
 use Rattle.std.proofs.Common.{ℕ, ◌+◌, ◌%◌, sym, subst}
-use Rattle.irs_calendar.specs.Private.Weekends.{IsWeekend}
+use Rattle.irs_calendar.specs.Private.Closed.{IsWeekend}
 use Rattle.irs_calendar.proofs.CoverLemmas.{sections_at}
 use Rattle.irs_calendar.proofs.ClosedLemmas.{weekend_none, weekend_first}
 use Rattle.irs_calendar.proofs.weekends.first_weekend.Goals as goal

@@ -1,6 +1,6 @@
 use Rattle.std.proofs.Common.{◌≡◌, false, take, map, Bor}
 use Rattle.irs_calendar.specs.declared.sections.Section.{Section}
-use Rattle.irs_calendar.specs.Private.Weekends.{off_on}
+use Rattle.irs_calendar.specs.Private.Closed.{off_on}
 use Rattle.irs_calendar.proofs.weekends.is_off.Given as goal
 
 -- no section so far is closed on this weekday

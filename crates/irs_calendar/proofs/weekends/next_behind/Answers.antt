@@ -1,7 +1,7 @@
 use Rattle.std.proofs.Common.{false, ◌+◌, ◌-◌, ◌≤◌, ◌%◌, subst, slice_index_or, map, Bor, ◌∙◌, arith}
 use Rattle.std.proofs.lemmas.List.{length-set}
 use Rattle.irs_calendar.specs.declared.sections.Section.{Section}
-use Rattle.irs_calendar.specs.Private.Weekends.{off_on, IsStretch}
+use Rattle.irs_calendar.specs.Private.Closed.{off_on, IsStretch}
 use Rattle.irs_calendar.proofs.ClosedLemmas.{table_more}
 use Rattle.irs_calendar.proofs.weekends.next_behind.Goals as goal
 

@@ -1,6 +1,6 @@
 use Rattle.std.proofs.Common.{◌≡◌, ℕ, false, ◌+◌, ◌-◌, ◌≤◌, ◌%◌, ◌<◌, length, map, Bor, slice_index_or}
 use Rattle.irs_calendar.specs.declared.sections.Section.{Section}
-use Rattle.irs_calendar.specs.Private.Weekends.{off_on, IsStretch}
+use Rattle.irs_calendar.specs.Private.Closed.{off_on, IsStretch}
 use Rattle.irs_calendar.proofs.weekends.next_behind.Given as goal
 
 -- for each weekday before p, the distance to the next closed weekday is known

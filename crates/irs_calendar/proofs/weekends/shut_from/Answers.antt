@@ -1,7 +1,7 @@
 use Rattle.std.proofs.Common.{true, map, Bor, ◌∙◌, arith}
 use Rattle.std.proofs.lemmas.List.{length-set}
 use Rattle.irs_calendar.specs.declared.sections.Section.{Section}
-use Rattle.irs_calendar.specs.Private.Weekends.{off_on, IsStretch}
+use Rattle.irs_calendar.specs.Private.Closed.{off_on, IsStretch}
 use Rattle.irs_calendar.proofs.ClosedLemmas.{table_more}
 use Rattle.irs_calendar.proofs.weekends.shut_from.Goals as goal
 

@@ -1,6 +1,6 @@
 use Rattle.std.proofs.Common.{◌≡◌, ℕ, true, ◌<◌, length, map, Bor, slice_index_or}
 use Rattle.irs_calendar.specs.declared.sections.Section.{Section}
-use Rattle.irs_calendar.specs.Private.Weekends.{off_on, IsStretch}
+use Rattle.irs_calendar.specs.Private.Closed.{off_on, IsStretch}
 use Rattle.irs_calendar.proofs.weekends.shut_from.Given as goal
 
 -- the number of closed days in a row from each weekday before p is known

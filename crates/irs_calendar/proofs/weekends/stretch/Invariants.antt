@@ -1,6 +1,6 @@
 use Rattle.std.proofs.Common.{◌≡◌, ℕ, ◌+◌, ◌-◌, ◌<◌, ◌≤◌, ◌%◌, map, Bor}
 use Rattle.irs_calendar.specs.declared.sections.Section.{Section}
-use Rattle.irs_calendar.specs.Private.Weekends.{off_on}
+use Rattle.irs_calendar.specs.Private.Closed.{off_on}
 use Rattle.irs_calendar.proofs.weekends.stretch.Given as goal
 
 -- the first n weekdays from here are alike closed, or alike open

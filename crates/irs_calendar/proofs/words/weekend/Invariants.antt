@@ -1,6 +1,6 @@
 use Rattle.std.proofs.Common.{◌≡◌, length, Some}
-use Rattle.irs_base.specs.Fields.{fields}
-use Rattle.irs_calendar.specs.Words.{weekend_of, no_days}
+use Rattle.irs_base.specs.Texts.{fields}
+use Rattle.irs_calendar.specs.Grammar.{weekend_of, no_days}
 use Rattle.irs_calendar.proofs.words.weekend.Given as goal
 
 -- the weekdays so far, with the names that remain, give the weekend of all the names

@@ -4,7 +4,7 @@ use Rattle.std.specs.declared.alloc.Global.{Global}
 use Rattle.irs_cli.specs.declared.commands.Named.{Named}
 use Rattle.irs_cli.specs.declared.commands.Role.{Role}
 use Rattle.irs_cli.specs.Commands.{word_texts, roles_of, params_of, role_at, files_from}
-use Rattle.irs_cli.specs.Private.Commands.{wanted_by}
+use Rattle.irs_cli.specs.Private.Fetching.{wanted_by}
 use Rattle.irs_cli.proofs.CommandLemmas.{ap_some, word_at, step_yes, step_no}
 use Rattle.irs_cli.proofs.commands.files_of.Goals as goal
 use Rattle.irs_cli.proofs.commands.files_of.Goals.{then-is_file+in_ok-push, else-is_file}

@@ -1,6 +1,6 @@
 use Rattle.std.proofs.Common.{◌≡◌, ◌+◌, ◌++◌, map, drop}
 use Rattle.irs_cli.specs.Commands.{word_texts, params_of, roles_of, files_from}
-use Rattle.irs_cli.specs.Private.Commands.{wanted_by}
+use Rattle.irs_cli.specs.Private.Fetching.{wanted_by}
 use Rattle.irs_cli.proofs.commands.files_of.Given as goal
 
 -- the files so far and those of the words that are left are the files of the command

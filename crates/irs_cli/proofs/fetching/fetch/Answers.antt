@@ -1,6 +1,6 @@
 use Rattle.std.proofs.Common.{◌<◌, ◌≤◌, refl, rules, length}
 use Rattle.irs_cli.proofs.FetchLemmas.{front_whole, front_long}
-use Rattle.irs_answers.specs.Given.{too_many}
+use Rattle.irs_answers.specs.Forms.{too_many}
 use Rattle.irs_cli.proofs.fetching.fetch.Goals as goal
 
 pub returns-in-Ok-clause-one : goal.returns-in-Ok-clause-one

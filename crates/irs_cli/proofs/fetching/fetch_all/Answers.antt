@@ -1,11 +1,11 @@
 use Rattle.std.proofs.Common.{◌∙◌, [], get_or}
 use Rattle.irs_cli.specs.declared.commands.Named.{Named}
 use Rattle.irs_cli.specs.declared.commands.Role.TheVariants.{Document}
-use Rattle.irs_cli.specs.Private.Commands.{wanted_by}
+use Rattle.irs_cli.specs.Private.Fetching.{wanted_by}
 use Rattle.std.proofs.Common.{map}
-use Rattle.irs_answers.specs.Given.{files_given_by}
+use Rattle.irs_answers.specs.Forms.{files_given_by}
 use Rattle.irs_cli.proofs.FetchLemmas.{holds_before, stops_before, stops_at, held_more, gathered_more, stored_as, all_by}
-use Rattle.irs_cli.specs.Fetching.{IsGiven}
+use Rattle.irs_cli.specs.Given.{IsGiven}
 use Rattle.irs_cli.proofs.fetching.fetch_all.Goals as goal
 
 pub returns-in_err-bytes-clause-all : goal.returns-in_err-bytes-clause-all

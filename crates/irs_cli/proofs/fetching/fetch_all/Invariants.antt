@@ -1,8 +1,7 @@
 use Rattle.std.proofs.Common.{◌≡◌, ℕ, List, map, take}
-use Rattle.irs_cli.specs.Private.Commands.{wanted_by}
-use Rattle.irs_answers.specs.Given.{files_given_by, no_files}
-use Rattle.irs_cli.specs.Given.{Gathers}
-use Rattle.irs_cli.specs.Fetching.{Holds, IsGiven}
+use Rattle.irs_cli.specs.Private.Fetching.{wanted_by}
+use Rattle.irs_answers.specs.Forms.{files_given_by, no_files}
+use Rattle.irs_cli.specs.Given.{Gathers, Holds, IsGiven}
 use Rattle.irs_cli.proofs.fetching.fetch_all.Given as goal
 
 -- the files so far are fetched, and the source states the same as before

@@ -1,6 +1,6 @@
 use Rattle.std.proofs.Common.{ℕ, subst, arith}
 use Rattle.std.proofs.lemmas.Fmt.{parse-decimal}
-use Rattle.irs_cli.specs.Params.{IsCountWord}
+use Rattle.irs_cli.specs.Commands.{IsCountWord}
 use Rattle.irs_cli.proofs.HandedReplies.{not_true, ok_not_err, ok_same}
 use Rattle.irs_cli.proofs.params.count_of.Goals as goal
 

@@ -1,7 +1,6 @@
 use Rattle.std.proofs.Common.{ℕ, List, subst, sym, ◌∙◌}
 use Rattle.std.proofs.lemmas.Option.{same_Some}
-use Rattle.irs_cli.specs.Commands.{word_texts}
-use Rattle.irs_cli.specs.Params.{At, IsStepWord}
+use Rattle.irs_cli.specs.Commands.{word_texts, At, IsStepWord}
 use Rattle.irs_cli.proofs.CommandLemmas.{word_at}
 use Rattle.irs_cli.proofs.HandedReplies.{none_then}
 use Rattle.irs_cli.proofs.params.step_at.Goals as goal

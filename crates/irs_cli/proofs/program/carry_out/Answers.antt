@@ -2,17 +2,12 @@ use Rattle.std.proofs.Common.{List, map, Option, Bor, true, subst}
 use Rattle.std.specs.Prelude.{IfSome}
 use Rattle.irs_cli.specs.declared.commands.Named.{Named}
 use Rattle.irs_cli.specs.Commands.{Wanted, word_texts, Asks}
-use Rattle.irs_cli.specs.Private.Commands.{asked_by, wanted_by}
-use Rattle.irs_answers.specs.Causes.{cause_of}
-use Rattle.irs_answers.specs.Given.{files_given_by, no_files}
-use Rattle.irs_answers.specs.Replying.{reply_status, reply_text}
+use Rattle.irs_cli.specs.Private.Fetching.{asked_by, wanted_by, Stops}
+use Rattle.irs_answers.specs.Messages.{cause_of, reply_status, reply_text}
+use Rattle.irs_answers.specs.Forms.{files_given_by, no_files}
 use Rattle.irs_answers.specs.declared.common.Common.{Common}
-use Rattle.irs_cli.specs.Given.{Gathers}
-use Rattle.irs_cli.specs.Fetching.{Holds, IsGiven}
-use Rattle.irs_cli.specs.Private.Fetching.{Stops}
-use Rattle.irs_cli.specs.Outcomes.{of_fetch}
-use Rattle.irs_cli.specs.Run.{Replies, source}
-use Rattle.irs_cli.specs.Sharing.{IsCommon, files_with}
+use Rattle.irs_cli.specs.Given.{Gathers, Holds, IsGiven, IsCommon, files_with}
+use Rattle.irs_cli.specs.Run.{of_fetch, Replies, source}
 use Rattle.irs_cli.proofs.CommandLemmas.{unlisted_by, asks_by, few_cals, lawful_asked}
 use Rattle.irs_cli.proofs.CommonLemmas.{caused_with, replies_with, stops_with}
 use Rattle.irs_cli.proofs.FileLemmas.{gathers_within}

@@ -1,7 +1,6 @@
 use Rattle.std.proofs.Common.{ℕ, refl, subst, sym, ap, ◌∙◌}
-use Rattle.irs_cli.specs.Causes.{run_reply_status, run_reply_text, run_status}
+use Rattle.irs_cli.specs.Run.{run_reply_status, run_reply_text, run_status, Ran, source, written}
 use Rattle.irs_cli.specs.Commands.{word_texts}
-use Rattle.irs_cli.specs.Run.{Ran, source, written}
 use Rattle.irs_cli.proofs.CauseLemmas.{cause_written, same_run_status}
 use Rattle.irs_cli.proofs.RunLemmas.{memory_ran, put_failed_ran, put_ran}
 use Rattle.irs_cli.proofs.program.cause_of_run.Goals as goal

@@ -1,8 +1,8 @@
 use Rattle.std.proofs.Common.{ℕ, List, subst}
 use Rattle.irs_answers.proofs.CauseLemmas.{cause_holds}
-use Rattle.irs_answers.specs.Carried.{DueCarrier}
-use Rattle.irs_answers.specs.Outcomes.{Ends}
-use Rattle.irs_answers.specs.Replying.{reply_status, reply_text}
+use Rattle.irs_answers.specs.Tasks.{DueCarrier}
+use Rattle.irs_answers.specs.Due.{Ends}
+use Rattle.irs_answers.specs.Messages.{reply_status, reply_text}
 use Rattle.irs_cli.proofs.program.reply_with.Goals as goal
 
 pub returns-in_ok-bulk-in-Bulk-clause-cause : goal.returns-in_ok-bulk-in-Bulk-clause-cause

@@ -1,10 +1,10 @@
 use Rattle.std.proofs.Common.{◌≡◌, ℕ, List, ◌∷◌, ◌++◌, ◌∙◌, subst}
 use Rattle.irs_schedule.specs.declared.row.Row.{Row}
-use Rattle.irs_schedule.specs.RowTexts.{RowHasPlaces, row_text_of, schedule_text, text_from}
+use Rattle.irs_schedule.specs.RowsOf.{RowHasPlaces, row_text_of, schedule_text, text_from}
 use Rattle.irs_cli.specs.Private.Pages.{Through}
 use Rattle.irs_cli.proofs.PutLemmas.{through_page, through_last, through_part, through_last_part}
 use Rattle.irs_cli.proofs.PutLemmas.{through_row, through_end, on_err, on_ok_then, on_err_then}
-use Rattle.irs_base.specs.Members.{Every}
+use Rattle.irs_base.specs.Lists.{Every}
 use Rattle.irs_cli.proofs.rows.put_schedule.Goals as goal
 
 pub loop-row-preserved : goal.loop-row-preserved

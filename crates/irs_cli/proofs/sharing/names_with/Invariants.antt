@@ -1,6 +1,6 @@
 use Rattle.std.proofs.Common.{◌≡◌, ◌++◌, map, drop}
-use Rattle.irs_cli.specs.Private.Commands.{wanted_by}
-use Rattle.irs_cli.specs.Sharing.{files_with}
+use Rattle.irs_cli.specs.Private.Fetching.{wanted_by}
+use Rattle.irs_cli.specs.Given.{files_with}
 use Rattle.irs_cli.proofs.sharing.names_with.Given as goal
 
 -- the files that were found, and those of the part that are left, are the files of the part

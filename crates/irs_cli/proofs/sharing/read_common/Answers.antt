@@ -1,10 +1,8 @@
 use Rattle.std.proofs.Common.{List, false, subst}
-use Rattle.irs_answers.specs.Given.{files_given_by, no_files}
+use Rattle.irs_answers.specs.Forms.{files_given_by, no_files}
 use Rattle.irs_cli.specs.Commands.{Asks, Wanted, word_texts}
-use Rattle.irs_cli.specs.Private.Commands.{asked_by}
-use Rattle.irs_cli.specs.Fetching.{Holds}
-use Rattle.irs_cli.specs.Given.{Gathers}
-use Rattle.irs_cli.specs.Sharing.{files_with}
+use Rattle.irs_cli.specs.Private.Fetching.{asked_by}
+use Rattle.irs_cli.specs.Given.{Holds, Gathers, files_with}
 use Rattle.irs_cli.proofs.CommandLemmas.{asks_by}
 use Rattle.irs_cli.proofs.CommonLemmas.{common_within}
 use Rattle.irs_cli.proofs.SharingLemmas.{part_of}

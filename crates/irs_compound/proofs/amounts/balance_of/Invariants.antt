@@ -1,5 +1,5 @@
 use Rattle.std.proofs.Common.{◌≡◌}
-use Rattle.irs_compound.specs.Private.Balances.{Balances}
+use Rattle.irs_compound.specs.Private.AmountLaws.{Balances}
 use Rattle.irs_compound.proofs.amounts.balance_of.Given as goal
 
 -- the balance is that of the periods before this one

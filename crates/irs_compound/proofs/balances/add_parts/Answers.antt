@@ -3,7 +3,7 @@ use Rattle.std.specs.Int.{w128}
 use Rattle.std.proofs.lemmas.Int.{to_z-of_z}
 use Rattle.irs_terms.specs.declared.codes.CompCode.{CompCode}
 use Rattle.irs_compound.specs.Amounts.{PartsWithin, amount, kept_of, most_amount}
-use Rattle.irs_compound.specs.Private.Balances.{balance_after}
+use Rattle.irs_compound.specs.Private.AmountLaws.{balance_after}
 use Rattle.irs_compound.specs.declared.balances.Balance.{Balance}
 use Rattle.irs_compound.specs.declared.periods.Parts.{Parts}
 use Rattle.irs_compound.proofs.balances.add_parts.Goals as goal

@@ -2,7 +2,7 @@ use Rattle.std.proofs.Common.{rules, arith, ◌≡◌, ◌*◌, unsigned_abs, Fi
 use Rattle.std.specs.Int.{w64, w128}
 use Rattle.std.proofs.lemmas.Int.{to_z-of_z}
 use Rattle.irs_base.specs.Limits.{most_numerator, most_rate}
-use Rattle.irs_compound.specs.Private.Amounts.{most_balance}
+use Rattle.irs_compound.specs.Private.AmountLaws.{most_balance}
 use Rattle.irs_compound.proofs.Sizes.{size_between, product_of_two}
 use Rattle.irs_compound.proofs.interest.earned.Goals as goal
 

@@ -1,4 +1,4 @@
-use Rattle.irs_compound.specs.Private.OvernightLaws.{one_rates_in}
+use Rattle.irs_compound.specs.Private.RateLaws.{one_rates_in}
 use Rattle.irs_compound.proofs.overnight.overnight_rates_are_determined.Goals as goal
 
 pub returns : goal.returns

@@ -1,6 +1,6 @@
 use Rattle.std.proofs.Common.{sym, subst}
-use Rattle.irs_compound.specs.Private.OvernightLaws.{rates_in_are}
-use Rattle.irs_compound.specs.OvernightRates.{AreRatesIn}
+use Rattle.irs_compound.specs.Private.RateLaws.{rates_in_are}
+use Rattle.irs_compound.specs.PeriodRates.{AreRatesIn}
 use Rattle.irs_compound.proofs.OvernightSizes.{above_in}
 use Rattle.irs_compound.proofs.overnight.rates_of_period.Goals as goal
 

@@ -2,7 +2,7 @@ use Rattle.std.proofs.Common.{rules, arith, ◌≡◌, pos, FitsSigned}
 use Rattle.std.specs.Int.{w64, w128}
 use Rattle.std.proofs.lemmas.Int.{to_z-of_z, ints}
 use Rattle.irs_observed.specs.ObservedRates.{period_rate_at}
-use Rattle.irs_compound.specs.Private.OvernightLaws.{rates_over_by}
+use Rattle.irs_compound.specs.Private.RateLaws.{rates_over_by}
 use Rattle.irs_compound.specs.PeriodRates.{treated}
 use Rattle.irs_compound.proofs.overnight.rates_over.Goals as goal
 

@@ -1,7 +1,7 @@
 use Rattle.std.proofs.Common.{rules, ◌≡◌, ◌*ℤ◌, FitsSigned}
 use Rattle.std.specs.Int.{w64, w128}
 use Rattle.std.proofs.lemmas.Int.{to_z-of_z}
-use Rattle.irs_compound.specs.Private.Tens.{product_above}
+use Rattle.irs_compound.specs.Private.RateLaws.{product_above}
 use Rattle.irs_compound.proofs.products.finer.Goals as goal
 
 pub returns-clause-above : goal.returns-clause-above

@@ -1,7 +1,7 @@
 use Rattle.std.proofs.Common.{rules, ◌≡◌, ◌^◌, pos, ◌∙◌, ap, FitsSigned}
 use Rattle.std.specs.Int.{w128}
 use Rattle.std.proofs.lemmas.Int.{to_z-of_z}
-use Rattle.irs_compound.specs.Private.Tens.{ten_order, ten_positive}
+use Rattle.irs_compound.specs.Private.RateLaws.{ten_order, ten_positive}
 use Rattle.irs_compound.proofs.products.ten_to.Goals as goal
 
 pub returns-clause-above : goal.returns-clause-above

@@ -2,8 +2,7 @@ use Rattle.std.proofs.Common.{rules, ◌≡◌, ◌^◌, pos, ◌+ℤ◌, ◌*�
 use Rattle.std.specs.Int.{w64, w128}
 use Rattle.std.proofs.lemmas.Int.{to_z-of_z}
 use Rattle.irs_compound.specs.PeriodRates.{rate_by_rounding}
-use Rattle.irs_compound.specs.Private.PeriodRates.{all_in_at}
-use Rattle.irs_compound.specs.Private.RateLaws.{rates_value}
+use Rattle.irs_compound.specs.Private.RateLaws.{all_in_at, rates_value}
 use Rattle.irs_compound.proofs.rates.rates_on.Goals as goal
 
 pub returns-clause-value : goal.returns-clause-value

@@ -1,4 +1,4 @@
-use Rattle.irs_compound.specs.Private.InForceLaws.{one_in_force}
+use Rattle.irs_compound.specs.Private.RateLaws.{one_in_force}
 use Rattle.irs_compound.proofs.rising_steps.value_in_force_is_determined.Goals as goal
 
 pub returns : goal.returns

@@ -1,8 +1,8 @@
 use Rattle.std.proofs.Common.{rules, ℤ, subst, sym, FitsSigned}
 use Rattle.std.specs.Int.{w128}
 use Rattle.std.proofs.lemmas.Int.{to_z-of_z}
-use Rattle.irs_compound.specs.InForce.{InForce}
-use Rattle.irs_compound.specs.Private.InForceLaws.{in_force_is}
+use Rattle.irs_compound.specs.PeriodRates.{InForce}
+use Rattle.irs_compound.specs.Private.RateLaws.{in_force_is}
 use Rattle.irs_compound.proofs.step_values.in_force.Goals as goal
 
 pub returns-clause-relation : goal.returns-clause-relation

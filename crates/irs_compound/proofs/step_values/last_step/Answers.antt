@@ -2,8 +2,8 @@ use Rattle.std.proofs.Common.{◌≡◌, ℕ, ◌+◌, ◌<◌, ℤ, List, [], �
 use Rattle.std.proofs.Common.{◌∙◌}
 use Rattle.std.proofs.lemmas.List.{take_more}
 use Rattle.irs_terms.specs.declared.step_list.Step.{Step}
-use Rattle.irs_compound.specs.InForce.{counted_step, last_from}
-use Rattle.irs_compound.specs.Private.InForceLaws.{last_from-push}
+use Rattle.irs_compound.specs.PeriodRates.{counted_step, last_from}
+use Rattle.irs_compound.specs.Private.RateLaws.{last_from-push}
 use Rattle.irs_compound.proofs.step_values.last_step.Goals as goal
 
 last_more : (steps : List Step) (i : ℕ) (s : Step) (d : ℤ) (last next : Option Step) → i < length steps

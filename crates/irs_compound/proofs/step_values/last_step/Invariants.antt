@@ -1,5 +1,5 @@
 use Rattle.std.proofs.Common.{◌≡◌, None, take}
-use Rattle.irs_compound.specs.InForce.{last_from}
+use Rattle.irs_compound.specs.PeriodRates.{last_from}
 use Rattle.irs_compound.proofs.step_values.last_step.Given as goal
 
 -- the step kept is the one in force among the steps so far

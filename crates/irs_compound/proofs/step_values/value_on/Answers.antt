@@ -1,7 +1,7 @@
 use Rattle.std.proofs.Common.{rules, Some, None, FitsSigned}
 use Rattle.std.specs.Int.{w128}
 use Rattle.std.proofs.lemmas.Int.{to_z-of_z}
-use Rattle.irs_compound.specs.Private.InForceLaws.{last_value}
+use Rattle.irs_compound.specs.Private.RateLaws.{last_value}
 use Rattle.irs_compound.proofs.step_values.value_on.Goals as goal
 
 pub returns-in-None : goal.returns-in-None

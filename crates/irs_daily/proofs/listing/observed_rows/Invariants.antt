@@ -1,5 +1,5 @@
 use Rattle.irs_observed.specs.OvernightRates.{overnight_source}
-use Rattle.irs_daily.specs.Outcomes.{NoneBefore}
+use Rattle.irs_daily.specs.ObservedRows.{NoneBefore}
 use Rattle.irs_daily.proofs.PeriodsListed.{ListsTo}
 use Rattle.irs_daily.proofs.listing.observed_rows.Given as goal
 

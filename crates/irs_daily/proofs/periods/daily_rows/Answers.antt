@@ -1,5 +1,5 @@
-use Rattle.irs_observed.specs.DailyRates.{DailyRates, daily_rates}
-use Rattle.irs_observed.specs.ObservationPeriods.{ObservedPeriod, observed_period}
+use Rattle.irs_observed.specs.ObservedRates.{DailyRates, daily_rates}
+use Rattle.irs_observed.specs.Observations.{ObservedPeriod, observed_period}
 use Rattle.irs_daily.proofs.PeriodSteps.{daily_meets}
 use Rattle.irs_daily.proofs.periods.daily_rows.Goals as goal
 

@@ -1,5 +1,5 @@
 use Rattle.std.proofs.Common.{sym, ◌∙◌, arith}
-use Rattle.irs_observed.specs.DailyRates.{DailyRates, rates_by}
+use Rattle.irs_observed.specs.ObservedRates.{DailyRates, rates_by}
 use Rattle.irs_observed.proofs.ThroughLemmas.{weight_at}
 use Rattle.irs_daily.proofs.Growths.{grown_all, grown_more, grown_none}
 use Rattle.irs_daily.proofs.RowSteps.{days_more, rows_all}

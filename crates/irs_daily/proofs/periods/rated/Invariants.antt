@@ -1,5 +1,5 @@
 use Rattle.std.proofs.Common.{◌≡◌, take}
-use Rattle.irs_observed.specs.DailyRates.{rates_by}
+use Rattle.irs_observed.specs.ObservedRates.{rates_by}
 use Rattle.irs_daily.specs.Private.FactorSteps.{IsSmall}
 use Rattle.irs_daily.specs.ObservedRows.{day_rows}
 use Rattle.irs_daily.proofs.Growths.{IsGrown}

@@ -1,6 +1,6 @@
 use Rattle.std.proofs.Common.{ap, ◌∙◌, sym}
 use Rattle.std.proofs.lemmas.List.{append-nil}
-use Rattle.irs_daily.specs.RowTexts.{row_line}
+use Rattle.irs_daily.specs.ObservedRows.{row_line}
 use Rattle.irs_daily.proofs.RowSteps.{lines_more, lines_whole}
 use Rattle.irs_daily.proofs.texts.push_lines.Goals as goal
 

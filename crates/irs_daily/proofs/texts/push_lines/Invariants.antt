@@ -1,6 +1,6 @@
 use Rattle.std.proofs.Common.{◌≡◌, ◌++◌, take}
 use Rattle.std.specs.List.{flat_map}
-use Rattle.irs_daily.specs.RowTexts.{row_line}
+use Rattle.irs_daily.specs.ObservedRows.{row_line}
 use Rattle.irs_daily.proofs.texts.push_lines.Given as goal
 
 abbrev pub invariant-loop-row : goal.invariant-loop-row

@@ -2,7 +2,7 @@ use Rattle.std.proofs.Common.{rules, arith, ◌≡◌, pos, ◌-ℤ◌, FitsSign
 use Rattle.std.specs.Int.{w64}
 use Rattle.std.proofs.lemmas.Int.{to_z-of_z}
 use Rattle.jiff_core.proofs.SignedLemmas.{signed_arith}
-use Rattle.irs_daycount.specs.Actual.{act_act_denominator}
+use Rattle.irs_daycount.specs.Fractions.{act_act_denominator}
 use Rattle.irs_daycount.proofs.Counting.{act_act_is}
 use Rattle.irs_daycount.proofs.actual.act_act.Goals as goal
 

@@ -2,10 +2,9 @@ use Rattle.std.proofs.Common.{rules, ◌≡◌, ◌+◌, ℕ, ℤ, pos, ap, ◌�
 use Rattle.std.specs.Int.{w32}
 use Rattle.std.proofs.lemmas.Int.{to_z-of_z}
 use Rattle.jiff_core.specs.Calendar.{day_of_year}
-use Rattle.irs_base.specs.Days.{HasDate}
-use Rattle.irs_base.specs.DateOf.{year_part}
+use Rattle.irs_base.specs.Days.{HasDate, year_part}
 use Rattle.irs_base.proofs.DateWalks.{year_place}
-use Rattle.irs_daycount.specs.Private.Places.{place_at}
+use Rattle.irs_daycount.specs.Private.FractionLaws.{place_at}
 use Rattle.irs_daycount.proofs.Starts.{place_in_year}
 use Rattle.irs_daycount.proofs.actual.place.Goals as goal
 

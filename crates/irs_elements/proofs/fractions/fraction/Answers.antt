@@ -2,7 +2,7 @@ use Rattle.irs_base.specs.declared.line.Dec.{Dec}
 use Rattle.irs_elements.proofs.Exact.{exact_none, exact_some}
 use Rattle.irs_elements.proofs.FractionsAt.{fraction_exact, one_fraction}
 use Rattle.irs_elements.proofs.fractions.fraction.Goals as goal
-use Rattle.irs_elements.specs.Fractions.{IsFraction, fraction_at}
+use Rattle.irs_elements.specs.Numbers.{IsFraction, fraction_at}
 use Rattle.std.proofs.Common.{IfNone, IfSome, Option, subst, sym}
 
 pub returns-clause-some : goal.returns-clause-some

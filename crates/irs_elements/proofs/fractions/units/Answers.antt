@@ -1,6 +1,6 @@
 use Rattle.irs_elements.proofs.FractionsAt.{units_are}
 use Rattle.irs_elements.proofs.fractions.units.Goals as goal
-use Rattle.irs_elements.specs.Fractions.{carried}
+use Rattle.irs_elements.specs.Numbers.{carried}
 
 pub returns-clause-value : goal.returns-clause-value
 returns-clause-value c =

@@ -3,14 +3,12 @@ use Rattle.std.proofs.Common.{arith}
 use Rattle.std.specs.Prelude.{slice_get}
 use Rattle.serde_json.specs.View.{view}
 use Rattle.std.proofs.lemmas.List.{length-map}
-use Rattle.irs_json.specs.Carrier.{child_of}
-use Rattle.irs_json.specs.Values.{items_of}
-use Rattle.irs_json.specs.Names.{element_names}
+use Rattle.irs_json.specs.Leaves.{child_of, items_of, element_names}
 use Rattle.std.proofs.lemmas.Option.{slice_get-get_or, slice_get_read}
 use Rattle.std.specs.Borrow.{Bor}
 use Rattle.serde_json.specs.Data.{Data}
 use Rattle.serde_json.specs.declared.value.Value.{Value}
-use Rattle.irs_base.specs.Order.{earlier_broken}
+use Rattle.irs_base.specs.Outcomes.{earlier_broken}
 use Rattle.irs_base.specs.declared.places.Broken.{Broken}
 use Rattle.irs_base.specs.declared.places.Rule.TheVariants.{K2}
 use Rattle.irs_elements.specs.declared.table.Kind.TheVariants.{Object}

@@ -1,10 +1,9 @@
 use Rattle.std.proofs.Common.{◌≡◌, false, refl, sym, ◌∙◌}
 use Rattle.std.specs.List.{list_any}
 use Rattle.serde_json.specs.View.{view}
-use Rattle.irs_json.specs.Leaves.{is_attribute_name}
-use Rattle.irs_json.specs.Names.{element_names}
+use Rattle.irs_json.specs.Leaves.{is_attribute_name, element_names}
 use Rattle.irs_elements.specs.Elements.{ShapeFault, has_odd, is_known, is_unknown, referenced_texts}
-use Rattle.irs_elements.specs.Private.Elements.{names_among}
+use Rattle.irs_elements.specs.Private.Walk.{names_among}
 use Rattle.irs_elements.proofs.Attributes.{plain_names}
 use Rattle.irs_elements.proofs.First.{first_is}
 use Rattle.irs_elements.proofs.Steps.{shape_answer, shape_first}

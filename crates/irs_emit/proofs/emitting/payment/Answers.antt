@@ -3,8 +3,7 @@ use Rattle.irs_emit.proofs.Pieces.{in_currency, periods_paid, twice}
 use Rattle.std.proofs.Common.{◌+◌, ◌-◌, ◌++◌, false, codes, ap, ◌∙◌, refl}
 use Rattle.serde_json.specs.Written.{compact_text}
 use Rattle.irs_emit.proofs.RowTexts.{payment_text}
-use Rattle.irs_emit.specs.Emitted.{forecast_value, period_values}
-use Rattle.irs_emit.specs.Leaves.{day_leaf}
+use Rattle.irs_emit.specs.Emitted.{forecast_value, period_values, day_leaf}
 use Rattle.irs_emit.specs.Private.Texts.{listed_text}
 
 pub returns : goal.returns

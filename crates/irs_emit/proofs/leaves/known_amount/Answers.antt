@@ -1,6 +1,6 @@
 use Rattle.irs_emit.proofs.Pieces.{twice}
 use Rattle.irs_emit.proofs.leaves.known_amount.Goals as goal
-use Rattle.irs_emit.specs.Leaves.{amount_leaf}
+use Rattle.irs_emit.specs.Emitted.{amount_leaf}
 use Rattle.irs_emit.specs.Private.Texts.{known_text}
 use Rattle.serde_json.specs.Written.{compact_text}
 use Rattle.std.proofs.Common.{[], ◌∷◌, ◌++◌, ◌∙◌, ap, option_map, sym}

@@ -1,6 +1,6 @@
 use Rattle.irs_emit.proofs.rows.back.Goals as goal
 use Rattle.irs_emit.proofs.Pieces.{twice}
-use Rattle.irs_emit.specs.Leaves.{day_leaf, notional_leaf}
+use Rattle.irs_emit.specs.Emitted.{day_leaf, notional_leaf}
 use Rattle.irs_emit.specs.Private.Texts.{period_back}
 use Rattle.serde_json.specs.Written.{compact_text}
 use Rattle.std.proofs.Common.{rules, ◌≡◌, ◌++◌, codes, FitsSigned}

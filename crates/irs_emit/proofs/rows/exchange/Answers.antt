@@ -2,8 +2,7 @@ use Rattle.irs_emit.proofs.rows.exchange.Goals as goal
 use Rattle.irs_emit.proofs.Pieces.{twice}
 use Rattle.std.proofs.Common.{codes}
 use Rattle.serde_json.specs.Written.{compact_text}
-use Rattle.irs_emit.specs.Emitted.{exchange_value}
-use Rattle.irs_emit.specs.Leaves.{amount_leaf, day_leaf}
+use Rattle.irs_emit.specs.Emitted.{exchange_value, amount_leaf, day_leaf}
 use Rattle.json.specs.Print.{escape_byte}
 
 pub returns : goal.returns

@@ -1,6 +1,6 @@
 use Rattle.irs_emit.proofs.rows.front.Goals as goal
 use Rattle.irs_emit.proofs.Pieces.{twice}
-use Rattle.irs_emit.specs.Leaves.{count_leaf, day_leaf, fraction_leaf}
+use Rattle.irs_emit.specs.Emitted.{count_leaf, day_leaf, fraction_leaf}
 use Rattle.irs_emit.specs.Private.Texts.{period_front}
 use Rattle.serde_json.specs.Written.{compact_text}
 use Rattle.std.proofs.Common.{rules, ◌≡◌, ◌++◌, codes, FitsSigned}

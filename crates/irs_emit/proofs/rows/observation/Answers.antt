@@ -3,7 +3,7 @@ use Rattle.irs_emit.proofs.Pieces.{twice}
 use Rattle.std.proofs.Common.{◌++◌, codes, option_map, ap, ◌∙◌}
 use Rattle.serde_json.specs.Written.{compact_text}
 use Rattle.irs_emit.proofs.RowTexts.{observation_text}
-use Rattle.irs_emit.specs.Leaves.{day_leaf, rate_leaf}
+use Rattle.irs_emit.specs.Emitted.{day_leaf, rate_leaf}
 use Rattle.irs_emit.specs.Private.Texts.{known_text}
 
 pub returns : goal.returns

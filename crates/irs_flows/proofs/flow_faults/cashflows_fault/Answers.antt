@@ -1,14 +1,14 @@
 use Rattle.irs_flows.proofs.FlowLaws.{flow_first}
 use Rattle.irs_flows.proofs.flow_faults.cashflows_fault.Goals as goal
-use Rattle.irs_flows.specs.FlowFaults.{CashflowsFault, PeriodsFault, payments_in, flow_periods_of}
-use Rattle.irs_flows.specs.FlowLines.{flow_names, flow_rows}
+use Rattle.irs_flows.specs.FlowFaults.{CashflowsFault, PeriodsFault, payments_in, flow_periods_of, flow_names}
+use Rattle.irs_flows.specs.FlowFaults.{flow_rows}
 use Rattle.irs_flows.specs.declared.flow_table.TheConstants.{FLOWS}
 use Rattle.irs_elements.proofs.First.{first_is, first_or}
 use Rattle.irs_elements.specs.Elements.{FaultAt}
 use Rattle.serde_json.specs.Data.{Data}
 use Rattle.serde_json.specs.View.{view}
 use Rattle.std.proofs.Common.{List, Some, subst}
-use Rattle.irs_base.specs.Order.{IsFirstBroken}
+use Rattle.irs_base.specs.Outcomes.{IsFirstBroken}
 
 pub returns : goal.returns
 returns c =

@@ -1,8 +1,8 @@
 use Rattle.irs_flows.proofs.FlowLaws.{period_first}
 use Rattle.irs_flows.proofs.FlowSteps.{fault_if_first}
 use Rattle.irs_flows.proofs.flow_faults.period_fault.Goals as goal
-use Rattle.irs_flows.specs.FlowFaults.{FaultIf, PeriodFault, flow_broken_at, has_both_rates}
-use Rattle.irs_flows.specs.FlowLines.{period_names, period_table_rows}
+use Rattle.irs_flows.specs.FlowFaults.{FaultIf, PeriodFault, flow_broken_at, has_both_rates, period_names}
+use Rattle.irs_flows.specs.FlowFaults.{period_table_rows}
 use Rattle.irs_flows.specs.declared.flow_table.TheConstants.{PERIOD}
 use Rattle.irs_base.specs.Elements.{flow_period}
 use Rattle.irs_base.specs.declared.places.Rule.TheVariants.{K7}

@@ -2,7 +2,7 @@ use Rattle.irs_flows.proofs.FlowSteps.{object_none, object_some}
 use Rattle.irs_flows.proofs.flow_faults.stream_fault.Goals as goal
 use Rattle.irs_flows.specs.FlowFaults.{OnceFault, OwnFault}
 use Rattle.irs_base.specs.Elements.{swap_stream}
-use Rattle.irs_elements.specs.Find.{values_in}
+use Rattle.irs_elements.specs.Elements.{values_in}
 use Rattle.serde_json.specs.View.{view}
 use Rattle.std.proofs.Common.{sym, ◌∙◌, Some, codes}
 

@@ -2,7 +2,7 @@ use Rattle.irs_flows.proofs.FlowSteps.{object_none, object_some}
 use Rattle.irs_flows.proofs.flow_faults.swap_fault.Goals as goal
 use Rattle.irs_flows.specs.FlowFaults.{OwnFault, FlowStreamsFault}
 use Rattle.irs_base.specs.Elements.{swap}
-use Rattle.irs_elements.specs.Find.{values_in}
+use Rattle.irs_elements.specs.Elements.{values_in}
 use Rattle.serde_json.specs.View.{view}
 use Rattle.std.proofs.Common.{sym, ◌∙◌, Some, codes}
 

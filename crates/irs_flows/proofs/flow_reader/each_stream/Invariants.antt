@@ -1,5 +1,5 @@
 use Rattle.irs_flows.proofs.flow_reader.each_stream.Given as goal
-use Rattle.irs_flows.specs.FlowMeaning.{flow_part_in}
+use Rattle.irs_flows.specs.FlowReading.{flow_part_in}
 use Rattle.serde_json.specs.View.{view}
 use Rattle.std.proofs.Common.{◌≡◌, map, take}
 

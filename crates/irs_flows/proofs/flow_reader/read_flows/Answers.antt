@@ -3,8 +3,7 @@ use Rattle.irs_flows.proofs.FlowRules.{of_flows}
 use Rattle.irs_flows.proofs.FlowStated.{flows_stated}
 use Rattle.irs_flows.proofs.flow_reader.read_flows.Goals as goal
 use Rattle.irs_flows.specs.FlowFaults.{ended}
-use Rattle.irs_flows.specs.FlowOutcomes.{HidesNone}
-use Rattle.irs_flows.specs.FlowReading.{IsFirstFlowFault}
+use Rattle.irs_flows.specs.FlowReading.{HidesNone, IsFirstFlowFault}
 use Rattle.irs_flows.specs.declared.error.FlowErr.{FlowErr}
 use Rattle.serde_json.specs.View.{view}
 use Rattle.std.proofs.Common.{subst, sym}

@@ -1,5 +1,5 @@
 use Rattle.irs_flows.proofs.flow_rows.payments.Given as goal
-use Rattle.irs_flows.specs.FlowMeaning.{payment_in}
+use Rattle.irs_flows.specs.FlowReading.{payment_in}
 use Rattle.serde_json.specs.View.{view}
 use Rattle.std.proofs.Common.{◌≡◌, map, take}
 

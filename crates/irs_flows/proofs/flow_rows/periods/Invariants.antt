@@ -1,6 +1,6 @@
 use Rattle.irs_flows.proofs.flow_rows.periods.Given as goal
 use Rattle.irs_flows.specs.FlowFaults.{flow_periods_of}
-use Rattle.irs_flows.specs.FlowMeaning.{period_in}
+use Rattle.irs_flows.specs.FlowReading.{period_in}
 use Rattle.serde_json.specs.View.{view}
 use Rattle.std.proofs.Common.{◌≡◌, ◌++◌, map, take}
 

@@ -1,5 +1,5 @@
 use Rattle.std.proofs.Common.{◌≡◌, ◌+◌, ◌-◌, ◌^◌, ◌<◌, ◌≤◌, drop, length}
-use Rattle.irs_json.specs.Places.{place_after}
+use Rattle.irs_json.specs.Reading.{place_after}
 use Rattle.irs_json.proofs.places.place_behind.Given as goal
 
 -- a line or a column passes no more than each byte before it; what is left goes on from here

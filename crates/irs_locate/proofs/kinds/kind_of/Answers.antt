@@ -1,7 +1,7 @@
 use Rattle.std.proofs.Common.{ℕ, List, sym, ap, subst, ◌∙◌}
 use Rattle.irs_elements.specs.declared.table.Row.{Row}
 use Rattle.irs_locate.proofs.OneKind.{leaf_at, only_kind}
-use Rattle.irs_locate.specs.Members.{IsRowOf, Known, table_of}
+use Rattle.irs_locate.specs.Ways.{IsRowOf, Known, table_of}
 use Rattle.irs_locate.proofs.kinds.kind_of.Goals as goal
 
 pub returns-in-None-clause-found : goal.returns-in-None-clause-found

@@ -1,6 +1,5 @@
 use Rattle.std.proofs.Common.{◌≡◌, Option, true, refl, sym, subst, arith}
-use Rattle.irs_locate.specs.Lines.{is_end, with_child}
-use Rattle.irs_locate.specs.Markup.{Piece}
+use Rattle.irs_locate.specs.Lines.{is_end, with_child, Piece}
 use Rattle.irs_locate.specs.Private.Seen.{step_seen}
 use Rattle.irs_locate.specs.declared.markup.Mark.TheVariants.{Plain, Passed, Opening, Empty, Closing}
 use Rattle.irs_locate.proofs.Opens.{at_once, cut, ended, entered, one_more, one_other, onward, piece_is, root_reached}

@@ -1,5 +1,5 @@
 use Rattle.std.proofs.Common.{◌≡◌, ◌++◌, drop, take}
-use Rattle.irs_locate.specs.Markup.{first_name}
+use Rattle.irs_locate.specs.Lines.{first_name}
 use Rattle.irs_locate.proofs.markup.first_name.Given as goal
 
 -- the bytes so far belong to the name

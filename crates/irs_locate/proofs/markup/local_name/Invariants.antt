@@ -1,5 +1,5 @@
 use Rattle.std.proofs.Common.{◌≡◌, drop}
-use Rattle.irs_locate.specs.Markup.{local_in, local_name}
+use Rattle.irs_locate.specs.Lines.{local_in, local_name}
 use Rattle.irs_locate.proofs.markup.local_name.Given as goal
 
 -- the bytes so far have no `:`

@@ -1,5 +1,5 @@
 use Rattle.std.proofs.Common.{◌≡◌, ◌+◌, drop, option_map}
-use Rattle.irs_locate.specs.Markup.{past}
+use Rattle.irs_locate.specs.Lines.{past}
 use Rattle.irs_locate.proofs.markup.past.Given as goal
 
 -- the first `word` in what is left is the first one of the whole

@@ -1,5 +1,5 @@
 use Rattle.std.proofs.Common.{◌≡◌, ◌+◌, drop, option_map}
-use Rattle.irs_locate.specs.Markup.{tag_end}
+use Rattle.irs_locate.specs.Lines.{tag_end}
 use Rattle.irs_locate.proofs.markup.tag_end.Given as goal
 
 -- the end of the tag in what is left is that of the whole

@@ -1,9 +1,9 @@
 use Rattle.std.proofs.Common.{ℕ, List, sym, ap, subst, ◌∙◌}
 use Rattle.std.proofs.lemmas.Option.{same_Some}
-use Rattle.irs_base.specs.Rules.{rule_number}
+use Rattle.irs_base.specs.Outcomes.{rule_number}
 use Rattle.irs_elements.specs.declared.table.Row.{Row}
 use Rattle.irs_locate.proofs.OneMember.{named}
-use Rattle.irs_locate.specs.Members.{IsRowOf, Known, first_odd, table_of}
+use Rattle.irs_locate.specs.Ways.{IsRowOf, Known, first_odd, table_of}
 use Rattle.irs_locate.proofs.members.member_of.Goals as goal
 use Rattle.serde_json.specs.View.{view}
 

@@ -1,5 +1,5 @@
 use Rattle.std.proofs.Common.{ℕ, ◌≤◌}
-use Rattle.irs_locate.specs.Members.{IsRowOf}
+use Rattle.irs_locate.specs.Ways.{IsRowOf}
 use Rattle.irs_locate.proofs.members.row_of.Given as goal
 
 -- no row before r is that of the element

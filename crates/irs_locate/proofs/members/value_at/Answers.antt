@@ -5,8 +5,7 @@ use Rattle.std.specs.Str.{IsUtf8}
 use Rattle.serde_json.specs.Data.{Data}
 use Rattle.serde_json.specs.View.{view}
 use Rattle.irs_locate.specs.Private.Seen.{step_seen}
-use Rattle.irs_locate.specs.Members.{LiesAt, root_in}
-use Rattle.irs_locate.specs.Ways.{WayStep, way}
+use Rattle.irs_locate.specs.Ways.{LiesAt, root_in, WayStep, way}
 use Rattle.irs_locate.proofs.Lies.{a_step_on, at_end, none_is_value, only_below, only_end}
 use Rattle.irs_locate.proofs.ShortWays.{few_steps, text_in}
 use Rattle.irs_locate.proofs.members.value_at.Goals as goal

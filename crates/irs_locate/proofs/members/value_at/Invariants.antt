@@ -1,8 +1,7 @@
 use Rattle.std.proofs.Common.{drop, length, ◌≤◌}
 use Rattle.serde_json.specs.Data.{Data}
 use Rattle.serde_json.specs.View.{view}
-use Rattle.irs_locate.specs.Members.{LiesAt, root_in}
-use Rattle.irs_locate.specs.Ways.{WayStep, way}
+use Rattle.irs_locate.specs.Ways.{LiesAt, root_in, WayStep, way}
 use Rattle.irs_locate.proofs.members.value_at.Given as goal
 use Rattle.std.specs.Prelude.{ℕ, List}
 

@@ -1,6 +1,6 @@
 use Rattle.std.proofs.Common.{◌++◌, codes, refl}
 use Rattle.irs_cli.proofs.PutLemmas.{first_part, grew_more, on_err, on_err_then, on_ok_then, through_last_part}
-use Rattle.irs_main.specs.Centers.{more_text, name_after, names_after_first}
+use Rattle.irs_main.specs.Shown.{more_text, name_after, names_after_first}
 use Rattle.irs_main.proofs.centers.put_from.Goals as goal
 
 pub returns-in_err-put_name-clause-err : goal.returns-in_err-put_name-clause-err

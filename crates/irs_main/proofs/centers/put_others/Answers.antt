@@ -1,7 +1,7 @@
 use Rattle.std.proofs.Common.{ℕ, List, ◌∙◌, refl, subst}
 use Rattle.irs_cli.proofs.PutLemmas.{on_err}
 use Rattle.irs_outside.specs.Outside.{Grew, GrewByFront}
-use Rattle.irs_main.specs.Centers.{other_name, names_after_first}
+use Rattle.irs_main.specs.Shown.{other_name, names_after_first}
 use Rattle.irs_main.proofs.PieceLemmas.{piece_failed, piece_put}
 use Rattle.irs_main.proofs.centers.put_others.Goals as goal
 

@@ -1,6 +1,6 @@
 use Rattle.std.proofs.Common.{◌≡◌, drop}
 use Rattle.irs_cli.proofs.PutLemmas.{Through}
-use Rattle.irs_main.specs.Centers.{names_after_first}
+use Rattle.irs_main.specs.Shown.{names_after_first}
 use Rattle.irs_main.proofs.centers.put_others.Given as goal
 
 -- the names that are left are still to be written

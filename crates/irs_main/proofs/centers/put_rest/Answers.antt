@@ -1,6 +1,6 @@
 use Rattle.std.proofs.Common.{◌++◌, refl}
 use Rattle.irs_cli.proofs.PutLemmas.{first_part, on_err, on_err_then, through_last_part}
-use Rattle.irs_main.specs.Centers.{more_text, names_after_first}
+use Rattle.irs_main.specs.Shown.{more_text, names_after_first}
 use Rattle.irs_main.proofs.centers.put_rest.Goals as goal
 
 pub returns-in_err-put_others-clause-err : goal.returns-in_err-put_others-clause-err

@@ -1,6 +1,6 @@
 use Rattle.std.proofs.Common.{ℕ, List, ap, codes, ◌∙◌}
 use Rattle.irs_main.proofs.TableLaws.{after_are}
-use Rattle.irs_main.specs.Lookup.{text_at}
+use Rattle.irs_main.specs.Rules.{text_at}
 use Rattle.irs_main.proofs.lookup.after.Goals as goal
 
 pub returns : goal.returns

@@ -1,9 +1,8 @@
 use Rattle.std.proofs.Common.{ℕ, List, ◌++◌, refl, sym, subst}
 use Rattle.irs_cli.proofs.PutLemmas.{first_part, grew_more, on_err, on_err_then, on_ok_then, through_last_part}
 use Rattle.irs_outside.specs.Outside.{Grew, GrewByFront}
-use Rattle.irs_main.specs.Centers.{centers_text}
+use Rattle.irs_main.specs.Shown.{centers_text, joined_texts}
 use Rattle.irs_main.specs.Notes.{spot_texts}
-use Rattle.irs_main.specs.Parts.{joined_texts}
 use Rattle.irs_main.proofs.PartLemmas.{joined_last}
 use Rattle.irs_main.proofs.notes.put_spot.Goals as goal
 

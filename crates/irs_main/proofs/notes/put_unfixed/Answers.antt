@@ -1,7 +1,7 @@
 use Rattle.std.proofs.Common.{ℕ, List, ◌∷◌, OnOk, OnErr, subst, ap, ◌∙◌}
 use Rattle.irs_outside.specs.Outside.{Grew, GrewByFront}
 use Rattle.irs_main.specs.Notes.{unfixed_on}
-use Rattle.irs_main.specs.Parts.{joined_texts}
+use Rattle.irs_main.specs.Shown.{joined_texts}
 use Rattle.irs_main.proofs.notes.put_unfixed.Goals as goal
 
 pub returns-clause-ok : goal.returns-clause-ok

@@ -1,7 +1,7 @@
 use Rattle.std.proofs.Common.{ℕ, List, OnErr, subst, sym, ap, ◌∙◌}
 use Rattle.irs_outside.specs.Outside.{GrewByFront}
 use Rattle.irs_main.specs.Notes.{day_in, spot_on}
-use Rattle.irs_main.specs.Parts.{joined_texts}
+use Rattle.irs_main.specs.Shown.{joined_texts}
 use Rattle.irs_main.proofs.notes.put_where.Goals as goal
 
 pub returns-in-None-clause-err : goal.returns-in-None-clause-err

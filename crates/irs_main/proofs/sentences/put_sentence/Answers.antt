@@ -1,9 +1,9 @@
 use Rattle.std.proofs.Common.{◌++◌, refl}
 use Rattle.irs_cli.proofs.PutLemmas.{first_part, on_err, on_err_then, through_last_part}
 use Rattle.irs_main.specs.Notes.{note_of}
-use Rattle.irs_main.specs.Parts.{joined_texts}
+use Rattle.irs_main.specs.Shown.{joined_texts}
 use Rattle.irs_main.specs.Sentences.{told_texts}
-use Rattle.irs_main.specs.Words.{word_texts}
+use Rattle.irs_main.specs.WrongWords.{word_texts}
 use Rattle.irs_main.proofs.sentences.put_sentence.Goals as goal
 
 pub returns-in_err-put_told-clause-err : goal.returns-in_err-put_told-clause-err

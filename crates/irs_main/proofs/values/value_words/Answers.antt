@@ -1,6 +1,6 @@
 use Rattle.std.proofs.Common.{ap, sym, ◌∙◌}
 use Rattle.irs_main.proofs.CodeLaws.{of_center, of_index, of_multiplier, of_observation, of_offset}
-use Rattle.irs_main.specs.Values.{value_words}
+use Rattle.irs_main.specs.Elements.{value_words}
 use Rattle.irs_main.proofs.values.value_words.Goals as goal
 
 pub returns-in-Multiplier : goal.returns-in-Multiplier

@@ -1,5 +1,5 @@
 use Rattle.std.proofs.Common.{◌≡◌, ◌*◌, ◌≤◌, length, take}
-use Rattle.irs_main.specs.Visible.{shown_bytes}
+use Rattle.irs_main.specs.Shown.{shown_bytes}
 use Rattle.irs_main.proofs.visible.push_bytes.Given as goal
 
 -- the bytes so far as they are shown, at most four for each

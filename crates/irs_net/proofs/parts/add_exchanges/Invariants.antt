@@ -1,5 +1,5 @@
 use Rattle.std.proofs.Common.{◌≡◌, ◌++◌, map, take}
-use Rattle.irs_net.specs.NetParts.{exchange_part}
+use Rattle.irs_net.specs.Nets.{exchange_part}
 use Rattle.irs_net.proofs.parts.add_exchanges.Given as goal
 
 abbrev pub invariant-loop-x : goal.invariant-loop-x

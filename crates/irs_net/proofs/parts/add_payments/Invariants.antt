@@ -1,5 +1,5 @@
 use Rattle.std.proofs.Common.{◌≡◌, ◌++◌, map, take}
-use Rattle.irs_net.specs.NetParts.{payment_part}
+use Rattle.irs_net.specs.Nets.{payment_part}
 use Rattle.irs_net.proofs.parts.add_payments.Given as goal
 
 abbrev pub invariant-loop-y : goal.invariant-loop-y

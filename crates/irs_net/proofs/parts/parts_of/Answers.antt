@@ -1,5 +1,5 @@
 use Rattle.std.proofs.Common.{rules, ◌≡◌, ◌<◌, ◌++◌, length, add-one, ap, sym, ◌∙◌, false, get_or, List, arith}
-use Rattle.irs_net.specs.NetParts.{net_parts_of}
+use Rattle.irs_net.specs.Nets.{net_parts_of}
 use Rattle.irs_net.specs.declared.parts.NetPart.{NetPart}
 use Rattle.irs_net.proofs.PartLemmas.{parts_few, parts_more, parts_small}
 use Rattle.irs_net.proofs.parts.parts_of.Goals as goal

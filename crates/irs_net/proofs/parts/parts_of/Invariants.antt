@@ -1,5 +1,5 @@
 use Rattle.std.proofs.Common.{◌≡◌, take}
-use Rattle.irs_net.specs.NetParts.{parts_of}
+use Rattle.irs_net.specs.Nets.{parts_of}
 use Rattle.irs_net.proofs.parts.parts_of.Given as goal
 
 abbrev pub invariant-loop-i : goal.invariant-loop-i

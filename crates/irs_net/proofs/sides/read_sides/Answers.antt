@@ -1,9 +1,9 @@
 use Rattle.std.proofs.Common.{◌≡◌, length, map, sym, ap, ◌∙◌, arith}
 use Rattle.std.proofs.lemmas.List.{length-map}
 use Rattle.serde_json.specs.View.{view}
-use Rattle.irs_base.specs.Order.{First, is_before}
+use Rattle.irs_base.specs.Outcomes.{First, is_before}
 use Rattle.irs_read.specs.Documents.{ended}
-use Rattle.irs_read.specs.References.{streams_in}
+use Rattle.irs_read.specs.Readings.{streams_in}
 use Rattle.irs_net.specs.Parties.{BreaksK8, BreaksK8Of}
 use Rattle.irs_net.proofs.SideLemmas.{first_of, if_err, one_k8, one_sides_of, streams_few}
 use Rattle.irs_net.proofs.sides.read_sides.Goals as goal

@@ -1,9 +1,8 @@
 use Rattle.std.proofs.Common.{◌≡◌, List, map, sym, ap, subst, ◌∙◌}
 use Rattle.std.proofs.lemmas.Result.{IfOk-weaker}
-use Rattle.irs_base.specs.Members.{Every}
-use Rattle.irs_net.specs.NetParts.{parts_of}
-use Rattle.irs_net.specs.Nets.{NetRowHasPlaces, IsNet}
-use Rattle.irs_net.specs.Private.NetTotals.{row_of, total_at}
+use Rattle.irs_base.specs.Lists.{Every}
+use Rattle.irs_net.specs.Nets.{parts_of, NetRowHasPlaces, IsNet}
+use Rattle.irs_net.specs.Private.FoundParties.{row_of, total_at}
 use Rattle.irs_net.specs.declared.parts.NetPart.{NetPart}
 use Rattle.irs_net.proofs.NetLemmas.{few_places, net_is, one_net}
 use Rattle.irs_net.proofs.NetThere.{net_there}

@@ -3,7 +3,7 @@ use Rattle.std.specs.BTreeMap.{get}
 use Rattle.std.specs.Prelude.{unwrap_or}
 use Rattle.std.proofs.lemmas.List.{take_more}
 use Rattle.irs_net.specs.Nets.{key_order, part_key}
-use Rattle.irs_net.specs.Private.NetTotals.{no_total, total_with}
+use Rattle.irs_net.specs.Private.FoundParties.{no_total, total_with}
 use Rattle.irs_net.specs.declared.parts.NetPart.{NetPart}
 use Rattle.irs_net.specs.declared.totals.NetKey.{NetKey}
 use Rattle.irs_net.specs.declared.totals.NetTotal.{NetTotal}

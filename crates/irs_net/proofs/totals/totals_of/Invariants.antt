@@ -1,7 +1,7 @@
 use Rattle.std.proofs.Common.{◌≡◌, take}
 use Rattle.std.specs.BTreeMap.{IsOrdered, get}
 use Rattle.irs_net.specs.Nets.{key_order}
-use Rattle.irs_net.specs.Private.NetTotals.{total_at}
+use Rattle.irs_net.specs.Private.FoundParties.{total_at}
 use Rattle.irs_net.specs.declared.totals.NetKey.{NetKey}
 use Rattle.irs_net.proofs.totals.totals_of.Given as goal
 

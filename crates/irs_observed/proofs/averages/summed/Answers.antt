@@ -1,8 +1,7 @@
 use Rattle.std.proofs.Common.{rules, pos, sym, arith, FitsSigned, to_z}
 use Rattle.std.specs.Int.{w128}
 use Rattle.std.proofs.lemmas.Int.{to_z-of_z}
-use Rattle.irs_observed.specs.DailyRates.{DailyRates, rates_by}
-use Rattle.irs_observed.specs.ObservedRates.{AddsBy}
+use Rattle.irs_observed.specs.ObservedRates.{DailyRates, rates_by, AddsBy}
 use Rattle.irs_observed.proofs.ThroughLemmas.{through_more, total_first, total_more, weight_at}
 use Rattle.irs_observed.proofs.averages.summed.Goals as goal
 

@@ -1,7 +1,6 @@
 use Rattle.std.proofs.Common.{◌≤◌, ◌*◌, ◌^◌, take, pos}
 use Rattle.std.specs.Prelude.{unsigned_abs}
-use Rattle.irs_observed.specs.DailyRates.{Through, rates_by}
-use Rattle.irs_observed.specs.ObservedRates.{AddsBy}
+use Rattle.irs_observed.specs.ObservedRates.{Through, rates_by, AddsBy}
 use Rattle.irs_observed.specs.Observations.{total_weight}
 use Rattle.irs_observed.proofs.averages.summed.Given as goal
 

@@ -2,8 +2,7 @@ use Rattle.std.proofs.Common.{arith, inl, inr}
 use Rattle.irs_base.proofs.Outcomes.{stopped_meets}
 use Rattle.irs_resets.proofs.RowLemmas.{few_days}
 use Rattle.irs_resets.specs.Resets.{source_of}
-use Rattle.irs_observed.specs.Outcomes.{overnight_resets_of}
-use Rattle.irs_observed.specs.OvernightResets.{DailySource, daily_source}
+use Rattle.irs_observed.specs.OvernightRates.{overnight_resets_of, DailySource, daily_source}
 use Rattle.irs_observed.proofs.OvernightOutcomes.{printed_in, stops_dates, stops_observations}
 use Rattle.irs_observed.proofs.daily_resets.overnight_resets.Goals as goal
 

@@ -1,5 +1,5 @@
 use Rattle.irs_resets.specs.Resets.{source_of}
-use Rattle.irs_observed.specs.OvernightResets.{DailySource, daily_source}
+use Rattle.irs_observed.specs.OvernightRates.{DailySource, daily_source}
 use Rattle.irs_observed.proofs.OvernightOutcomes.{overnight_determined}
 use Rattle.irs_observed.proofs.daily_resets.overnight_resets_are_determined.Goals as goal
 

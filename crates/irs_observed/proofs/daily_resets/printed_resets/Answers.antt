@@ -1,8 +1,8 @@
 use Rattle.std.proofs.Common.{◌≡◌, ◌+◌, [], ◌∷◌, arith, length, length-append}
 use Rattle.std.proofs.lemmas.List.Elements.{All-push}
 use Rattle.irs_base.proofs.MemberLemmas.{numbered_push}
-use Rattle.irs_observed.specs.OvernightResets.{HasPrintedRate}
-use Rattle.irs_observed.specs.Private.OvernightResets.{IsPrintedRow}
+use Rattle.irs_observed.specs.OvernightRates.{HasPrintedRate}
+use Rattle.irs_observed.specs.Private.OvernightRates.{IsPrintedRow}
 use Rattle.irs_observed.proofs.daily_resets.printed_resets.Goals as goal
 
 pub loop-place-preserved : goal.loop-place-preserved

@@ -1,7 +1,7 @@
 use Rattle.std.proofs.Common.{◌≡◌, length, All}
-use Rattle.irs_base.specs.Members.{EachNumbered}
-use Rattle.irs_observed.specs.OvernightResets.{HasPrintedRate}
-use Rattle.irs_observed.specs.Private.OvernightResets.{IsPrintedRow}
+use Rattle.irs_base.specs.Lists.{EachNumbered}
+use Rattle.irs_observed.specs.OvernightRates.{HasPrintedRate}
+use Rattle.irs_observed.specs.Private.OvernightRates.{IsPrintedRow}
 use Rattle.irs_observed.proofs.daily_resets.printed_resets.Given as goal
 
 -- the rows so far are those of the resets, with the printed rates

@@ -2,8 +2,7 @@ use Rattle.std.proofs.Common.{rules, ◌≡◌, ◌≤◌, ◌<◌, sym, arith, 
 use Rattle.std.specs.Prelude.{unsigned_abs}
 use Rattle.std.specs.Int.{w128}
 use Rattle.std.proofs.lemmas.Int.{to_z-of_z}
-use Rattle.irs_observed.specs.DailyRates.{DailyRates, rates_by}
-use Rattle.irs_observed.specs.ObservedRates.{rate_precision}
+use Rattle.irs_observed.specs.ObservedRates.{DailyRates, rates_by, rate_precision}
 use Rattle.irs_observed.proofs.FactorLemmas.{compounds_more, passes_at, past_known}
 use Rattle.irs_observed.proofs.ThroughLemmas.{weight_at}
 use Rattle.irs_observed.proofs.factors.compounded.Goals as goal

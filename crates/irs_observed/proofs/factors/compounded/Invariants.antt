@@ -1,7 +1,6 @@
 use Rattle.std.proofs.Common.{◌≤◌}
 use Rattle.std.specs.Prelude.{unsigned_abs}
-use Rattle.irs_observed.specs.DailyRates.{rates_by}
-use Rattle.irs_observed.specs.ObservedRates.{rate_precision}
+use Rattle.irs_observed.specs.ObservedRates.{rates_by, rate_precision}
 use Rattle.irs_observed.proofs.FactorLemmas.{Compounds}
 use Rattle.irs_observed.proofs.factors.compounded.Given as goal
 

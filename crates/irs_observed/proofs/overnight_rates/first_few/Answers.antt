@@ -2,7 +2,7 @@ use Rattle.std.proofs.Common.{arith, inl, inr, ℕ, subst}
 use Rattle.irs_base.proofs.Firsts.{lt_false}
 use Rattle.irs_resets.proofs.FileLemmas.{below}
 use Rattle.irs_observed.specs.OvernightRates.{OvernightSource, overnight_source}
-use Rattle.irs_observed.specs.Private.OvernightWalk.{HasFewAfter}
+use Rattle.irs_observed.specs.Private.OvernightRates.{HasFewAfter}
 use Rattle.irs_observed.proofs.overnight_rates.first_few.Goals as goal
 
 pub loop-number-preserved : goal.loop-number-preserved

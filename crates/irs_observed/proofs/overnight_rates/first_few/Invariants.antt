@@ -1,6 +1,6 @@
 use Rattle.std.proofs.Common.{◌+◌, ◌≤◌, ◌<◌, ℕ}
 use Rattle.irs_observed.specs.OvernightRates.{overnight_source}
-use Rattle.irs_observed.specs.Private.OvernightWalk.{HasFewAfter}
+use Rattle.irs_observed.specs.Private.OvernightRates.{HasFewAfter}
 use Rattle.irs_observed.proofs.overnight_rates.first_few.Given as goal
 
 -- no period between `after` and this one has too few members

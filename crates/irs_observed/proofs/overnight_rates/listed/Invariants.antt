@@ -1,7 +1,7 @@
 use Rattle.std.proofs.Common.{◌≡◌, ◌+◌, ◌<◌, ◌≤◌, length, All}
-use Rattle.irs_base.specs.Members.{EachNumbered}
+use Rattle.irs_base.specs.Lists.{EachNumbered}
 use Rattle.irs_observed.specs.OvernightRates.{HasBounds, IsOvernightRate, overnight_source}
-use Rattle.irs_observed.specs.Private.OvernightWalk.{NoneLacksBefore}
+use Rattle.irs_observed.specs.Private.OvernightRates.{NoneLacksBefore}
 use Rattle.irs_observed.proofs.overnight_rates.listed.Given as goal
 
 -- each period before this one has its observed rate in the list

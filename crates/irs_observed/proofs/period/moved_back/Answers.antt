@@ -2,7 +2,7 @@ use Rattle.std.proofs.Common.{◌≡◌, ℤ, pos, neg_ℤ, ◌-ℤ◌, rules, I
 use Rattle.std.specs.Int.{w16}
 use Rattle.std.proofs.lemmas.Int.{to_z-of_z, ints}
 use Rattle.irs_terms.specs.declared.codes.DayKind.TheVariants.{Business}
-use Rattle.irs_adjust.specs.Offsets.{Moves}
+use Rattle.irs_adjust.specs.MovedDays.{Moves}
 use Rattle.irs_observed.proofs.PeriodLemmas.{less}
 use Rattle.irs_observed.proofs.period.moved_back.Goals as goal
 

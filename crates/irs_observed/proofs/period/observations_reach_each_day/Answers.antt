@@ -1,4 +1,4 @@
-use Rattle.irs_observed.specs.ObservationPeriods.{ObservedPeriod, observed_period}
+use Rattle.irs_observed.specs.Observations.{ObservedPeriod, observed_period}
 use Rattle.irs_observed.proofs.EarlierDays.{period_between}
 use Rattle.irs_observed.proofs.period.observations_reach_each_day.Goals as goal
 

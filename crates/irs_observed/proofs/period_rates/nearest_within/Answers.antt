@@ -1,7 +1,7 @@
 use Rattle.std.proofs.Common.{rules, ◌*◌, ◌^◌, FitsSigned}
 use Rattle.std.specs.Int.{w128}
 use Rattle.std.proofs.lemmas.Int.{to_z-of_z}
-use Rattle.irs_base.specs.Rounding.{Rounded}
+use Rattle.irs_base.specs.Limits.{Rounded}
 use Rattle.irs_base.specs.declared.rounding.Direction.TheVariants.{Nearest}
 use Rattle.irs_observed.specs.ObservedRates.{most_observed}
 use Rattle.irs_observed.proofs.SizeLemmas.{rounded_within}

@@ -1,7 +1,7 @@
 use Rattle.std.proofs.Common.{rules, ◌≡◌, ◌-◌, ◌^◌, pos, ℤ, ◌+ℤ◌, ◌*ℤ◌, subst, FitsSigned}
 use Rattle.std.specs.Int.{w64, w128}
 use Rattle.std.proofs.lemmas.Int.{to_z-of_z}
-use Rattle.irs_base.specs.Rounding.{Rounded}
+use Rattle.irs_base.specs.Limits.{Rounded}
 use Rattle.irs_observed.proofs.period_rates.rate_by.Goals as goal
 
 pub returns-clause-rate : goal.returns-clause-rate

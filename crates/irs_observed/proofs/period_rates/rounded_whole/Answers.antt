@@ -1,7 +1,7 @@
 use Rattle.std.proofs.Common.{rules, ◌+◌, ◌-◌, ◌*◌, ◌^◌, pos, ℤ, ◌<ℤ◌, ◌*ℤ◌, sym, subst, FitsSigned, unsigned_abs}
 use Rattle.std.specs.Int.{w128}
 use Rattle.std.proofs.lemmas.Int.{to_z-of_z}
-use Rattle.irs_base.specs.Rounding.{Rounded}
+use Rattle.irs_base.specs.Limits.{Rounded}
 use Rattle.irs_observed.specs.ObservedRates.{most_observed}
 use Rattle.irs_observed.proofs.SizeLemmas.{rounded_within, units_above, whole_size}
 use Rattle.irs_observed.proofs.period_rates.rounded_whole.Goals as goal

@@ -1,4 +1,4 @@
-use Rattle.irs_observed.specs.DailyRates.{daily_rates}
+use Rattle.irs_observed.specs.ObservedRates.{daily_rates}
 use Rattle.irs_observed.proofs.RateLemmas.{not_above, not_below, one_gives_itself, zero_gives_zero}
 use Rattle.irs_observed.proofs.rate_laws.rates_keep_their_range.Goals as goal
 

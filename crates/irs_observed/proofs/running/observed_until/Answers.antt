@@ -1,7 +1,7 @@
 use Rattle.std.proofs.Common.{◌∷◌, ◌++◌, [], take, sym, ◌∙◌, ap, ◌<ℤ◌, ◌≤ℤ◌, List}
 use Rattle.std.proofs.lemmas.List.{append-nil}
 use Rattle.irs_base.proofs.Orders.{lt_false, lt_true}
-use Rattle.irs_observed.specs.RunningRates.{ends_by, observed_until}
+use Rattle.irs_observed.specs.OvernightRates.{ends_by, observed_until}
 use Rattle.irs_observed.proofs.RunningLemmas.{until_added, until_more, until_passed}
 use Rattle.irs_observed.specs.declared.observation.Observation.{Observation}
 use Rattle.irs_observed.proofs.running.observed_until.Goals as goal

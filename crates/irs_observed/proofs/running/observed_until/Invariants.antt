@@ -1,5 +1,5 @@
 use Rattle.std.proofs.Common.{◌≡◌, take}
-use Rattle.irs_observed.specs.RunningRates.{observed_until}
+use Rattle.irs_observed.specs.OvernightRates.{observed_until}
 use Rattle.irs_observed.proofs.running.observed_until.Given as goal
 
 -- the observations found are those before the day, among those so far

@@ -1,4 +1,4 @@
-use Rattle.irs_observed.specs.ObservationPeriods.{ObservedPeriod, observed_period}
+use Rattle.irs_observed.specs.Observations.{ObservedPeriod, observed_period}
 use Rattle.irs_observed.proofs.RunningLemmas.{starts_before}
 use Rattle.irs_observed.proofs.running.rate_before.Goals as goal
 

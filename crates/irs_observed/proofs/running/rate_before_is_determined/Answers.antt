@@ -1,5 +1,5 @@
-use Rattle.irs_observed.specs.DailyRates.{daily_rates}
-use Rattle.irs_observed.specs.ObservationPeriods.{ObservedPeriod, observed_period}
+use Rattle.irs_observed.specs.ObservedRates.{daily_rates}
+use Rattle.irs_observed.specs.Observations.{ObservedPeriod, observed_period}
 use Rattle.irs_observed.proofs.RunningLemmas.{adds_up_until, one_before}
 use Rattle.irs_observed.proofs.running.rate_before_is_determined.Goals as goal
 

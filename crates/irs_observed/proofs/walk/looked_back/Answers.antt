@@ -1,7 +1,7 @@
 use Rattle.std.proofs.Common.{◌≡◌, ◌≤◌, ◌-◌, ap, ◌∙◌, arith, subst, sym, ℤ, ℕ}
-use Rattle.irs_base.specs.Members.{day_at}
+use Rattle.irs_base.specs.Lists.{day_at}
 use Rattle.irs_calendar.specs.GoodDays.{DaySet}
-use Rattle.irs_observed.specs.Private.ObservationWalk.{LooksBack, good_at}
+use Rattle.irs_observed.specs.Private.OvernightRates.{LooksBack, good_at}
 use Rattle.irs_observed.proofs.WalkLemmas.{looks_back, looks_from, looks_none}
 use Rattle.irs_observed.proofs.walk.looked_back.Goals as goal
 

@@ -1,11 +1,9 @@
 use Rattle.std.proofs.Common.{◌≡◌, ◌<◌, length, arith, subst, sym, List, ℤ}
-use Rattle.irs_base.specs.Order.{First}
+use Rattle.irs_base.specs.Outcomes.{First}
 use Rattle.irs_calendar.specs.GoodDays.{DaySet}
-use Rattle.irs_observed.specs.ObservationPeriods.{ObservedPeriod, observed_period}
-use Rattle.irs_observed.specs.ObservationRules.{LacksObservations, reported_before}
-use Rattle.irs_observed.specs.Private.ObservationWalk.{IsUnseen, IsWalk}
-use Rattle.irs_observed.specs.Observations.{AreObserved, lockout_days}
-use Rattle.irs_observed.specs.PeriodMembers.{LeavesCover}
+use Rattle.irs_observed.specs.Observations.{ObservedPeriod, observed_period, LacksObservations, reported_before}
+use Rattle.irs_observed.specs.Observations.{AreObserved, lockout_days, LeavesCover}
+use Rattle.irs_observed.specs.Private.OvernightRates.{IsUnseen, IsWalk}
 use Rattle.irs_observed.specs.declared.observation.NoObservations.{NoObservations}
 use Rattle.irs_observed.specs.declared.observation.NoObservations.TheVariants.{NoDay}
 use Rattle.irs_observed.proofs.OutcomeLemmas.{adds_all, meets_all, refused_first, refused_unseen, walks, weights_all}

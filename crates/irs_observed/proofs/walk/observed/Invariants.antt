@@ -1,5 +1,5 @@
 use Rattle.std.proofs.Common.{◌≡◌, length}
-use Rattle.irs_base.specs.Members.{EachNumbered}
+use Rattle.irs_base.specs.Lists.{EachNumbered}
 use Rattle.irs_observed.specs.Observations.{IsObservation}
 use Rattle.irs_observed.proofs.walk.observed.Given as goal
 

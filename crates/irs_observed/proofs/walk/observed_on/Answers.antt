@@ -1,6 +1,6 @@
 use Rattle.std.proofs.Common.{ℕ, ℤ, IfNone, length, subst, sym}
-use Rattle.irs_base.specs.Members.{day_at}
-use Rattle.irs_observed.specs.Private.ObservationWalk.{LooksBack}
+use Rattle.irs_base.specs.Lists.{day_at}
+use Rattle.irs_observed.specs.Private.OvernightRates.{LooksBack}
 use Rattle.irs_observed.proofs.WalkLemmas.{own_place}
 use Rattle.irs_observed.proofs.walk.observed_on.Goals as goal
 

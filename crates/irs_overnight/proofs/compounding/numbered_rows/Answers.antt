@@ -1,9 +1,8 @@
 use Rattle.std.proofs.Common.{◌≡◌, ◌-◌, Some}
 use Rattle.std.specs.Prelude.{slice_get}
-use Rattle.irs_base.specs.Order.{First}
-use Rattle.irs_overnight.specs.DerivedRules.{BreaksDerived, derived_before}
-use Rattle.irs_overnight.specs.Overnight.{OvernightAsked, HasSource, asked}
-use Rattle.irs_overnight.specs.DailySources.{DerivedSource, derived_source}
+use Rattle.irs_base.specs.Outcomes.{First}
+use Rattle.irs_overnight.specs.Overnight.{BreaksDerived, derived_before, OvernightAsked, HasSource, asked}
+use Rattle.irs_overnight.specs.Overnight.{DerivedSource, derived_source}
 use Rattle.irs_overnight.proofs.SourceLemmas.{asked_place, has_source, overnight_broken, overnight_kept, overnight_rows}
 use Rattle.irs_overnight.proofs.SourceLemmas.{part_floats, part_read}
 use Rattle.irs_overnight.proofs.compounding.numbered_rows.Goals as goal

@@ -2,7 +2,7 @@ use Rattle.std.proofs.Common.{rules, ◌≡◌, ◌+◌, ◌≤◌, sym, arith, 
 use Rattle.std.specs.Prelude.{unsigned_abs}
 use Rattle.std.specs.Int.{w128}
 use Rattle.std.proofs.lemmas.Int.{to_z-of_z}
-use Rattle.irs_overnight.specs.Factors.{most_factor}
+use Rattle.irs_overnight.specs.Observations.{most_factor}
 use Rattle.irs_overnight.proofs.FactorLemmas.{compounds_more, reaches_more}
 use Rattle.irs_overnight.proofs.ObservationLemmas.{known_at}
 use Rattle.irs_overnight.proofs.factors.compounded.Goals as goal

@@ -1,6 +1,6 @@
 use Rattle.std.proofs.Common.{◌≤◌}
 use Rattle.std.specs.Prelude.{unsigned_abs}
-use Rattle.irs_overnight.specs.Factors.{most_factor}
+use Rattle.irs_overnight.specs.Observations.{most_factor}
 use Rattle.irs_overnight.proofs.FactorLemmas.{Compounds}
 use Rattle.irs_overnight.proofs.factors.compounded.Given as goal
 

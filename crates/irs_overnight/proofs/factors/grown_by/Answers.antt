@@ -1,9 +1,9 @@
 use Rattle.std.proofs.Common.{rules, ◌+ℤ◌, ◌*ℤ◌, FitsSigned}
 use Rattle.std.specs.Int.{w64, w128}
 use Rattle.std.proofs.lemmas.Int.{to_z-of_z}
-use Rattle.irs_base.specs.Rounding.{Rounded}
+use Rattle.irs_base.specs.Limits.{Rounded}
 use Rattle.irs_base.specs.declared.rounding.Direction.TheVariants.{Nearest}
-use Rattle.irs_observed.specs.Factors.{unit_rate}
+use Rattle.irs_observed.specs.ObservedRates.{unit_rate}
 use Rattle.irs_overnight.proofs.factors.grown_by.Goals as goal
 
 pub returns : goal.returns

@@ -2,10 +2,9 @@ use Rattle.std.proofs.Common.{rules, ◌≡◌, ◌<◌, ◌^◌, pos, ◌-ℤ�
 use Rattle.std.specs.Prelude.{unsigned_abs}
 use Rattle.std.specs.Int.{w64, w128}
 use Rattle.std.proofs.lemmas.Int.{to_z-of_z}
-use Rattle.irs_base.specs.Limits.{most_rate}
-use Rattle.irs_base.specs.Rounding.{Rounded}
+use Rattle.irs_base.specs.Limits.{most_rate, Rounded}
 use Rattle.irs_base.specs.declared.rounding.Direction.TheVariants.{Nearest}
-use Rattle.irs_overnight.specs.Factors.{derived_one}
+use Rattle.irs_overnight.specs.Observations.{derived_one}
 use Rattle.irs_overnight.proofs.FactorLemmas.{rate_some, rate_kept, rate_none}
 use Rattle.irs_overnight.proofs.PeriodLemmas.{positive}
 use Rattle.irs_overnight.proofs.factors.known_rate.Goals as goal

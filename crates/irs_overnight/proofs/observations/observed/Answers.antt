@@ -1,5 +1,5 @@
 use Rattle.std.proofs.Common.{◌+◌, List, sym, subst}
-use Rattle.irs_overnight.specs.Sources.{RateLines, daily_lines}
+use Rattle.irs_overnight.specs.Observations.{RateLines, daily_lines}
 use Rattle.irs_overnight.specs.declared.observations.Observation.{Observation}
 use Rattle.irs_overnight.proofs.ObservationLemmas.{Observes, observes_more}
 use Rattle.irs_overnight.proofs.observations.observed.Goals as goal

@@ -1,4 +1,4 @@
-use Rattle.irs_overnight.specs.Sources.{daily_lines}
+use Rattle.irs_overnight.specs.Observations.{daily_lines}
 use Rattle.irs_overnight.proofs.ObservationLemmas.{Observes}
 use Rattle.irs_overnight.proofs.observations.observed.Given as goal
 

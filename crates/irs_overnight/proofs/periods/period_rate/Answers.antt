@@ -1,9 +1,6 @@
 use Rattle.std.proofs.Common.{◌-ℤ◌}
-use Rattle.irs_overnight.specs.Factors.{DerivedPassesLimit}
-use Rattle.irs_overnight.specs.FoundRates.{DailyPeriod, IsFound, derived_period}
-use Rattle.irs_overnight.specs.Observations.{AreRateObservations}
-use Rattle.irs_overnight.specs.Sources.{daily_lines}
-use Rattle.irs_overnight.specs.Starts.{LacksDays}
+use Rattle.irs_overnight.specs.Observations.{DerivedPassesLimit, DailyPeriod, IsFound, derived_period}
+use Rattle.irs_overnight.specs.Observations.{AreRateObservations, daily_lines, LacksDays}
 use Rattle.irs_overnight.proofs.PeriodLemmas.{none_fails, not_passed}
 use Rattle.irs_overnight.proofs.periods.period_rate.Goals as goal
 

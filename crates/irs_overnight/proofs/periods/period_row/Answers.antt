@@ -1,10 +1,8 @@
 use Rattle.std.proofs.Common.{◌≡◌, ◌<ℤ◌, ◌-◌, sym, subst, arith}
-use Rattle.irs_base.specs.Members.{day_at}
-use Rattle.irs_overnight.specs.DailySources.{DerivedSource, derived_source}
-use Rattle.irs_overnight.specs.DailyPeriods.{derived_period_at}
-use Rattle.irs_overnight.specs.FoundRates.{DailyPeriod, derived_period}
-use Rattle.irs_overnight.specs.DerivedRules.{period_fault}
-use Rattle.irs_overnight.specs.Private.PeriodTurns.{FirstWay}
+use Rattle.irs_base.specs.Lists.{day_at}
+use Rattle.irs_overnight.specs.Overnight.{DerivedSource, derived_source, derived_period_at, period_fault}
+use Rattle.irs_overnight.specs.Observations.{DailyPeriod, derived_period}
+use Rattle.irs_overnight.specs.Private.Bounds.{FirstWay}
 use Rattle.irs_overnight.proofs.RowLemmas.{day_read, in_order}
 use Rattle.irs_overnight.proofs.periods.period_row.Goals as goal
 

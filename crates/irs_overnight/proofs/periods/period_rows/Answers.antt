@@ -1,17 +1,14 @@
 use Rattle.std.proofs.Common.{◌≡◌, inl, inr, ℕ, ◌+◌, ◌<◌, [], ◌∷◌, length, length-append, sym, subst, arith}
 use Rattle.std.proofs.lemmas.Bool.{cases_lt}
 use Rattle.std.proofs.lemmas.List.Elements.{All-push}
-use Rattle.irs_overnight.specs.Private.FileLaw.{IsInRange}
+use Rattle.irs_overnight.specs.Private.Bounds.{IsInRange, FirstWay, NoneFails}
 use Rattle.std.proofs.lemmas.Result.{err_from_is_err_and}
-use Rattle.irs_base.specs.Order.{First}
+use Rattle.irs_base.specs.Outcomes.{First}
 use Rattle.irs_base.specs.declared.places.Fault.{Fault}
 use Rattle.irs_base.proofs.HandedAnswers.{handed_on}
 use Rattle.irs_base.proofs.MemberLemmas.{numbered_push}
-use Rattle.irs_overnight.specs.DailySources.{DerivedSource, derived_source}
-use Rattle.irs_overnight.specs.DailyPeriods.{derived_period_at}
-use Rattle.irs_overnight.specs.DerivedRows.{IsDerivedRow}
-use Rattle.irs_overnight.specs.DerivedRules.{BreaksPeriod, derived_before, period_fault}
-use Rattle.irs_overnight.specs.Private.PeriodTurns.{FirstWay, NoneFails}
+use Rattle.irs_overnight.specs.Overnight.{DerivedSource, derived_source, derived_period_at, IsDerivedRow, BreaksPeriod}
+use Rattle.irs_overnight.specs.Overnight.{derived_before, period_fault}
 use Rattle.irs_overnight.specs.declared.periods.PeriodFault.{PeriodFault}
 use Rattle.irs_overnight.proofs.DerivedOrder.{first_period}
 use Rattle.irs_overnight.proofs.periods.period_rows.Goals as goal

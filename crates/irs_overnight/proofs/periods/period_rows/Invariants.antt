@@ -1,8 +1,7 @@
 use Rattle.std.proofs.Common.{◌≡◌, ◌+◌, ◌<◌, ◌≤◌, length, All}
-use Rattle.irs_base.specs.Members.{EachNumbered}
-use Rattle.irs_overnight.specs.Private.FileLaw.{IsInRange}
-use Rattle.irs_overnight.specs.DerivedRows.{IsDerivedRow}
-use Rattle.irs_overnight.specs.DailySources.{derived_source}
+use Rattle.irs_base.specs.Lists.{EachNumbered}
+use Rattle.irs_overnight.specs.Private.Bounds.{IsInRange}
+use Rattle.irs_overnight.specs.Overnight.{IsDerivedRow, derived_source}
 use Rattle.irs_overnight.proofs.DerivedOrder.{KeptBelow}
 use Rattle.irs_overnight.proofs.periods.period_rows.Given as goal
 

@@ -1,10 +1,10 @@
 use Rattle.std.proofs.Common.{◌≡◌, ℕ, Some, sym}
 use Rattle.std.proofs.lemmas.Result.{IfOk-weaker}
-use Rattle.irs_base.specs.Order.{First}
+use Rattle.irs_base.specs.Outcomes.{First}
 use Rattle.irs_base.proofs.HandedAnswers.{handed_back}
-use Rattle.irs_overnight.specs.DailySources.{DerivedSource, derived_source}
-use Rattle.irs_overnight.specs.DerivedRules.{BreaksDerived, BreaksPeriod, FixingNotAfter, derived_before}
-use Rattle.irs_overnight.specs.Sources.{basis_of}
+use Rattle.irs_overnight.specs.Overnight.{DerivedSource, derived_source, BreaksDerived, BreaksPeriod, FixingNotAfter}
+use Rattle.irs_overnight.specs.Overnight.{derived_before}
+use Rattle.irs_overnight.specs.Observations.{basis_of}
 use Rattle.irs_overnight.proofs.DerivedOrder.{derived_kept, first_of_periods}
 use Rattle.irs_overnight.proofs.rules.derived_rows.Goals as goal
 

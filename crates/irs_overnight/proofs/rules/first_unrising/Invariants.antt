@@ -1,5 +1,5 @@
 use Rattle.std.proofs.Common.{ℕ, ◌≤◌}
-use Rattle.irs_overnight.specs.DerivedRules.{FixingNotAfter}
+use Rattle.irs_overnight.specs.Overnight.{FixingNotAfter}
 use Rattle.irs_overnight.proofs.rules.first_unrising.Given as goal
 
 abbrev pub invariant-loop-place : goal.invariant-loop-place

@@ -1,5 +1,5 @@
 use Rattle.std.proofs.Common.{◌+ℤ◌, pos}
-use Rattle.irs_overnight.specs.Starts.{AreStarts}
+use Rattle.irs_overnight.specs.Observations.{AreStarts}
 use Rattle.irs_overnight.proofs.starts.starts.Given as goal
 
 abbrev pub invariant-loop-k : goal.invariant-loop-k

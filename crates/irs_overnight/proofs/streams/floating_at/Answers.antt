@@ -4,7 +4,7 @@ use Rattle.irs_base.proofs.DateTexts.{IfNone_then}
 use Rattle.irs_terms.specs.declared.amounts.FloatTerms.{FloatTerms}
 use Rattle.irs_terms.specs.declared.amounts.Leg.TheVariants.{Floating}
 use Rattle.irs_terms.specs.declared.stream.Stream.{Stream}
-use Rattle.irs_overnight.specs.Sources.{PaysFloating}
+use Rattle.irs_overnight.specs.Observations.{PaysFloating}
 use Rattle.irs_overnight.proofs.SourceLemmas.{lacks, same_stream, some_float}
 use Rattle.irs_overnight.proofs.streams.floating_at.Goals as goal
 

@@ -1,11 +1,11 @@
 use Rattle.std.proofs.Common.{◌≡◌, ℕ, ◌+◌, ◌++◌, [], ◌∷◌, length, arith, sym, subst, ap, ◌∙◌, ℤ, pos, true, false}
 use Rattle.std.proofs.lemmas.List.{get_or_default}
-use Rattle.irs_payments.specs.Grouping.{pay_anchor, EndsPayment}
-use Rattle.irs_payments.specs.Private.Cuts.{AreCuts, EndsAt}
+use Rattle.irs_payments.specs.Payments.{pay_anchor, EndsPayment}
+use Rattle.irs_payments.specs.Private.Dating.{AreCuts, EndsAt}
 use Rattle.irs_payments.proofs.CutLemmas.{no_cuts, pass_cut, take_cut}
 use Rattle.irs_payments.proofs.cuts.payment_places.Goals as goal
 use Rattle.irs_payments.proofs.cuts.payment_places.Goals.{then-ends_payment+in_ok-push-2, else-ends_payment}
-use Rattle.irs_base.specs.Members.{day_at}
+use Rattle.irs_base.specs.Lists.{day_at}
 
 pub loop-i-init : goal.loop-i-init
 loop-i-init c =

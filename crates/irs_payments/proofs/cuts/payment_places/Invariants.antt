@@ -1,4 +1,4 @@
-use Rattle.irs_payments.specs.Private.Cuts.{AreCuts}
+use Rattle.irs_payments.specs.Private.Dating.{AreCuts}
 use Rattle.irs_payments.proofs.cuts.payment_places.Given as goal
 
 -- the places so far are those of the payment boundaries before i

@@ -1,8 +1,7 @@
 use Rattle.std.proofs.Common.{◌∷◌, ◌++◌, Option, subst, sym}
-use Rattle.irs_base.specs.Order.{First, comes_before}
+use Rattle.irs_base.specs.Outcomes.{First, comes_before}
 use Rattle.irs_payments.specs.Exchanges.{BreaksExchanges}
-use Rattle.irs_payments.specs.Private.Listing.{ListsUpTo}
-use Rattle.irs_payments.specs.Private.Transfers.{listed_transfer}
+use Rattle.irs_payments.specs.Private.Dating.{ListsUpTo, listed_transfer}
 use Rattle.irs_payments.specs.declared.exchanges.Transfer.{Transfer}
 use Rattle.irs_payments.proofs.ListedExchanges.{one_lacks, one_listed}
 use Rattle.irs_payments.proofs.exchanges.add.Goals as goal

@@ -1,7 +1,7 @@
 use Rattle.std.proofs.Common.{◌++◌, drop}
 use Rattle.irs_terms.specs.Lawful.{IsNotional}
 use Rattle.irs_payments.specs.Exchanges.{changes, final_of}
-use Rattle.irs_payments.specs.Private.Listing.{ListsUpTo}
+use Rattle.irs_payments.specs.Private.Dating.{ListsUpTo}
 use Rattle.irs_payments.proofs.exchanges.add_steps.Given as goal
 
 -- the exchanges at the steps so far are listed, and the remaining ones still follow

@@ -1,12 +1,11 @@
 use Rattle.std.proofs.Common.{◌≡◌, ◌<◌, ℕ, ℤ, length, arith, pos, subst, ap, ◌∙◌, Result, Err}
 use Rattle.std.proofs.lemmas.List.{get_or_default}
 use Rattle.irs_adjust.specs.declared.moved.NoDate.{NoDate}
-use Rattle.irs_payments.specs.Private.Cuts.{cut_at}
-use Rattle.irs_payments.specs.PaymentDates.{PaymentLacksResult, PaymentLeavesRange}
-use Rattle.irs_payments.specs.Private.Dating.{date_place}
+use Rattle.irs_payments.specs.Private.Dating.{cut_at, date_place}
+use Rattle.irs_payments.specs.Payments.{PaymentLacksResult, PaymentLeavesRange}
 use Rattle.irs_payments.proofs.DateLemmas.{outcome_err}
 use Rattle.irs_payments.proofs.PaymentLemmas.{place_low}
-use Rattle.irs_base.specs.Members.{day_at}
+use Rattle.irs_base.specs.Lists.{day_at}
 use Rattle.irs_payments.proofs.payment_list.payment.Goals as goal
 
 pub returns-in-Err : goal.returns-in-Err

@@ -1,12 +1,11 @@
 use Rattle.std.proofs.Common.{List, ℤ, length, arith, sym, subst, ap}
-use Rattle.irs_base.specs.Listed.{RunsFromTo}
+use Rattle.irs_base.specs.Lists.{RunsFromTo}
 use Rattle.irs_base.specs.Outcomes.{Meets}
 use Rattle.irs_base.specs.declared.places.Fault.{Fault}
 use Rattle.irs_base.proofs.Outcomes.{if_memory}
-use Rattle.irs_terms.specs.FirstDay.{first_day_of}
-use Rattle.irs_payments.specs.Private.Cuts.{AreCuts}
-use Rattle.irs_payments.specs.Private.Dating.{paid_at}
-use Rattle.irs_payments.specs.Grouping.{BreaksGrouping}
+use Rattle.irs_terms.specs.TermDates.{first_day_of}
+use Rattle.irs_payments.specs.Private.Dating.{AreCuts, paid_at}
+use Rattle.irs_payments.specs.Payments.{BreaksGrouping}
 use Rattle.irs_payments.proofs.CutLemmas.{two_boundaries}
 use Rattle.irs_payments.proofs.Outcomes.{paid_meets}
 use Rattle.irs_payments.proofs.PaymentLemmas.{cuts_places, few_places, some_cuts}

@@ -1,4 +1,4 @@
-use Rattle.irs_payments.specs.Steps.{IsOff}
+use Rattle.irs_payments.specs.Exchanges.{IsOff}
 use Rattle.irs_base.proofs.MemberLemmas.{NoneOf}
 use Rattle.irs_payments.proofs.steps.check_list.Given as goal
 

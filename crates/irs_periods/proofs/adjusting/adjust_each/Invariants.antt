@@ -1,6 +1,6 @@
 use Rattle.std.proofs.Common.{◌≡◌, ℕ, ◌<◌, length}
-use Rattle.irs_periods.specs.Adjusting.{AdjustsAt, boundary_days_by, last_of}
-use Rattle.irs_base.specs.Members.{day_at}
+use Rattle.irs_periods.specs.Boundaries.{AdjustsAt, boundary_days_by, last_of}
+use Rattle.irs_base.specs.Lists.{day_at}
 use Rattle.irs_periods.proofs.adjusting.adjust_each.Given as goal
 
 -- each boundary before i has its adjusted day in the list

@@ -1,10 +1,10 @@
 use Rattle.std.proofs.Common.{◌≡◌, ◌-◌, ◌∙◌, List, length, ℕ, ℤ, arith, ap, sym, subst}
-use Rattle.irs_base.specs.Listed.{IsRising}
-use Rattle.irs_base.specs.Order.{First, comes_before}
+use Rattle.irs_base.specs.Lists.{IsRising}
+use Rattle.irs_base.specs.Outcomes.{First, comes_before}
 use Rattle.irs_base.specs.declared.places.Fault.{Fault}
-use Rattle.irs_periods.specs.Adjusting.{AdjustedList, BreaksAdjusted, MissesResult}
-use Rattle.irs_periods.specs.Private.Adjusting.{FirstNoResult, FirstNotAfter}
-use Rattle.irs_periods.specs.Adjusting.{boundary_days_by, last_of, no_result_at}
+use Rattle.irs_periods.specs.Boundaries.{AdjustedList, BreaksAdjusted, MissesResult, boundary_days_by, last_of}
+use Rattle.irs_periods.specs.Boundaries.{no_result_at}
+use Rattle.irs_periods.specs.Private.Spans.{FirstNoResult, FirstNotAfter}
 use Rattle.irs_periods.proofs.AdjustedDecided.{adjusted_unbroken, first_no_result, first_not_after, none_flat, results_unbroken}
 use Rattle.irs_periods.proofs.AdjustedLemmas.{adjusted_exists, two_boundaries, few_days, rising_of}
 use Rattle.irs_periods.proofs.TermOrder.{begins_before_end}

@@ -1,5 +1,5 @@
 use Rattle.std.proofs.Common.{ℕ, ◌<◌}
-use Rattle.irs_periods.specs.Adjusting.{NotAfter}
+use Rattle.irs_periods.specs.Boundaries.{NotAfter}
 use Rattle.irs_periods.proofs.adjusting.first_not_after.Given as goal
 
 -- each adjusted day before i is after the previous one

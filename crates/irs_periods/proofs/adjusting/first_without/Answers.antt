@@ -2,9 +2,9 @@ use Rattle.std.proofs.Common.{ℤ, pos, arith, subst}
 use Rattle.std.proofs.lemmas.List.{get_or_read}
 use Rattle.std.proofs.lemmas.Option.{IfSome_then}
 use Rattle.irs_base.proofs.DateTexts.{IfNone_then}
-use Rattle.irs_periods.specs.Adjusting.{AdjustsAt, NoResult, boundary_days_by, last_of}
+use Rattle.irs_periods.specs.Boundaries.{AdjustsAt, NoResult, boundary_days_by, last_of}
 use Rattle.irs_periods.proofs.FirstResults.{each_place, first_alone, first_behind}
-use Rattle.irs_base.specs.Members.{day_at}
+use Rattle.irs_base.specs.Lists.{day_at}
 use Rattle.irs_periods.proofs.adjusting.first_without.Goals as goal
 
 pub returns-in-Some-clause-some : goal.returns-in-Some-clause-some

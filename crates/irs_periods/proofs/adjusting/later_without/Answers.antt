@@ -1,9 +1,9 @@
 use Rattle.std.proofs.Common.{◌≡◌, inl, inr, ℕ, ◌<◌, ℤ, pos, arith, subst}
 use Rattle.std.proofs.lemmas.Bool.{cases_lt}
 use Rattle.std.proofs.lemmas.List.{get_or_read}
-use Rattle.irs_periods.specs.Adjusting.{AdjustsAt, NoResult, boundary_days_by, last_of}
+use Rattle.irs_periods.specs.Boundaries.{AdjustsAt, NoResult, boundary_days_by, last_of}
 use Rattle.irs_periods.proofs.FirstResults.{first_inner, each_later}
-use Rattle.irs_base.specs.Members.{day_at}
+use Rattle.irs_base.specs.Lists.{day_at}
 use Rattle.irs_periods.proofs.adjusting.later_without.Goals as goal
 
 pub returns-in_default-adjust_at-clause-some : goal.returns-in_default-adjust_at-clause-some

@@ -1,6 +1,6 @@
 use Rattle.std.proofs.Common.{ℕ, ℤ, ◌<◌, ◌≤◌}
-use Rattle.irs_periods.specs.Adjusting.{AdjustsAt, boundary_days_by, last_of}
-use Rattle.irs_base.specs.Members.{day_at}
+use Rattle.irs_periods.specs.Boundaries.{AdjustsAt, boundary_days_by, last_of}
+use Rattle.irs_base.specs.Lists.{day_at}
 use Rattle.irs_periods.proofs.adjusting.later_without.Given as goal
 
 -- each boundary from 1 to the one before i has an adjusted day

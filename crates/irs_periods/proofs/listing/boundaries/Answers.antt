@@ -2,12 +2,11 @@ use Rattle.std.proofs.Common.{◌≡◌, ◌+◌, ◌≤◌, length, ℤ, to_z, 
 use Rattle.jiff_core.proofs.SignedLemmas.{signed_arith}
 use Rattle.irs_base.specs.Limits.{most_periods}
 use Rattle.irs_periods.specs.Boundaries.{Boundaries, TooManyPeriods}
-use Rattle.irs_periods.specs.Private.GridLists.{boundaries_on, where_before}
-use Rattle.irs_terms.specs.FirstDay.{first_day_of}
+use Rattle.irs_periods.specs.Private.Spans.{boundaries_on, where_before}
+use Rattle.irs_terms.specs.TermDates.{first_day_of, termination_of}
 use Rattle.irs_periods.proofs.GridSpans.{length-all_boundaries}
 use Rattle.irs_base.proofs.Outcomes.{if_memory}
 use Rattle.irs_periods.proofs.PeriodsDecided.{few_unbroken, first_too_many}
-use Rattle.irs_terms.specs.TermDates.{termination_of}
 use Rattle.irs_periods.proofs.listing.boundaries.Goals as goal
 
 pub returns-then-steps-stubs-clause-meets : goal.returns-then-steps-stubs-clause-meets

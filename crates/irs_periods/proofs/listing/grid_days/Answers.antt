@@ -1,7 +1,7 @@
 use Rattle.std.proofs.Common.{◌≡◌, ◌≤◌, ◌+◌, [], ◌∷◌, ◌++◌, List, ℤ, pos, ◌+ℤ◌, to_z, of_z, w64, arith, ap, ◌∙◌}
 use Rattle.std.proofs.Common.{add-one, append_assoc}
 use Rattle.jiff_core.proofs.SignedLemmas.{signed_arith}
-use Rattle.irs_periods.specs.Private.GridLists.{days_from}
+use Rattle.irs_periods.specs.Private.Spans.{days_from}
 use Rattle.irs_periods.proofs.listing.grid_days.Goals as goal
 
 pub loop-j-preserved : goal.loop-j-preserved

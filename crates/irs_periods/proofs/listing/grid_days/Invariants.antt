@@ -1,5 +1,5 @@
 use Rattle.std.proofs.Common.{◌≡◌, ◌++◌}
-use Rattle.irs_periods.specs.Private.GridLists.{days_from}
+use Rattle.irs_periods.specs.Private.Spans.{days_from}
 use Rattle.irs_periods.proofs.listing.grid_days.Given as goal
 
 -- the first j grid days are appended to the list

@@ -1,6 +1,6 @@
 use Rattle.std.proofs.Common.{arith, ℤ, sym, subst}
 use Rattle.irs_base.specs.Days.{all_days}
-use Rattle.irs_periods.specs.Private.Ways.{Within}
+use Rattle.irs_periods.specs.Private.Spans.{Within}
 use Rattle.irs_periods.proofs.WayLemmas.{steps_none, too_many_steps}
 use Rattle.irs_periods.proofs.nearest.farthest.Goals as goal
 

@@ -1,6 +1,6 @@
 use Rattle.std.proofs.Common.{◌-◌, ◌<◌, ◌≤◌}
 use Rattle.irs_base.specs.Days.{all_days}
-use Rattle.irs_periods.specs.Private.Ways.{steps, Within}
+use Rattle.irs_periods.specs.Private.Spans.{steps, Within}
 use Rattle.irs_periods.proofs.nearest.farthest.Given as goal
 
 -- low steps stay within the bound, and high steps pass it

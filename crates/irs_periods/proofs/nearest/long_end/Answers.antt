@@ -1,6 +1,6 @@
 use Rattle.std.proofs.Common.{arith, ◌≡◌, ◌<◌, ℤ, sym, ◌∙◌, ap, subst, false, int_eq}
 use Rattle.jiff_core.proofs.SignedLemmas.{signed_arith}
-use Rattle.irs_periods.specs.Private.Ways.{steps, ShortEnd, LongEnd}
+use Rattle.irs_periods.specs.Private.Spans.{steps, ShortEnd, LongEnd}
 use Rattle.irs_periods.proofs.WayLemmas.{short_end, long_whole, long_nearer, within_nearer, steps_none}
 use Rattle.irs_periods.proofs.nearest.long_end.Goals as goal
 

@@ -1,5 +1,5 @@
 use Rattle.std.proofs.Common.{ℤ, sym, subst}
-use Rattle.irs_periods.specs.Private.Ways.{ShortEnd}
+use Rattle.irs_periods.specs.Private.Spans.{ShortEnd}
 use Rattle.irs_periods.proofs.WayLemmas.{short_end}
 use Rattle.irs_periods.proofs.nearest.short_end.Goals as goal
 

@@ -1,15 +1,12 @@
 use Rattle.std.proofs.Common.{sym, subst}
 use Rattle.irs_terms.specs.declared.results.Span.{Span}
 use Rattle.irs_roll.specs.Rolls.{OnGrid, Fits}
-use Rattle.irs_terms.specs.FirstDay.{first_day_of}
-use Rattle.irs_periods.specs.Spans.{Regular}
-use Rattle.irs_periods.specs.SpanRules.{RollMisfits, SpanKept}
+use Rattle.irs_terms.specs.TermDates.{first_day_of, IsWholeTerm, termination_of}
+use Rattle.irs_periods.specs.Spans.{Regular, RollMisfits, SpanKept}
 use Rattle.irs_periods.proofs.SpanDecided.{first_misfit, first_off_grid}
 use Rattle.irs_periods.proofs.Outcomes.{span_answers}
 use Rattle.irs_periods.proofs.TermOrder.{begins_before_end}
 use Rattle.irs_periods.proofs.SpanLemmas.{given_span_same}
-use Rattle.irs_terms.specs.Suiting.{IsWholeTerm}
-use Rattle.irs_terms.specs.TermDates.{termination_of}
 use Rattle.irs_periods.proofs.span.timed_span.Goals as goal
 
 pub returns : goal.returns

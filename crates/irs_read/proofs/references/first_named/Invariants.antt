@@ -1,6 +1,6 @@
-use Rattle.irs_elements.specs.Find.{seen}
+use Rattle.irs_elements.specs.Elements.{seen}
 use Rattle.irs_read.proofs.references.first_named.Given as goal
-use Rattle.irs_read.specs.References.{has_id}
+use Rattle.irs_read.specs.Readings.{has_id}
 use Rattle.std.proofs.Common.{◌≡◌, drop, map}
 use Rattle.std.specs.Prelude.{find}
 

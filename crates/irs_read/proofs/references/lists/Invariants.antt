@@ -1,6 +1,6 @@
-use Rattle.irs_elements.specs.Find.{seen}
+use Rattle.irs_elements.specs.Elements.{seen}
 use Rattle.irs_read.proofs.references.lists.Given as goal
-use Rattle.irs_read.specs.References.{lists_of}
+use Rattle.irs_read.specs.Readings.{lists_of}
 use Rattle.serde_json.specs.View.{view}
 use Rattle.std.proofs.Common.{◌≡◌, map, take}
 

@@ -1,4 +1,4 @@
-use Rattle.irs_elements.specs.Find.{member}
+use Rattle.irs_elements.specs.Elements.{member}
 use Rattle.irs_read.proofs.Lists.{seven}
 use Rattle.irs_read.proofs.references.slots.Goals as goal
 use Rattle.serde_json.specs.Data.{Data}

@@ -1,4 +1,4 @@
-use Rattle.irs_elements.specs.Find.{seen}
+use Rattle.irs_elements.specs.Elements.{seen}
 use Rattle.irs_read.proofs.stream.each_stream.Given as goal
 use Rattle.irs_read.specs.Private.Meaning.{stream_in}
 use Rattle.serde_json.specs.View.{view}

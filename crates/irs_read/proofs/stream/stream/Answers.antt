@@ -1,4 +1,4 @@
-use Rattle.irs_elements.specs.Find.{member, once, seen}
+use Rattle.irs_elements.specs.Elements.{member, once, seen}
 use Rattle.irs_read.proofs.stream.stream.Goals as goal
 use Rattle.irs_read.specs.Private.Meaning.{stream_in, stream_parts}
 use Rattle.irs_terms.specs.declared.stream.Stream.{Stream}

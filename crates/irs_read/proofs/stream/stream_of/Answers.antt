@@ -1,10 +1,8 @@
 use Rattle.irs_elements.specs.Codes.{compounding_at, day_count_at, roll_at, stub_kind_at}
-use Rattle.irs_elements.specs.Dates.{leaf_date_at}
-use Rattle.irs_elements.specs.Find.{member, seen}
-use Rattle.irs_elements.specs.Words.{currency_at}
+use Rattle.irs_elements.specs.Leaves.{leaf_date_at, currency_at}
+use Rattle.irs_elements.specs.Elements.{member, seen}
 use Rattle.irs_read.proofs.stream.stream_of.Goals as goal
-use Rattle.irs_read.specs.Private.Meaning.{exchanges_in, no_currency, pay_in}
-use Rattle.irs_read.specs.Private.Meaning.{reset_in, schedule_in, stubs_in}
+use Rattle.irs_read.specs.Private.Meaning.{exchanges_in, no_currency, pay_in, reset_in, schedule_in, stubs_in}
 use Rattle.irs_read.specs.Readings.{said}
 use Rattle.irs_read.specs.declared.leaf_values.Scale.TheVariants.{Notionals}
 use Rattle.irs_terms.specs.declared.codes.CompCode.TheVariants.{Simple}

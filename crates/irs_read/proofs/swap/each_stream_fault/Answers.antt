@@ -1,7 +1,7 @@
 use Rattle.irs_read.proofs.Each.{each_all, each_step}
 use Rattle.irs_read.proofs.TableLaws.{stream_first}
 use Rattle.irs_read.proofs.swap.each_stream_fault.Goals as goal
-use Rattle.irs_read.specs.Swaps.{StreamFault}
+use Rattle.irs_read.specs.Documents.{StreamFault}
 use Rattle.serde_json.specs.View.{view}
 use Rattle.std.proofs.Common.{◌≡◌, length, map, Some, refl, arith}
 use Rattle.std.proofs.lemmas.List.{length-map}

@@ -2,7 +2,7 @@ use Rattle.irs_elements.proofs.First.{first_is}
 use Rattle.irs_read.proofs.Each.{swap_none, swap_some}
 use Rattle.irs_read.proofs.TableLaws.{swap_first}
 use Rattle.irs_read.proofs.swap.first_in_swap.Goals as goal
-use Rattle.irs_read.specs.Swaps.{SwapFault}
+use Rattle.irs_read.specs.Documents.{SwapFault}
 use Rattle.serde_json.specs.View.{view}
 use Rattle.std.proofs.Common.{sym, ◌∙◌}
 

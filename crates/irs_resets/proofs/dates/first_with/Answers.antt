@@ -1,5 +1,5 @@
 use Rattle.std.proofs.Common.{inl, inr, subst, ℕ}
-use Rattle.irs_resets.specs.ResetDates.{ResetDays, reset_days_by, DatesFail}
+use Rattle.irs_resets.specs.Resets.{ResetDays, reset_days_by, DatesFail}
 use Rattle.irs_resets.proofs.FileLemmas.{below}
 use Rattle.irs_resets.proofs.dates.first_with.Goals as goal
 

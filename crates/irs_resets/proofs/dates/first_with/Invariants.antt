@@ -1,5 +1,5 @@
 use Rattle.std.proofs.Common.{ℕ, ◌<◌, ◌≤◌}
-use Rattle.irs_resets.specs.ResetDates.{reset_days_by, DatesFail}
+use Rattle.irs_resets.specs.Resets.{reset_days_by, DatesFail}
 use Rattle.irs_resets.proofs.dates.first_with.Given as goal
 
 -- no period before this one has the fault

@@ -1,6 +1,6 @@
 use Rattle.std.proofs.Common.{subst}
 use Rattle.irs_resets.specs.declared.dates.DateFault.{DateFault}
-use Rattle.irs_resets.specs.ResetDates.{ResetDays, reset_days_by, DatesFail}
+use Rattle.irs_resets.specs.Resets.{ResetDays, reset_days_by, DatesFail}
 use Rattle.irs_resets.proofs.DateLemmas.{dates_stand, one_way}
 use Rattle.irs_resets.proofs.dates.has_fault.Goals as goal
 

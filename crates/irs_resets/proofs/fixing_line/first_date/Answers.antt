@@ -1,6 +1,5 @@
 use Rattle.std.proofs.Common.{sym, ap, ◌∙◌, arith}
-use Rattle.irs_base.specs.Dates.{date_at}
-use Rattle.irs_base.specs.Fields.{without_gap}
+use Rattle.irs_base.specs.Texts.{date_at, without_gap}
 use Rattle.irs_base.proofs.FieldLemmas.{whole_rest}
 use Rattle.irs_resets.proofs.FirstDates.{date_word}
 use Rattle.irs_resets.proofs.fixing_line.first_date.Goals as goal

@@ -2,10 +2,9 @@ use Rattle.std.proofs.Common.{arith, ◌≡◌, sym, ap, ◌∙◌, w64, to_z, o
 use Rattle.std.specs.Prelude.{IfNone}
 use Rattle.std.proofs.lemmas.Int.{ints}
 use Rattle.jiff_core.proofs.SignedLemmas.{signed_arith}
-use Rattle.irs_resets.specs.Words.{word, behind_gap}
+use Rattle.irs_resets.specs.FixingFiles.{word, behind_gap, SpellsRate}
 use Rattle.irs_resets.specs.declared.store.Slot.{Slot}
-use Rattle.irs_resets.specs.FixingLines.{SpellsRate}
-use Rattle.irs_resets.specs.Private.FixingLines.{IsTail}
+use Rattle.irs_resets.specs.Private.FixingFiles.{IsTail}
 use Rattle.irs_resets.proofs.fixing_line.fixing_line.Goals as goal
 
 pub returns-clause-some : goal.returns-clause-some

@@ -1,7 +1,7 @@
 use Rattle.std.proofs.Common.{arith, ◌≤◌, length, subst, sym}
 use Rattle.irs_resets.proofs.FileOutcomes.{EachDecided, decided_by, file_determined, none_left}
 use Rattle.irs_resets.proofs.FileOutcomes.{seen_decided}
-use Rattle.irs_base.specs.Lines.{lines_of}
+use Rattle.irs_base.specs.Texts.{lines_of}
 use Rattle.irs_resets.proofs.fixings.fixings_are_determined.Goals as goal
 
 pub loop-rest-preserved : goal.loop-rest-preserved

@@ -1,5 +1,5 @@
 use Rattle.std.proofs.Common.{length}
-use Rattle.irs_base.specs.Lines.{lines_of}
+use Rattle.irs_base.specs.Texts.{lines_of}
 use Rattle.irs_resets.proofs.FileOutcomes.{EachDecided}
 use Rattle.irs_resets.proofs.fixings.fixings_are_determined.Given as goal
 

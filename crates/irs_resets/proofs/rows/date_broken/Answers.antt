@@ -1,4 +1,4 @@
-use Rattle.irs_resets.specs.ResetDates.{ResetDays, reset_days_by}
+use Rattle.irs_resets.specs.Resets.{ResetDays, reset_days_by}
 use Rattle.irs_resets.proofs.FirstResets.{first_fixing, first_range, dates_unbroken}
 use Rattle.irs_resets.proofs.rows.date_broken.Goals as goal
 

@@ -1,8 +1,7 @@
 use Rattle.std.proofs.Common.{arith}
 use Rattle.irs_resets.proofs.ListedResets.{listed_unbroken, no_stub}
 use Rattle.irs_resets.proofs.RowLemmas.{few_days, resets_in}
-use Rattle.irs_resets.specs.ResetRules.{BreaksStubs}
-use Rattle.irs_resets.specs.Resets.{ResetSource, source_of}
+use Rattle.irs_resets.specs.Resets.{BreaksStubs, ResetSource, source_of}
 use Rattle.irs_resets.proofs.rows.floating_resets.Goals as goal
 
 pub first_fault-requires-clause-few : goal.first_fault-requires-clause-few

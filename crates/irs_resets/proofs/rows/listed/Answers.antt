@@ -3,8 +3,8 @@ use Rattle.irs_terms.specs.declared.results.Reset.{Reset}
 use Rattle.irs_base.proofs.MemberLemmas.{numbered_push}
 use Rattle.std.proofs.lemmas.List.Elements.{All-push}
 use Rattle.irs_resets.specs.declared.observed.PeriodKind.{PeriodKind}
-use Rattle.irs_resets.specs.ObservedRates.{IsObserved}
-use Rattle.irs_resets.specs.Private.ObservedRates.{observed_rate}
+use Rattle.irs_resets.specs.Rates.{IsObserved}
+use Rattle.irs_resets.specs.Private.Resets.{observed_rate}
 use Rattle.irs_resets.specs.Resets.{ResetSource, source_of, IsReset, HasSmallRate}
 use Rattle.irs_resets.proofs.ObservedLaws.{is_observed}
 use Rattle.irs_resets.proofs.RowLemmas.{many_rows}

@@ -1,5 +1,5 @@
 use Rattle.std.proofs.Common.{◌≡◌, ◌+◌, ◌<◌, ◌≤◌, length, All}
-use Rattle.irs_base.specs.Members.{EachNumbered}
+use Rattle.irs_base.specs.Lists.{EachNumbered}
 use Rattle.irs_resets.specs.Resets.{source_of, IsReset, HasSmallRate}
 use Rattle.irs_resets.proofs.rows.listed.Given as goal
 

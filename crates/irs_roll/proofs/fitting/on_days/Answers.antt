@@ -1,6 +1,6 @@
 use Rattle.std.proofs.Common.{arith, ◌≡◌, ◌-ℤ◌, to_z, of_z, w64, subst, sym}
 use Rattle.jiff_core.proofs.SignedLemmas.{signed_arith}
-use Rattle.irs_roll.specs.Grids.{IsMultiple}
+use Rattle.irs_roll.specs.Rolls.{IsMultiple}
 use Rattle.irs_roll.proofs.fitting.on_days.Goals as goal
 
 pub returns : goal.returns

@@ -2,7 +2,7 @@ use Rattle.std.proofs.Common.{arith, ◌≡◌, to_z, of_z, w64, subst, sym}
 use Rattle.jiff_core.proofs.SignedLemmas.{signed_arith}
 use Rattle.irs_base.specs.Days.{month_index_of}
 use Rattle.irs_base.proofs.MonthLemmas.{date_in_month}
-use Rattle.irs_roll.specs.Grids.{IsMultiple}
+use Rattle.irs_roll.specs.Rolls.{IsMultiple}
 use Rattle.irs_roll.proofs.DatesOnRolls.{both_on, whole_of, rolls_of}
 use Rattle.irs_roll.proofs.fitting.on_months.Goals as goal
 

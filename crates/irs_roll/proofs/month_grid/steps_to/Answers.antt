@@ -2,8 +2,7 @@ use Rattle.std.proofs.Common.{rules, arith, ◌≡◌, ℤ, ◌-ℤ◌, FitsSign
 use Rattle.std.proofs.Common.{ap, ◌∙◌}
 use Rattle.std.proofs.lemmas.Option.{IfSome_then}
 use Rattle.jiff_core.proofs.SignedLemmas.{signed_arith}
-use Rattle.irs_roll.specs.Private.StepLaws.{none_then}
-use Rattle.irs_roll.specs.Private.MonthLaws.{roll_at, roll_off_range, roll_off_steps, rolls_on}
+use Rattle.irs_roll.specs.Private.Laws.{none_then, roll_at, roll_off_range, roll_off_steps, rolls_on}
 use Rattle.irs_roll.proofs.month_grid.steps_to.Goals as goal
 
 pub returns-in_err-rolled-clause-none : goal.returns-in_err-rolled-clause-none

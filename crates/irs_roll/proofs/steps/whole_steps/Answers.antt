@@ -1,7 +1,7 @@
 use Rattle.std.proofs.Common.{arith, ◌≡◌, pos, FitsSigned, w64, to_z-of_z, to_z, of_z}
 use Rattle.std.proofs.Common.{ap}
 use Rattle.jiff_core.proofs.SignedLemmas.{signed_arith}
-use Rattle.irs_roll.specs.Private.StepLaws.{steps_fit, no_whole_steps}
+use Rattle.irs_roll.specs.Private.Laws.{steps_fit, no_whole_steps}
 use Rattle.irs_roll.proofs.steps.whole_steps.Goals as goal
 
 pub overflow_mul-steps : goal.overflow_mul-steps

@@ -1,5 +1,5 @@
 use Rattle.std.proofs.Common.{◌||◌}
-use Rattle.irs_terms.specs.Needs.{adjusts_days, counts_days}
+use Rattle.irs_terms.specs.Centers.{adjusts_days, counts_days}
 use Rattle.irs_rules.proofs.First.{either}
 use Rattle.irs_rules.proofs.Names.{names_lawful, fixing_lawful, applicable_lawful, same_names}
 use Rattle.irs_rules.proofs.known_centers.center_in_no_calendar.Goals as goal

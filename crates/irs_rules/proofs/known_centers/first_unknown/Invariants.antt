@@ -1,5 +1,5 @@
 use Rattle.std.proofs.Common.{ℕ, ◌<◌, Some}
-use Rattle.irs_rules.specs.Centers.{IsFoundAt}
+use Rattle.irs_rules.specs.Parameters.{IsFoundAt}
 use Rattle.irs_rules.proofs.known_centers.first_unknown.Given as goal
 
 -- the calendars have each of the first i centres

@@ -1,5 +1,5 @@
 use Rattle.std.proofs.Common.{ℕ, ◌<◌}
-use Rattle.irs_terms.specs.StepDates.{StepStands}
+use Rattle.irs_terms.specs.TermDates.{StepStands}
 use Rattle.irs_rules.proofs.step_dates.first_out.Given as goal
 
 -- each of the first i steps is in order and inside the term

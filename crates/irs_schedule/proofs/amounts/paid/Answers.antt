@@ -4,8 +4,8 @@ use Rattle.irs_base.proofs.CoverLemmas.{LieAmong, covers_at}
 use Rattle.irs_base.proofs.HandedAnswers.{handed_on}
 use Rattle.irs_base.proofs.Outcomes.{stopped_meets}
 use Rattle.irs_terms.specs.declared.results.Payment.{Payment}
-use Rattle.irs_schedule.specs.Outcomes.{entries_of}
-use Rattle.irs_schedule.specs.Private.StreamDates.{table_dates}
+use Rattle.irs_schedule.specs.Schedules.{entries_of}
+use Rattle.irs_schedule.specs.Private.Layouts.{table_dates}
 use Rattle.irs_schedule.proofs.PaidEntries.{all_entries, no_entries, one_more_entry, stops_at_entry}
 use Rattle.irs_schedule.proofs.amounts.paid.Goals as goal
 

@@ -1,4 +1,4 @@
-use Rattle.irs_schedule.specs.Private.StreamDates.{table_dates}
+use Rattle.irs_schedule.specs.Private.Layouts.{table_dates}
 use Rattle.irs_schedule.proofs.PaidEntries.{EntriesSoFar}
 use Rattle.irs_schedule.proofs.amounts.paid.Given as goal
 

@@ -1,5 +1,5 @@
 use Rattle.std.proofs.Common.{rules}
-use Rattle.irs_schedule.specs.Private.StreamDates.{table_dates}
+use Rattle.irs_schedule.specs.Private.Layouts.{table_dates}
 use Rattle.irs_compound.proofs.AmountBounds.{amount_small}
 use Rattle.irs_schedule.proofs.AmountLemmas.{amount_fits, is_payment}
 use Rattle.irs_schedule.proofs.amounts.paid_over.Goals as goal

@@ -1,11 +1,9 @@
 use Rattle.std.proofs.Common.{◌-◌, length, arith}
 use Rattle.irs_base.specs.Outcomes.{Determined}
 use Rattle.irs_payments.specs.Payments.{Covers}
-use Rattle.irs_schedule.specs.Outcomes.{entries_of}
-use Rattle.irs_schedule.specs.Private.PeriodTerms.{IsTable}
-use Rattle.irs_schedule.specs.Schedules.{StreamDates}
-use Rattle.irs_schedule.specs.Private.StreamDates.{table_dates}
-use Rattle.irs_terms.specs.Private.StepDates.{AllStepsRise}
+use Rattle.irs_schedule.specs.Schedules.{entries_of, StreamDates}
+use Rattle.irs_schedule.specs.Private.Layouts.{IsTable, table_dates}
+use Rattle.irs_terms.specs.Private.TermDates.{AllStepsRise}
 use Rattle.irs_terms.specs.declared.results.Payment.{Payment}
 use Rattle.std.specs.Prelude.{List}
 use Rattle.irs_schedule.proofs.FactorLemmas.{by_amounts, by_factor}

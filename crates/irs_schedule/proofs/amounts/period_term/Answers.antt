@@ -1,6 +1,6 @@
 use Rattle.std.proofs.Common.{◌-◌, arith, ◌<ℤ◌}
 use Rattle.irs_payments.proofs.PlaceLemmas.{rises_at}
-use Rattle.irs_base.specs.Members.{day_at}
+use Rattle.irs_base.specs.Lists.{day_at}
 use Rattle.irs_schedule.proofs.amounts.period_term.Goals as goal
 
 pub fraction_by-requires : goal.fraction_by-requires

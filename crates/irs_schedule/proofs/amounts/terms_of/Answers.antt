@@ -1,6 +1,6 @@
 use Rattle.std.proofs.Common.{◌≡◌, ◌++◌, [], ◌∷◌, length, length-append, ap, arith}
 use Rattle.irs_schedule.specs.Schedules.{IsPeriodTerm}
-use Rattle.irs_schedule.specs.Private.StreamDates.{table_dates}
+use Rattle.irs_schedule.specs.Private.Layouts.{table_dates}
 use Rattle.irs_base.proofs.MemberLemmas.{numbered_push}
 use Rattle.irs_schedule.proofs.amounts.terms_of.Goals as goal
 

@@ -1,7 +1,7 @@
 use Rattle.std.proofs.Common.{◌≡◌, ◌+◌, length}
 use Rattle.irs_schedule.specs.Schedules.{IsPeriodTerm}
-use Rattle.irs_schedule.specs.Private.StreamDates.{table_dates}
-use Rattle.irs_base.specs.Members.{EachNumbered}
+use Rattle.irs_schedule.specs.Private.Layouts.{table_dates}
+use Rattle.irs_base.specs.Lists.{EachNumbered}
 use Rattle.irs_schedule.proofs.amounts.terms_of.Given as goal
 
 abbrev pub invariant-loop-number : goal.invariant-loop-number

@@ -1,10 +1,9 @@
 use Rattle.std.proofs.Common.{List, subst, sym}
 use Rattle.irs_calendar.specs.declared.sections.Section.{Section}
-use Rattle.irs_rules.specs.TermsKept.{TermsKept}
+use Rattle.irs_rules.specs.TermsRules.{TermsKept}
 use Rattle.irs_rules.proofs.Kept.{terms_kept}
 use Rattle.irs_base.specs.Outcomes.{Meets}
-use Rattle.irs_schedule.specs.Outcomes.{schedule_of}
-use Rattle.irs_schedule.specs.Schedules.{IsSchedule}
+use Rattle.irs_schedule.specs.Schedules.{schedule_of, IsSchedule}
 use Rattle.irs_schedule.proofs.OnePart.{met_ok, schedule_is}
 use Rattle.irs_schedule.proofs.making.make_schedule.Goals as goal
 

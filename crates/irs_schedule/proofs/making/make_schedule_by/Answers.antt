@@ -1,6 +1,5 @@
 use Rattle.irs_rules.proofs.Kept.{terms_kept}
-use Rattle.irs_schedule.specs.Outcomes.{schedule_of}
-use Rattle.irs_schedule.specs.Schedules.{IsSchedule}
+use Rattle.irs_schedule.specs.Schedules.{schedule_of, IsSchedule}
 use Rattle.irs_schedule.proofs.OnePart.{met_ok, schedule_is}
 use Rattle.irs_schedule.proofs.making.make_schedule_by.Goals as goal
 

@@ -3,8 +3,8 @@ use Rattle.std.proofs.lemmas.Option.{slice_get_read}
 use Rattle.irs_base.proofs.HandedAnswers.{handed_on}
 use Rattle.irs_base.proofs.Outcomes.{stopped_meets}
 use Rattle.irs_schedule.specs.DaySets.{stream_sets}
-use Rattle.irs_schedule.specs.Outcomes.{schedule_of}
-use Rattle.irs_schedule.specs.Private.StageSets.{sets_of}
+use Rattle.irs_schedule.specs.Schedules.{schedule_of}
+use Rattle.irs_schedule.specs.Private.Layouts.{sets_of}
 use Rattle.irs_schedule.proofs.MakingLemmas.{made_all, made_broken, made_more, made_none, sets_same}
 use Rattle.irs_schedule.proofs.making.schedule_by.Goals as goal
 

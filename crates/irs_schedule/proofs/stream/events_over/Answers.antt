@@ -1,8 +1,8 @@
 use Rattle.std.proofs.Common.{inl, inr}
 use Rattle.irs_base.proofs.HandedAnswers.{handed_on}
 use Rattle.irs_base.proofs.Outcomes.{stopped_meets}
-use Rattle.irs_schedule.specs.Outcomes.{events_of}
-use Rattle.irs_schedule.specs.Private.StageSets.{sets_of}
+use Rattle.irs_schedule.specs.Schedules.{events_of}
+use Rattle.irs_schedule.specs.Private.Layouts.{sets_of}
 use Rattle.irs_schedule.proofs.stream.events_over.Goals as goal
 
 pub returns-in_err-observed-clause-meets : goal.returns-in_err-observed-clause-meets

@@ -1,8 +1,8 @@
 use Rattle.std.proofs.Common.{inl, inr}
 use Rattle.irs_base.proofs.HandedAnswers.{handed_on}
 use Rattle.irs_base.proofs.Outcomes.{stopped_meets}
-use Rattle.irs_schedule.specs.Outcomes.{layout_of}
-use Rattle.irs_schedule.specs.Private.StageSets.{sets_of}
+use Rattle.irs_schedule.specs.Schedules.{layout_of}
+use Rattle.irs_schedule.specs.Private.Layouts.{sets_of}
 use Rattle.irs_schedule.proofs.stream.laid_out.Goals as goal
 
 pub returns-in_err-adjusted : goal.returns-in_err-adjusted

@@ -2,8 +2,8 @@ use Rattle.std.proofs.Common.{inl, inr}
 use Rattle.std.proofs.lemmas.Result.{err_from_is_err_and}
 use Rattle.irs_base.proofs.HandedAnswers.{handed_on}
 use Rattle.irs_base.proofs.Outcomes.{stopped_meets}
-use Rattle.irs_schedule.specs.Outcomes.{payment_dates_of}
-use Rattle.irs_schedule.specs.Private.StageSets.{sets_of}
+use Rattle.irs_schedule.specs.Schedules.{payment_dates_of}
+use Rattle.irs_schedule.specs.Private.Layouts.{sets_of}
 use Rattle.irs_schedule.proofs.LayoutLemmas.{layout_runs}
 use Rattle.irs_schedule.proofs.LayoutRules.{layout_kept}
 use Rattle.irs_schedule.proofs.stream.payment_dates.Goals as goal

@@ -2,12 +2,9 @@ use Rattle.std.proofs.Common.{◌≡◌, ◌∙◌, inl, inr, subst, sym, ap}
 use Rattle.irs_base.proofs.HandedAnswers.{handed_on}
 use Rattle.irs_base.proofs.Outcomes.{stopped_meets}
 use Rattle.irs_terms.specs.declared.stream.Stream.{Stream}
-use Rattle.irs_schedule.specs.Private.Keeping.{MakePart}
-use Rattle.irs_schedule.specs.KeptTerms.{is_daily, is_floating, kept_terms_of}
-use Rattle.irs_schedule.specs.Outcomes.{part_over, stream_of}
-use Rattle.irs_schedule.specs.Periods.{periods_by}
-use Rattle.irs_schedule.specs.Private.StageSets.{sets_of}
-use Rattle.irs_schedule.specs.StreamDates.{layout_dates}
+use Rattle.irs_schedule.specs.Private.Layouts.{MakePart, sets_of}
+use Rattle.irs_schedule.specs.Parts.{is_daily, is_floating, kept_terms_of}
+use Rattle.irs_schedule.specs.Schedules.{part_over, stream_of, periods_by, layout_dates}
 use Rattle.irs_schedule.specs.declared.center_table.StreamDays.{StreamDays}
 use Rattle.irs_schedule.specs.declared.kept_terms.KeptTerms.{KeptTerms}
 use Rattle.irs_schedule.proofs.CenterLemmas.{days_in_range}

@@ -1,7 +1,7 @@
 use Rattle.std.proofs.Common.{rules}
 use Rattle.std.proofs.lemmas.Iterator.{YieldsList-from_map, YieldsList-from_slice}
 use Rattle.std.proofs.lemmas.Iterator.Consumers.{YieldsList-at, sum_by_from_yields_List}
-use Rattle.irs_unfixed.specs.Counts.{stream_payments}
+use Rattle.irs_unfixed.specs.Unfixed.{stream_payments}
 use Rattle.irs_unfixed.proofs.counts.all_payments.Goals as goal
 
 pub returns : goal.returns

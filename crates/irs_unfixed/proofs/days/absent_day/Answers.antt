@@ -1,5 +1,5 @@
-use Rattle.irs_observed.specs.DailyRates.{DailyRates, daily_rates}
-use Rattle.irs_observed.specs.ObservationPeriods.{ObservedPeriod, observed_period}
+use Rattle.irs_observed.specs.ObservedRates.{DailyRates, daily_rates}
+use Rattle.irs_observed.specs.Observations.{ObservedPeriod, observed_period}
 use Rattle.irs_unfixed.proofs.AbsentLemmas.{not_known}
 use Rattle.irs_unfixed.proofs.days.absent_day.Goals as goal
 

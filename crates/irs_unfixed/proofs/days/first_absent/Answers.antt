@@ -1,7 +1,7 @@
 use Rattle.std.proofs.Common.{◌≡◌, length, None, Some, refl, sym, ◌∙◌, rules}
 use Rattle.std.specs.Prelude.{slice_get}
 use Rattle.std.proofs.lemmas.Option.{slice_get_read}
-use Rattle.irs_observed.specs.DailyRates.{rates_by}
+use Rattle.irs_observed.specs.ObservedRates.{rates_by}
 use Rattle.irs_unfixed.proofs.AbsentLemmas.{absent_at}
 use Rattle.irs_unfixed.proofs.days.first_absent.Goals as goal
 

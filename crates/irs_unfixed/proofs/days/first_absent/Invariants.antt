@@ -1,5 +1,5 @@
 use Rattle.std.proofs.Common.{take}
-use Rattle.irs_observed.specs.DailyRates.{AreKnown, rates_by}
+use Rattle.irs_observed.specs.ObservedRates.{AreKnown, rates_by}
 use Rattle.irs_unfixed.proofs.days.first_absent.Given as goal
 
 -- each observation so far has its daily rate

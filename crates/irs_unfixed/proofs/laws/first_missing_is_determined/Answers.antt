@@ -1,4 +1,4 @@
-use Rattle.irs_unfixed.specs.Missing.{MadeFrom, made_from}
+use Rattle.irs_unfixed.specs.Unfixed.{MadeFrom, made_from}
 use Rattle.irs_unfixed.proofs.OneFixing.{one_lacking}
 use Rattle.irs_unfixed.proofs.laws.first_missing_is_determined.Goals as goal
 

@@ -1,5 +1,5 @@
 use Rattle.std.proofs.Common.{arith, ◌-◌}
-use Rattle.irs_unfixed.specs.Missing.{MadeFrom, made_from}
+use Rattle.irs_unfixed.specs.Unfixed.{MadeFrom, made_from}
 use Rattle.irs_unfixed.proofs.MissingLemmas.{is_gap, is_read, last_few, lies, not_rated, part_low, payment_lacks}
 use Rattle.irs_unfixed.proofs.MissingLemmas.{payment_low, read_at, stream_low}
 use Rattle.irs_unfixed.proofs.missing.missing_at.Goals as goal

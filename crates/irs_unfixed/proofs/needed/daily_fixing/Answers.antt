@@ -1,5 +1,5 @@
 use Rattle.std.proofs.Common.{Some, refl}
-use Rattle.irs_observed.specs.DailyRates.{one_day}
+use Rattle.irs_observed.specs.ObservedRates.{one_day}
 use Rattle.irs_unfixed.proofs.GapLemmas.{daily_lacks}
 use Rattle.irs_unfixed.proofs.needed.daily_fixing.Goals as goal
 

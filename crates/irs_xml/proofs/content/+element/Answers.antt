@@ -1,9 +1,7 @@
 use Rattle.std.proofs.Common.{◌≡◌, ◌-◌, ◌++◌, true, false, Some, map, ap, sym, ◌∙◌, arith, length, take}
 use Rattle.std.proofs.lemmas.Result.{err_from_is_err_and}
-use Rattle.irs_xml.specs.Private.InsideViews.{inside_view}
-use Rattle.irs_xml.specs.Private.MarkViews.{mark_view}
-use Rattle.irs_xml.specs.Namespaces.{is_opened, is_opened_in, scope_in, declarations}
-use Rattle.irs_xml.specs.Private.Reading.{child_at, element_at, piece_at}
+use Rattle.irs_xml.specs.Private.Reading.{inside_view, mark_view, child_at, element_at, piece_at}
+use Rattle.irs_xml.specs.Tags.{is_opened, is_opened_in, scope_in, declarations}
 use Rattle.irs_xml.specs.Private.TagViews.{opening_view, scope_view, setting_view, tag_view}
 use Rattle.irs_xml.proofs.ChildSteps.{child_none, child_no_tag, child_closed, child_goes, scope_back}
 use Rattle.irs_xml.proofs.ContentSteps.{content_wrong, content_broken, content_ends, content_more}

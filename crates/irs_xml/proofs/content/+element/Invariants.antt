@@ -1,6 +1,5 @@
 use Rattle.std.proofs.Common.{◌≡◌, ◌+◌, ◌*◌, length}
-use Rattle.irs_xml.specs.Private.InsideViews.{inside_view}
-use Rattle.irs_xml.specs.Private.Reading.{child_at}
+use Rattle.irs_xml.specs.Private.Reading.{inside_view, child_at}
 use Rattle.irs_xml.specs.Private.TagViews.{scope_view}
 use Rattle.irs_xml.proofs.ContentSteps.{ContentGoes}
 use Rattle.irs_xml.proofs.content.+element.Given as goal

@@ -1,6 +1,6 @@
 use Rattle.std.proofs.Common.{Some, ap, sym, ◌∙◌}
 use Rattle.std.specs.Prelude.{codes}
-use Rattle.irs_xml.specs.Comments.{rest_after}
+use Rattle.irs_xml.specs.Characters.{rest_after}
 use Rattle.irs_xml.proofs.MiscSteps.{misc_ends, misc_no_comment, misc_no_instruction, misc_comment, misc_instruction, comment_shorter, instruction_shorter}
 use Rattle.irs_xml.proofs.document.misc.Goals as goal
 

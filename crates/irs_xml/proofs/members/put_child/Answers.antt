@@ -3,7 +3,7 @@ use Rattle.serde_json.specs.Data.{put}
 use Rattle.serde_json.specs.Find.{get_member}
 use Rattle.serde_json.specs.View.{view, members_view}
 use Rattle.serde_json.proofs.Views.{members_view-insert_entry, view-lookup}
-use Rattle.irs_xml.specs.Values.{joined_values, without}
+use Rattle.irs_xml.specs.Content.{joined_values, without}
 use Rattle.irs_xml.proofs.MemberLemmas.{members_view-remove_entry}
 use Rattle.irs_xml.proofs.members.put_child.Goals as goal
 

@@ -2,7 +2,7 @@ use Rattle.std.proofs.Common.{◌≡◌, drop, map}
 use Rattle.serde_json.specs.Data.{no_members}
 use Rattle.serde_json.specs.View.{members_view}
 use Rattle.irs_xml.specs.Private.TagViews.{setting_view}
-use Rattle.irs_xml.specs.Values.{with_settings}
+use Rattle.irs_xml.specs.Content.{with_settings}
 use Rattle.irs_xml.proofs.members.setting_members.Given as goal
 
 -- the attributes that are left, added to the members so far, give what all of them give

@@ -1,6 +1,6 @@
 use Rattle.std.proofs.Common.{◌≡◌, drop, map}
 use Rattle.std.specs.List.{list_all}
-use Rattle.irs_xml.specs.Namespaces.{is_lawful}
+use Rattle.irs_xml.specs.Tags.{is_lawful}
 use Rattle.irs_xml.specs.Private.TagViews.{setting_view}
 use Rattle.irs_xml.proofs.namespaces.are_lawful.Given as goal
 

@@ -1,8 +1,7 @@
 use Rattle.std.proofs.Common.{◌&&◌, List, map, ap, ◌∙◌}
 use Rattle.std.specs.List.{list_all}
 use Rattle.std.specs.Prelude.{is_some}
-use Rattle.irs_xml.specs.Private.Resolved.{Resolved, are_distinct}
-use Rattle.irs_xml.specs.Private.TagViews.{resolved_view, scope_view, setting_view}
+use Rattle.irs_xml.specs.Private.TagViews.{Resolved, are_distinct, resolved_view, scope_view, setting_view}
 use Rattle.irs_xml.proofs.Resolving.{resolved_apart}
 use Rattle.irs_xml.proofs.namespaces.are_named.Goals as goal
 

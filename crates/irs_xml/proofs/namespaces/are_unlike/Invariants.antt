@@ -1,6 +1,5 @@
 use Rattle.std.proofs.Common.{◌≡◌, drop, map}
-use Rattle.irs_xml.specs.Private.Resolved.{are_distinct}
-use Rattle.irs_xml.specs.Private.TagViews.{resolved_view}
+use Rattle.irs_xml.specs.Private.TagViews.{are_distinct, resolved_view}
 use Rattle.irs_xml.proofs.namespaces.are_unlike.Given as goal
 
 -- all names are distinct just where those that are left are

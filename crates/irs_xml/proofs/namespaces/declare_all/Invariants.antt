@@ -1,5 +1,5 @@
 use Rattle.std.proofs.Common.{◌≡◌, ◌++◌, drop, map}
-use Rattle.irs_xml.specs.Namespaces.{declarations}
+use Rattle.irs_xml.specs.Tags.{declarations}
 use Rattle.irs_xml.specs.Private.TagViews.{scope_view, setting_view}
 use Rattle.irs_xml.proofs.namespaces.declare_all.Given as goal
 

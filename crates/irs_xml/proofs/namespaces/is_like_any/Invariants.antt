@@ -1,7 +1,6 @@
 use Rattle.std.proofs.Common.{◌≡◌, drop, map}
 use Rattle.std.specs.List.{list_any}
-use Rattle.irs_xml.specs.Private.Resolved.{is_alike}
-use Rattle.irs_xml.specs.Private.TagViews.{resolved_view}
+use Rattle.irs_xml.specs.Private.TagViews.{is_alike, resolved_view}
 use Rattle.irs_xml.proofs.namespaces.is_like_any.Given as goal
 
 -- some name is like this one just where some name that is left is

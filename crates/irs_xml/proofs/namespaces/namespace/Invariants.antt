@@ -1,6 +1,6 @@
 use Rattle.std.proofs.Common.{◌≡◌, drop, Bor, List, ℕ}
 use Rattle.std.specs.Option.{option_map}
-use Rattle.irs_xml.specs.Namespaces.{latest, namespace_of}
+use Rattle.irs_xml.specs.Tags.{latest, namespace_of}
 use Rattle.irs_xml.specs.Private.TagViews.{scope_view}
 use Rattle.irs_xml.proofs.namespaces.namespace.Given as goal
 

@@ -1,6 +1,5 @@
 use Rattle.std.proofs.Common.{◌≡◌, ◌++◌, drop, map}
-use Rattle.irs_xml.specs.Private.Resolved.{resolve}
-use Rattle.irs_xml.specs.Private.TagViews.{resolved_view, scope_view, setting_view}
+use Rattle.irs_xml.specs.Private.TagViews.{resolve, resolved_view, scope_view, setting_view}
 use Rattle.irs_xml.proofs.namespaces.resolve_all.Given as goal
 
 -- the names so far, with those of the attributes that are left, are the names of all attributes

@@ -2,7 +2,7 @@ use Rattle.std.proofs.Common.{◌∷◌, ◌++◌, None, Some, sym, ap, ◌∙�
 use Rattle.std.proofs.lemmas.Str.{encode_ascii}
 use Rattle.std.proofs.lemmas.Str.Pattern.{strip_prefix_char}
 use Rattle.std.specs.Char.{encode_utf8}
-use Rattle.irs_xml.specs.Seen.{seen}
+use Rattle.irs_xml.specs.Characters.{seen}
 use Rattle.irs_xml.proofs.Seeing.{seen_nothing, seen_other, seen_return, behind_feed, behind_alone}
 use Rattle.irs_xml.proofs.reader.first_decoded.Goals as goal
 

@@ -1,6 +1,6 @@
 use Rattle.std.proofs.Common.{sym, ap, subst, ◌∙◌}
 use Rattle.std.specs.List.{slice_get}
-use Rattle.irs_xml.specs.Private.Plain.{SplitsPlain}
+use Rattle.irs_xml.specs.Private.Reading.{SplitsPlain}
 use Rattle.irs_xml.proofs.PlainSteps.{plain_more}
 use Rattle.irs_xml.proofs.Seeing.{cut_ascii}
 use Rattle.irs_xml.proofs.reader.plain_rest.Goals as goal

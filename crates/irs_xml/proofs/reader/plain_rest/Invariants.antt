@@ -1,7 +1,7 @@
 use Rattle.std.proofs.Common.{length}
 use denote.Text.{Utf8}
 use denote.Shadow.{shadow}
-use Rattle.irs_xml.specs.Private.Plain.{SplitsPlain}
+use Rattle.irs_xml.specs.Private.Reading.{SplitsPlain}
 use Rattle.irs_xml.proofs.reader.plain_rest.Given as goal
 
 -- what is left is UTF-8, and the text is plain characters and then what is left

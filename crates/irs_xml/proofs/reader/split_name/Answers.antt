@@ -1,6 +1,6 @@
 use Rattle.std.proofs.Common.{◌++◌, sym, ◌∙◌, ap}
 use Rattle.std.specs.Char.{encode_utf8}
-use Rattle.irs_xml.specs.Seen.{seen}
+use Rattle.irs_xml.specs.Characters.{seen}
 use Rattle.irs_xml.proofs.Seeing.{seen_nothing}
 use Rattle.irs_xml.proofs.NameReads.{Named, no_name_at_end, no_name_other, may_split, name_read}
 use Rattle.irs_xml.proofs.reader.split_name.Goals as goal

@@ -1,6 +1,6 @@
 use Rattle.std.proofs.Common.{ℤ, inr}
 use Rattle.std.proofs.lemmas.Option.{IfSome_then}
-use Rattle.irs_adjust.specs.Conventions.{SameMonth}
+use Rattle.irs_adjust.specs.MovedDays.{SameMonth}
 use Rattle.irs_adjust.proofs.conventions.ModFollowingConvention.adjust.Goals as goal
 
 pub returns-else-in_same_month-clause-some : goal.returns-else-in_same_month-clause-some

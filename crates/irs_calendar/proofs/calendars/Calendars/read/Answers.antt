@@ -1,11 +1,10 @@
 use Rattle.std.proofs.Common.{ℕ, List, [], IfSome, Option, Some, None}
 use Rattle.std.proofs.lemmas.Result.{err_from_is_err_and}
-use Rattle.irs_calendar.specs.Calendars.{spot_of}
-use Rattle.irs_calendar.specs.Private.Calendars.{calendars_in, SpotFails}
+use Rattle.irs_calendar.specs.Grammar.{spot_of, IsFirstCalendarFault, Spot}
+use Rattle.irs_calendar.specs.Private.Files.{calendars_in, SpotFails}
 use Rattle.irs_calendar.proofs.DistinctLemmas.{calendars_apart}
 use Rattle.irs_calendar.proofs.CalendarLemmas.{texts}
 use Rattle.irs_calendar.proofs.GrammarLemmas.{read_is_spelt}
-use Rattle.irs_calendar.specs.FirstFaults.{IsFirstCalendarFault, Spot}
 use Rattle.irs_calendar.proofs.FaultLemmas.{fault_is_first, one_first_fault, faulty_spell_none, spelt_or_faulty}
 use Rattle.irs_calendar.proofs.calendars.Calendars.read.Goals as goal
 

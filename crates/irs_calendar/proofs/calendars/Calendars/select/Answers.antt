@@ -1,6 +1,6 @@
 use Rattle.std.proofs.Common.{rules}
-use Rattle.irs_calendar.specs.Runs.{set_of_runs}
-use Rattle.irs_calendar.specs.Selected.{sections_named}
+use Rattle.irs_calendar.specs.GoodDays.{set_of_runs}
+use Rattle.irs_calendar.specs.Sections.{sections_named}
 use Rattle.irs_calendar.proofs.CoverLemmas.{covers_common}
 use Rattle.irs_calendar.proofs.calendars.Calendars.select.Goals as goal
 

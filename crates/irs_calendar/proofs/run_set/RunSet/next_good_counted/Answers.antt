@@ -1,6 +1,5 @@
 use Rattle.std.proofs.Common.{◌+◌, ◌-◌, ◌*◌, ◌^◌, ◌≤◌, length, sym, ◌∙◌, subst}
-use Rattle.irs_calendar.specs.GoodDays.{Next}
-use Rattle.irs_calendar.specs.Runs.{CoveredRuns, set_of_runs}
+use Rattle.irs_calendar.specs.GoodDays.{Next, CoveredRuns, set_of_runs}
 use Rattle.irs_calendar.proofs.Halving.{read_more}
 use Rattle.irs_base.proofs.Orders.{lt_true, lt_false}
 use Rattle.irs_calendar.proofs.RunLemmas.{ends_downward, in_cover, next_run, next_here, none_next}

@@ -1,7 +1,6 @@
 use Rattle.std.proofs.Common.{◌≡◌, ℕ, ◌+◌, ◌-◌, ◌*◌, ◌^◌, ◌≤◌, length, sym, subst, arith}
-use Rattle.irs_calendar.specs.GoodDays.{Prev}
-use Rattle.irs_calendar.specs.Runs.{CoveredRuns, set_of_runs}
-use Rattle.irs_calendar.specs.Private.Splits.{begins_or_ends_before, Splits}
+use Rattle.irs_calendar.specs.GoodDays.{Prev, CoveredRuns, set_of_runs}
+use Rattle.irs_calendar.specs.Private.Closed.{begins_or_ends_before, Splits}
 use Rattle.irs_calendar.specs.declared.search.End.TheVariants.{First}
 use Rattle.irs_calendar.proofs.Halving.{read_more}
 use Rattle.irs_base.proofs.Orders.{lt_true, lt_false}

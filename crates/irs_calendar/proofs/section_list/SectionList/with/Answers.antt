@@ -2,7 +2,7 @@ use Rattle.std.proofs.Common.{arith, ◌≡◌, ℕ, sym, ◌∙◌, subst}
 use Rattle.std.specs.Ordering.{nat_cmp}
 use Rattle.std.specs.Cmp.Lexicographic.{slice_cmp}
 use Rattle.std.specs.BTreeMap.{insert_entry}
-use Rattle.irs_calendar.specs.Places.{IsIndex}
+use Rattle.irs_calendar.specs.Sections.{IsIndex}
 use Rattle.irs_calendar.proofs.PlaceLemmas.{index_with}
 use Rattle.irs_calendar.proofs.section_list.SectionList.with.Goals as goal
 

@@ -1,6 +1,6 @@
 use Rattle.std.proofs.Common.{◌≡◌, length}
 use Rattle.serde_json.specs.View.{members_view}
-use Rattle.irs_json.specs.Names.{member_names}
+use Rattle.irs_json.specs.Leaves.{member_names}
 use Rattle.irs_json.proofs.names.MemberIterIterator.next.Given as goal
 
 -- skipping members that count as absent leaves the list of names to come unchanged

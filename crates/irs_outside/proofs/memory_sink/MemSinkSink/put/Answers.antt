@@ -1,5 +1,5 @@
 use Rattle.std.proofs.Common.{◌≡◌, ℕ, List, ◌++◌, take, drop, Some, ap, sym, ◌∙◌, take-append-drop}
-use Rattle.irs_outside.specs.MemSinks.{SinkSeen}
+use Rattle.irs_outside.specs.Outside.{SinkSeen}
 use Rattle.irs_outside.proofs.memory_sink.MemSinkSink.put.Goals as goal
 
 pub returns-clause-err : goal.returns-clause-err

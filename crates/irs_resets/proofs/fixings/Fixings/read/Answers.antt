@@ -1,7 +1,7 @@
 use Rattle.std.proofs.Common.{◌+◌, arith, ◌≤◌, length}
 use Rattle.std.proofs.lemmas.Result.{err_from_is_err_and}
-use Rattle.irs_base.specs.Lines.{lines_of}
-use Rattle.irs_calendar.specs.EndLines.{seen_from, seen_lines}
+use Rattle.irs_base.specs.Texts.{lines_of}
+use Rattle.irs_calendar.specs.Grammar.{seen_from, seen_lines}
 use Rattle.irs_resets.proofs.FileLemmas.{reads, stops, whole_file}
 use Rattle.irs_resets.proofs.FileOutcomes.{next_fault}
 use Rattle.irs_resets.proofs.fixings.Fixings.read.Goals as goal

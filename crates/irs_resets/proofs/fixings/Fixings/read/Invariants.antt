@@ -1,9 +1,9 @@
 use Rattle.std.proofs.Common.{◌+◌, ◌≤◌, length}
 use Rattle.std.specs.Prelude.{IfSome}
 use Rattle.irs_base.specs.Limits.{most_bytes}
-use Rattle.irs_base.specs.Lines.{lines_of}
-use Rattle.irs_calendar.specs.EndLines.{seen_from, seen_lines}
-use Rattle.irs_resets.specs.Private.FixingLines.{IsTail}
+use Rattle.irs_base.specs.Texts.{lines_of}
+use Rattle.irs_calendar.specs.Grammar.{seen_from, seen_lines}
+use Rattle.irs_resets.specs.Private.FixingFiles.{IsTail}
 use Rattle.irs_resets.proofs.FileLemmas.{ReadTo}
 use Rattle.irs_resets.proofs.fixings.Fixings.read.Given as goal
 

@@ -1,6 +1,6 @@
 use Rattle.std.proofs.Common.{arith, ℤ, subst}
 use Rattle.jiff_core.proofs.SignedLemmas.{signed_arith}
-use Rattle.irs_base.specs.Months.{InMonth}
+use Rattle.irs_base.specs.Days.{InMonth}
 use Rattle.irs_roll.proofs.anchor.Anchor.months_to.Goals as goal
 
 pub returns-clause-months : goal.returns-clause-months

@@ -1,6 +1,6 @@
 use Rattle.std.proofs.Common.{arith, ◌≡◌, pos, w64, to_z, of_z, to_z-of_z}
 use Rattle.jiff_core.proofs.SignedLemmas.{signed_arith}
-use Rattle.irs_roll.specs.Private.StepLaws.{too_far}
+use Rattle.irs_roll.specs.Private.Laws.{too_far}
 use Rattle.irs_roll.proofs.every_days.EveryDaysGrid.nth.Goals as goal
 
 pub returns-in_err-checked_mul : goal.returns-in_err-checked_mul

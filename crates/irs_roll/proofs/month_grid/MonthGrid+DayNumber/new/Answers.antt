@@ -1,6 +1,5 @@
 use Rattle.std.proofs.Common.{ℕ, subst, sym}
-use Rattle.irs_roll.specs.Grids.{OnMonths}
-use Rattle.irs_roll.specs.RollDays.{IsNumbered}
+use Rattle.irs_roll.specs.Rolls.{OnMonths, IsNumbered}
 use Rattle.irs_roll.proofs.month_grid.MonthGrid+DayNumber.new.Goals as goal
 
 pub returns-clause-on : goal.returns-clause-on

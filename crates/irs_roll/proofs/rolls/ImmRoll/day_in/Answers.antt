@@ -1,5 +1,5 @@
 use Rattle.std.proofs.Common.{◌≡◌, w64, to_z, of_z, to_z-of_z}
-use Rattle.irs_roll.specs.Private.RollDayLaws.{third_wednesday_range}
+use Rattle.irs_roll.specs.Private.Laws.{third_wednesday_range}
 use Rattle.irs_roll.proofs.rolls.ImmRoll.day_in.Goals as goal
 
 pub returns-in_err-fifteenth : goal.returns-in_err-fifteenth

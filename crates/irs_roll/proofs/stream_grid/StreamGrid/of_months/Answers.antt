@@ -1,5 +1,5 @@
-use Rattle.irs_roll.specs.RollDays.{IsLastDay, IsNumbered, IsThirdWednesday}
-use Rattle.irs_roll.specs.Private.MonthLaws.{rolls_in}
+use Rattle.irs_roll.specs.Rolls.{IsLastDay, IsNumbered, IsThirdWednesday}
+use Rattle.irs_roll.specs.Private.Laws.{rolls_in}
 use Rattle.irs_roll.proofs.stream_grid.StreamGrid.of_months.Goals as goal
 
 pub new-requires-clause-fits : goal.new-requires-clause-fits

@@ -1,5 +1,5 @@
 use Rattle.std.proofs.Common.{option_copied, ap}
-use Rattle.irs_schedule.specs.CenterDays.{NamedCenters}
+use Rattle.irs_schedule.specs.DaySets.{NamedCenters}
 use Rattle.irs_schedule.proofs.CenterLemmas.{more}
 use Rattle.irs_schedule.proofs.center_table.CenterTable.add.Goals as goal
 

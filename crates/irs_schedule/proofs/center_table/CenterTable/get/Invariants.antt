@@ -1,5 +1,5 @@
 use Rattle.std.proofs.Common.{◌≡◌, ℕ, ◌<◌, get_or, option_copied}
-use Rattle.irs_schedule.specs.CenterDays.{NamedCenters}
+use Rattle.irs_schedule.specs.DaySets.{NamedCenters}
 use Rattle.irs_schedule.proofs.center_table.CenterTable.get.Given as goal
 
 -- the items before this one have other names

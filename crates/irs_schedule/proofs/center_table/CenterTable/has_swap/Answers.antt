@@ -1,7 +1,7 @@
 use Rattle.std.proofs.Common.{length, refl, arith}
 use Rattle.std.proofs.lemmas.Option.{slice_get_read, slice_get_within}
 use Rattle.irs_base.proofs.EveryLemmas.{below_more}
-use Rattle.irs_schedule.specs.Private.CenterDays.{HasStream}
+use Rattle.irs_schedule.specs.Private.Layouts.{HasStream}
 use Rattle.irs_schedule.proofs.center_table.CenterTable.has_swap.Goals as goal
 
 pub loop-s-preserved : goal.loop-s-preserved

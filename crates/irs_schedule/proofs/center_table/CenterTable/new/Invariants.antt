@@ -1,6 +1,6 @@
 use Rattle.std.proofs.Common.{◌≡◌, ℕ, ◌<◌, Some, slice_get}
 use Rattle.irs_terms.specs.declared.stream.Stream.{Stream}
-use Rattle.irs_schedule.specs.Private.CenterDays.{HasStream}
+use Rattle.irs_schedule.specs.Private.Layouts.{HasStream}
 use Rattle.irs_schedule.proofs.center_table.CenterTable.new.Given as goal
 
 -- the table has the streams before this one

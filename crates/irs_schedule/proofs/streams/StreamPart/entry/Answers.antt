@@ -1,8 +1,8 @@
 use Rattle.std.proofs.Common.{◌-◌, ◌≤◌, ◌<ℤ◌, length, subst, sym, ◌∙◌, arith, refl}
 use Rattle.irs_schedule.specs.Parts.{Part}
-use Rattle.irs_schedule.specs.Periods.{period_count, period_by}
+use Rattle.irs_schedule.specs.Schedules.{period_count, period_by}
 use Rattle.irs_schedule.proofs.PeriodLemmas.{entry_at, length_periods, next_day}
-use Rattle.irs_base.specs.Members.{day_at}
+use Rattle.irs_base.specs.Lists.{day_at}
 use Rattle.irs_schedule.proofs.streams.StreamPart.entry.Goals as goal
 
 pub entry_by-requires-clause-order : goal.entry_by-requires-clause-order

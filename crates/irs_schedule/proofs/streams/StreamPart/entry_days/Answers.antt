@@ -2,10 +2,10 @@ use Rattle.std.proofs.Common.{◌-◌, ◌≤◌, ◌<ℤ◌, length, rules, sub
 use Rattle.std.specs.Int.{w64}
 use Rattle.std.proofs.lemmas.Int.{to_z-of_z}
 use Rattle.irs_schedule.specs.Parts.{Part}
-use Rattle.irs_schedule.specs.Periods.{period_count}
+use Rattle.irs_schedule.specs.Schedules.{period_count}
 use Rattle.irs_schedule.specs.declared.entries.PeriodEntry.{PeriodEntry}
 use Rattle.irs_schedule.proofs.PeriodLemmas.{entry_at, length_periods, next_day}
-use Rattle.irs_base.specs.Members.{day_at}
+use Rattle.irs_base.specs.Lists.{day_at}
 use Rattle.irs_schedule.proofs.streams.StreamPart.entry_days.Goals as goal
 
 pub days_by-requires : goal.days_by-requires

@@ -1,6 +1,6 @@
 use Rattle.std.proofs.Common.{rules}
 use Rattle.irs_schedule.specs.declared.streams.StreamPart.TheInside.{Inside}
-use Rattle.irs_schedule.specs.Keeping.{IsKept}
+use Rattle.irs_schedule.specs.Views.{IsKept}
 use Rattle.irs_schedule.proofs.PartLemmas.{kept}
 use Rattle.irs_schedule.proofs.streams.StreamPart.new.Goals as goal
 

@@ -1,6 +1,5 @@
 use Rattle.std.proofs.Common.{◌≡◌, drop}
-use Rattle.irs_xml.specs.Comments.{rest_after}
-use Rattle.irs_xml.specs.Seen.{seen}
+use Rattle.irs_xml.specs.Characters.{rest_after, seen}
 use Rattle.irs_xml.proofs.reader.Reader.eat.Given as goal
 
 -- what is left of the word is ahead just where the whole word is at the front

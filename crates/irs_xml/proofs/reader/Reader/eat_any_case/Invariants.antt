@@ -1,6 +1,6 @@
 use Rattle.std.proofs.Common.{◌≡◌, drop}
 use Rattle.irs_xml.specs.Private.Reading.{after_any_case}
-use Rattle.irs_xml.specs.Seen.{seen}
+use Rattle.irs_xml.specs.Characters.{seen}
 use Rattle.irs_xml.proofs.reader.Reader.eat_any_case.Given as goal
 
 -- what is left of the word is ahead just where the whole word is at the front

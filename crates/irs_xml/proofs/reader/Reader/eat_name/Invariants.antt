@@ -1,6 +1,5 @@
 use Rattle.std.proofs.Common.{◌≡◌, length}
-use Rattle.irs_xml.specs.Comments.{rest_after}
-use Rattle.irs_xml.specs.Seen.{seen}
+use Rattle.irs_xml.specs.Characters.{rest_after, seen}
 use Rattle.irs_xml.proofs.reader.Reader.eat_name.Given as goal
 
 -- what is left of the name is ahead just where the whole name is at the front

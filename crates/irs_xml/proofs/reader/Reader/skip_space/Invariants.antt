@@ -1,6 +1,6 @@
 use Rattle.std.proofs.Common.{◌≡◌, length}
 use Rattle.irs_xml.specs.Private.Reading.{skip_space}
-use Rattle.irs_xml.specs.Seen.{seen}
+use Rattle.irs_xml.specs.Characters.{seen}
 use Rattle.irs_xml.proofs.reader.Reader.skip_space.Given as goal
 
 -- skipping white space from here leads where skipping it from the start leads
