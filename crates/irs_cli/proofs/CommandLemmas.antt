@@ -25,8 +25,9 @@ use Rattle.irs_cli.specs.Commands.{Words, word_texts, Wanted, Asked, Asks, AsksA
 use Rattle.irs_cli.specs.Commands.{AsksBulk, AsksInterpolate, AsksObservations, AsksOvernight, IsRequest, IsListed}
 use Rattle.irs_cli.specs.Commands.{command_of, params_of, roles_of, calendars_of, role_at, is_file, kept_file}
 use Rattle.irs_cli.specs.Commands.{files_from, IsCountWord, IsDateWord, IsFromWord, IsMeanWord, IsSideWord, IsStepWord}
-use Rattle.irs_cli.specs.Commands.{IsStreamWord, IsTenorWord}
+use Rattle.irs_cli.specs.Commands.{IsStreamWord}
 use Rattle.irs_cli.specs.Private.Fetching.{asked_by, wanted_by, IsCommand, IsCommandAs, IsLawfulRequest}
+use Rattle.irs_resets.specs.FixingFiles.{IsTenorWord}
 use Rattle.irs_cli.proofs.ParamLemmas.{one_at, one_count, one_date, one_from, one_mean, one_side, one_step, one_stream}
 use Rattle.irs_cli.proofs.ParamLemmas.{one_tenor, step_lawful}
 

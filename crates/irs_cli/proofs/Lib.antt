@@ -1,6 +1,5 @@
 pub mod PutLemmas
 pub mod ParamLemmas
-pub mod TenorWords
 pub mod CommandLemmas
 pub mod FileLemmas
 pub mod FetchLemmas

@@ -14,8 +14,9 @@ use Rattle.irs_terms.specs.declared.frequency.Frequency.{Frequency}
 use Rattle.irs_terms.specs.declared.frequency.Unit.{Unit as FrequencyUnit}
 use Rattle.irs_terms.specs.declared.frequency.Unit.TheVariants.{D, W, M, Y, T}
 use Rattle.irs_cli.specs.Commands.{At, IsCountWord, IsDateWord, IsFromWord, IsMeanWord, IsSideWord, IsStepWord}
-use Rattle.irs_cli.specs.Commands.{IsStreamWord, IsTenorWord, days_of_unit, mean_name, side_name}
-use Rattle.irs_cli.proofs.TenorWords.{tenor_read}
+use Rattle.irs_cli.specs.Commands.{IsStreamWord, days_of_unit, mean_name, side_name}
+use Rattle.irs_resets.specs.FixingFiles.{IsTenorWord}
+use Rattle.irs_resets.proofs.TenorWords.{tenor_read}
 
 -- the word at a place spells one x at most, where every word does
 pub one_at : {X : Type 0} (Is : List ℕ → X → Type 0) → ((w : List ℕ) (x y : X) → Is w x → Is w y → y ≡ x)

@@ -8,11 +8,10 @@ use Rattle.std.specs.declared.alloc.Global.{Global}
 use Rattle.irs_base.specs.Days.{IsDay}
 use Rattle.irs_base.specs.Limits.{most_streams}
 use Rattle.irs_base.specs.Texts.{IsDateText}
-use Rattle.irs_terms.specs.Lawful.{IsLawfulTenor}
 use Rattle.irs_terms.specs.declared.frequency.Frequency.{Frequency}
 use Rattle.irs_terms.specs.declared.frequency.Unit.{Unit as FrequencyUnit}
 use Rattle.irs_terms.specs.declared.frequency.Unit.TheVariants.{D, W, M, Y, T}
-use Rattle.irs_overnight.specs.Texts.{tenor_text}
+use Rattle.irs_resets.specs.FixingFiles.{IsTenorWord}
 use Rattle.irs_average.specs.declared.means.Mean.{Mean}
 use Rattle.irs_average.specs.declared.means.Mean.TheVariants.{Plain, Weighted}
 use Rattle.irs_average.specs.declared.stubs.Side.{Side}
@@ -80,11 +79,6 @@ side_name Last = codes "final"
 -- the word names the side
 pub record IsSideWord (w : List ℕ) (s : Side) : Type 0 where
   pub is : w ≡ side_name s
-
--- a tenor as in a fixing file: a number from 1 to 999 in digits with no zero in front, and D, W, M or Y
-pub record IsTenorWord (w : List ℕ) (f : Frequency) : Type 0 where
-  pub lawful : IsLawfulTenor f
-  pub is : w ≡ tenor_text (Some f)
 
 -- a number of days or weeks, in days; the other units have no number of days
 abbrev pub days_of_unit : FrequencyUnit → ℕ → Option ℕ

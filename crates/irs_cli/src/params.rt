@@ -1,7 +1,8 @@
 //! What the words of a command ask for: its parameters, and the name that `carrier` takes.
 ghost use Rattle.std.specs.Prelude.{◌≡◌, ◌↔◌, ℕ, ℤ, Option, Some, IfSome, IfNone, IsTrue};
 ghost use Rattle.irs_cli.specs.Commands.{word_texts, IsRequest, At, IsCountWord, IsDateWord, IsFromWord, IsMeanWord};
-ghost use Rattle.irs_cli.specs.Commands.{IsSideWord, IsStepWord, IsStreamWord, IsTenorWord, days_of_unit, form_of};
+ghost use Rattle.irs_cli.specs.Commands.{IsSideWord, IsStepWord, IsStreamWord, days_of_unit, form_of};
+ghost use Rattle.irs_resets.specs.FixingFiles.{IsTenorWord};
 ghost use Rattle.irs_cli.specs.declared.commands.Kind.TheVariants as kind;
 ghost use Rattle.irs_cli.specs.declared.commands.Request.{Request as RequestSpec};
 ghost use Rattle.irs_average.specs.declared.means.Mean.{Mean as MeanSpec};
@@ -303,7 +304,7 @@ fn tenor_at(words: &[String], index: usize) -> Option<Frequency>
 }
 
 // The tenor that a word is, as in a fixing file; `-` is none.
-#[tactic(auto, using(crate::proofs::TenorWords::tenor_read))]
+#[tactic(auto, using(irs_resets::proofs::TenorWords::tenor_read))]
 fn tenor_of(word: &str) -> Option<Frequency>
     ensures some { IfSome result (λ f. IsTenorWord word.now f) }
     ensures none { IfNone result ((f : FrequencySpec) → IsTenorWord word.now f → ⊥) }

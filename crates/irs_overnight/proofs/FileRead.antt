@@ -17,10 +17,11 @@ use Rattle.irs_calendar.proofs.EndLemmas.{truly_seen}
 use Rattle.irs_terms.specs.Lawful.{IsRate}
 use Rattle.irs_terms.specs.declared.frequency.Frequency.{Frequency}
 use Rattle.irs_resets.specs.FixingFiles.{Fixes, IsBad, IsFaulty, IsLine, Repeats, line_at, SpellsRate, is_passed}
+use Rattle.irs_resets.specs.FixingFiles.{tenor_text}
 use Rattle.irs_resets.specs.declared.store.Slot.{Slot}
 use Rattle.irs_resets.proofs.FileLemmas.{passed_none}
 use Rattle.irs_overnight.specs.Texts.{AreFixings, AreKept, HasRate, IsSmallFound, file_text, IsLawfulLine}
-use Rattle.irs_overnight.specs.Texts.{derived_text_of, derived_row_fields, tenor_text}
+use Rattle.irs_overnight.specs.Texts.{derived_text_of, derived_row_fields}
 use Rattle.irs_overnight.specs.declared.derived.DerivedRow.{DerivedRow}
 use Rattle.irs_overnight.specs.declared.derived.Found.{Found}
 use Rattle.irs_overnight.specs.declared.derived.Found.TheVariants.{Rate, Missing}

@@ -7,14 +7,15 @@ use Rattle.irs_base.specs.Days.{IsDay}
 use Rattle.irs_base.specs.Texts.{is_space_or_tab, day_text, dec_text, without_gap}
 use Rattle.irs_terms.specs.Lawful.{IsLawfulIndex, IsRate}
 use Rattle.irs_terms.specs.declared.frequency.Frequency.{Frequency}
-use Rattle.irs_resets.specs.FixingFiles.{SpellsRate, behind_gap, behind_word, trimmed, word}
+use Rattle.irs_resets.specs.FixingFiles.{SpellsRate, behind_gap, behind_word, trimmed, word, tenor_text}
 use Rattle.irs_resets.proofs.WordLemmas.{trimmed_to}
-use Rattle.irs_overnight.specs.Texts.{IsLawfulLine, ReadsAsRow, tenor_text}
+use Rattle.irs_overnight.specs.Texts.{IsLawfulLine, ReadsAsRow}
+use Rattle.irs_resets.proofs.TenorWords.{tenor_back}
 use Rattle.irs_overnight.specs.declared.derived.DerivedRow.{DerivedRow}
 use Rattle.irs_overnight.specs.declared.derived.Found.{Found}
 use Rattle.irs_overnight.specs.declared.derived.Found.TheVariants.{Rate, Missing}
 use Rattle.irs_base.proofs.VisibleTexts.{Visible, day_visible}
-use Rattle.irs_overnight.proofs.VisibleTexts.{day_back, no_space, rate_back, rate_starts, rate_visible, tenor_back}
+use Rattle.irs_overnight.proofs.VisibleTexts.{day_back, no_space, rate_back, rate_starts, rate_visible}
 use Rattle.irs_overnight.proofs.VisibleTexts.{tenor_starts, tenor_visible, StartsVisible}
 
 -- ---- words

@@ -1,35 +1,20 @@
 -- Derived rates as the lines of a fixing file.
-use Rattle.std.specs.Prelude.{ℕ, List, ◌∷◌, ◌++◌, codes, Option, Some, None, IsTrue, IfSome, ◌≡◌, ◌↔◌, ◌^◌, ◌<◌, ℤ}
-use Rattle.std.specs.Prelude.{◌<ℤ◌, slice_get}
+use Rattle.std.specs.Prelude.{ℕ, List, ◌∷◌, ◌++◌, codes, Option, IsTrue, IfSome, ◌≡◌, ◌↔◌, ◌^◌, ◌<◌, Some, ℤ, ◌<ℤ◌}
+use Rattle.std.specs.Prelude.{slice_get}
 use Rattle.std.specs.Fmt.{decimal}
 use Rattle.std.specs.List.{flat_map}
 use Rattle.irs_base.specs.Texts.{day_text, dec_text}
 use Rattle.irs_base.specs.Days.{IsDay}
 use Rattle.irs_terms.specs.declared.frequency.Frequency.{Frequency}
-use Rattle.irs_terms.specs.declared.frequency.Unit.{Unit as FrequencyUnit}
-use Rattle.irs_terms.specs.declared.frequency.Unit.TheVariants.{D, W, M, Y, T}
 use Rattle.irs_terms.specs.Lawful.{IsLawfulIndex, IsLawfulTenor, IsRate}
 use Rattle.irs_calendar.specs.Grammar.{seen_lines}
-use Rattle.irs_resets.specs.FixingFiles.{SpellsRate, is_passed, Fixes, IsFaulty}
+use Rattle.irs_resets.specs.FixingFiles.{tenor_text, SpellsRate, is_passed, Fixes, IsFaulty}
 use Rattle.irs_resets.specs.declared.store.Slot.{Slot}
 use Rattle.irs_overnight.specs.declared.derived.DerivedRow.{DerivedRow}
 use Rattle.irs_overnight.specs.declared.derived.Found.{Found}
 use Rattle.irs_overnight.specs.declared.derived.Found.TheVariants.{Rate, Missing}
 
 -- ---- the line of a fixing file that a derived rate prints
-
--- the letter of a unit
-abbrev pub unit_text : FrequencyUnit → List ℕ
-unit_text D = codes "D"
-unit_text W = codes "W"
-unit_text M = codes "M"
-unit_text Y = codes "Y"
-unit_text T = codes "T"
-
--- number and letter, or `-`
-abbrev pub tenor_text : Option Frequency → List ℕ
-tenor_text None = codes "-"
-tenor_text (Some f) = decimal f.count ++ unit_text f.unit
 
 -- DATE RATE TENOR INDEX with 9 decimals, or `# missing PERIOD DATE`
 abbrev pub derived_row_fields : DerivedRow → Found → Option Frequency → List ℕ → List ℕ

@@ -4,8 +4,8 @@ ghost use Rattle.std.specs.Prelude.{◌≡◌, ◌+◌, ◌<◌, ◌≤◌, [], 
 ghost use Rattle.std.specs.Fmt.{decimal};
 ghost use Rattle.irs_base.specs.Limits.{most_index};
 ghost use Rattle.irs_base.specs.Texts.{day_text, dec_text};
-ghost use Rattle.irs_overnight.specs.Texts.{IsLawfulLine, ReadsAsRow, derived_text_of, derived_row_fields, tenor_text};
-ghost use Rattle.irs_overnight.specs.Texts.{unit_text};
+ghost use Rattle.irs_overnight.specs.Texts.{IsLawfulLine, ReadsAsRow, derived_text_of, derived_row_fields};
+ghost use Rattle.irs_resets.specs.FixingFiles.{tenor_text, unit_text};
 
 use crate::derived::{Derived, DerivedRow, Found};
 use irs_base::{Day, Dec, Line, Text};

@@ -2,6 +2,7 @@ pub mod SlotLemmas
 pub mod OrderLemmas
 pub mod KeyLemmas
 pub mod WordLemmas
+pub mod TenorWords
 pub mod FirstDates
 pub mod FileLemmas
 pub mod DateLemmas

@@ -1,14 +1,16 @@
 -- Fixing files: how their lines spell rates, and their first faulty line.
 use Rattle.std.specs.Prelude.{ℕ, ◌+◌, ◌-◌, ◌*◌, ◌&&◌, ◌==◌, List, [], ◌∷◌, Option, Some, None, nat_le, if◌then◌else◌}
-use Rattle.std.specs.Prelude.{Bool, false, ◌||◌, ◌≡◌, ◌≢◌, ◌≤◌, length, All, ℤ, ◌⊎◌, ◌↔◌, ◌<◌, slice_index_or, nat_lt}
+use Rattle.std.specs.Prelude.{◌≡◌, ◌++◌, codes, Bool, false, ◌||◌, ◌≢◌, ◌≤◌, length, All, ℤ, ◌⊎◌, ◌↔◌, ◌<◌}
+use Rattle.std.specs.Prelude.{slice_index_or, nat_lt}
+use Rattle.std.specs.Fmt.{decimal}
 use Rattle.std.specs.List.{list_all}
 use Rattle.irs_base.specs.Texts.{is_space_or_tab, without_gap, date_at, DecText}
 use Rattle.irs_base.specs.Limits.{most_index}
 use Rattle.irs_base.specs.Outcomes.{First}
 use Rattle.irs_terms.specs.declared.frequency.Unit.{Unit as FrequencyUnit}
-use Rattle.irs_terms.specs.declared.frequency.Unit.TheVariants.{D, W, M, Y}
+use Rattle.irs_terms.specs.declared.frequency.Unit.TheVariants.{D, W, M, Y, T}
 use Rattle.irs_terms.specs.declared.frequency.Frequency.{Frequency}
-use Rattle.irs_terms.specs.Lawful.{IsRate}
+use Rattle.irs_terms.specs.Lawful.{IsLawfulTenor, IsRate}
 use Rattle.irs_calendar.specs.Grammar.{seen_lines}
 use Rattle.irs_resets.specs.declared.store.Slot.{Slot}
 use Rattle.irs_resets.specs.declared.fixings.FixErr.{FixErr}
@@ -65,6 +67,26 @@ tenor_at (a ∷ u ∷ []) = with_unit (first_digit a) (unit_of_letter u)
 tenor_at (a ∷ b ∷ u ∷ []) = with_unit (two_digit_number a b) (unit_of_letter u)
 tenor_at (a ∷ b ∷ c ∷ u ∷ []) = with_unit (three_digits a b c) (unit_of_letter u)
 tenor_at (a ∷ b ∷ c ∷ d ∷ e ∷ rest) = None
+
+-- ---- the words that are tenors in a fixing file
+
+-- the letter of a unit
+abbrev pub unit_text : FrequencyUnit → List ℕ
+unit_text D = codes "D"
+unit_text W = codes "W"
+unit_text M = codes "M"
+unit_text Y = codes "Y"
+unit_text T = codes "T"
+
+-- number and letter, or `-`
+abbrev pub tenor_text : Option Frequency → List ℕ
+tenor_text None = codes "-"
+tenor_text (Some f) = decimal f.count ++ unit_text f.unit
+
+-- a tenor: a number from 1 to 999 in digits with no zero in front, and D, W, M or Y
+pub record IsTenorWord (w : List ℕ) (f : Frequency) : Type 0 where
+  pub lawful : IsLawfulTenor f
+  pub is : w ≡ tenor_text (Some f)
 
 -- ---- the words of a line
 

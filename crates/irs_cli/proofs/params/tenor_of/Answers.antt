@@ -1,6 +1,6 @@
 use Rattle.std.proofs.Common.{sym, ◌∙◌, ap, Some}
 use Rattle.irs_resets.specs.FixingFiles.{tenor_at}
-use Rattle.irs_cli.proofs.TenorWords.{tenor_word}
+use Rattle.irs_resets.proofs.TenorWords.{tenor_word}
 use Rattle.irs_cli.proofs.params.tenor_of.Goals as goal
 
 pub returns-in-Some-Some-clause-some : goal.returns-in-Some-Some-clause-some

@@ -1,5 +1,5 @@
 -- A tenor is a number from 1 to 999 and a letter, and no other word is one.
-use Rattle.std.proofs.Common.{◌≡◌, inl, inr, ℕ, ◌+◌, ◌*◌, ◌-◌, ◌/◌, ◌%◌, ◌≤◌, ◌<◌, List, [], ◌∷◌, ◌++◌, Option, Some, None, Bool}
+use Rattle.std.proofs.Common.{◌≡◌, inl, inr, ℕ, ◌+◌, ◌*◌, ◌-◌, ◌/◌, ◌%◌, ◌≤◌, ◌<◌, List, [], ◌∷◌, ◌++◌, Option, Some, None, IfSome, Bool}
 use Rattle.std.proofs.Common.{true, false, refl, sym, ◌∙◌, ap, ap₂, subst, arith}
 use Rattle.std.specs.Fmt.{decimal}
 use Rattle.std.specs.Prelude.{nat_le, ◌&&◌, ◌==◌, if◌then◌else◌}
@@ -9,13 +9,11 @@ use Rattle.std.proofs.lemmas.Fmt.{decimal_digit, decimal_step}
 use Rattle.std.proofs.lemmas.Option.{same_Some}
 use Rattle.irs_base.proofs.TextLemmas.{of_two_digits}
 use Rattle.irs_resets.specs.FixingFiles.{digit_at, first_digit, tenor_at, tens, two_digit_number, hundreds}
-use Rattle.irs_resets.specs.FixingFiles.{three_digits, unit_of_letter, with_unit}
+use Rattle.irs_resets.specs.FixingFiles.{three_digits, unit_of_letter, with_unit, IsTenorWord, tenor_text, unit_text}
+use Rattle.irs_terms.specs.Lawful.{IsLawfulTenor}
 use Rattle.irs_terms.specs.declared.frequency.Frequency.{Frequency}
 use Rattle.irs_terms.specs.declared.frequency.Unit.{Unit as FrequencyUnit}
 use Rattle.irs_terms.specs.declared.frequency.Unit.TheVariants.{D, W, M, Y, T}
-use Rattle.irs_overnight.specs.Texts.{unit_text}
-use Rattle.irs_overnight.proofs.VisibleTexts.{tenor_back}
-use Rattle.irs_cli.specs.Commands.{IsTenorWord}
 
 -- ---- digits
 
@@ -202,6 +200,70 @@ tenor_word (a ∷ b ∷ c ∷ u ∷ []) f e =
     (λ n. hundreds_number (first_digit a) (digit_at b) (digit_at c) a b c n (first_is a) (digit_is b) (digit_is c))
     (unit_of_letter u) (letter_is u) e
 tenor_word (a ∷ b ∷ c ∷ d ∷ g ∷ rest) f e = cc
+
+-- ---- the text of a tenor is read back
+
+digit_read : (n : ℕ) → n < 10 → digit_at (48 + n) ≡ Some n
+digit_read n h = grind (arith, nat_tests)
+
+first_read : (n : ℕ) → 1 ≤ n → n < 10 → first_digit (48 + n) ≡ Some n
+first_read n low h = grind (arith, nat_tests)
+
+-- the byte of a unit's letter is after the space
+pub unit_back : (u : FrequencyUnit) → (u ≡ T → ⊥) → (b : ℕ) × (unit_text u ≡ b ∷ []) × (unit_of_letter b ≡ Some u) × (33 ≤ b)
+unit_back D h = (68, refl, refl, omega arith)
+unit_back W h = (87, refl, refl, omega arith)
+unit_back M h = (77, refl, refl, omega arith)
+unit_back Y h = (89, refl, refl, omega arith)
+unit_back T h = absurd (h refl)
+
+-- the letter by its byte
+pub tenor_made : (f : Frequency) (b : ℕ) → unit_text f.unit ≡ b ∷ []
+    → decimal f.count ++ unit_text f.unit ≡ decimal f.count ++ b ∷ []
+tenor_made f b e = ap (λ (t : List ℕ). decimal f.count ++ t) e
+
+pair_read : (n : ℕ) → 10 ≤ n → n < 100 → two_digit_number (48 + n / 10) (48 + n % 10) ≡ Some n
+pair_read n low high =
+    let e : 10 * (n / 10) + n % 10 ≡ n = omega arith in
+    ap₂ tens (first_read (n / 10) (omega (arith, low)) (omega (arith, high))) (digit_read (n % 10) (omega arith))
+    ∙ ap (λ (m : ℕ). Some m) e
+
+three_read : (n : ℕ) → 100 ≤ n → n < 1000 → three_digits (48 + n / 100) (48 + n / 10 % 10) (48 + n % 10) ≡ Some n
+three_read n low high =
+    let e : 100 * (n / 100) + 10 * (n / 10 % 10) + n % 10 ≡ n = omega arith in
+    let a = first_read (n / 100) (omega (arith, low)) (omega (arith, high)) in
+    let b = digit_read (n / 10 % 10) (omega arith) in
+    let c = digit_read (n % 10) (omega arith) in
+    rw (a, b, c) (ap (λ (m : ℕ). Some m) e)
+
+-- a frequency made of its parts
+abbrev frequency : ℕ → FrequencyUnit → Frequency
+frequency n u = record { count = n; unit = u }
+
+tenor_by : (f : Frequency) (n b : ℕ) → IsLawfulTenor f → f.count ≡ n → unit_of_letter b ≡ Some f.unit
+    → tenor_at (decimal n ++ b ∷ []) ≡ Some (Some f)
+tenor_by f n b h same unit =
+    let low = h.0.0 in
+    let high = h.0.1 in
+    elim (cases_lt n 10) [
+      | inl one ↦ ap (λ (t : List ℕ). tenor_at (t ++ b ∷ [])) (decimal_digit n one)
+          ∙ ap₂ with_unit (first_read n (omega (arith, low, same)) one) unit
+          ∙ ap (λ (k : ℕ). Some (Some (frequency k f.unit))) (sym same)
+      | inr more ↦ elim (cases_lt n 100) [
+        | inl less ↦ ap (λ (t : List ℕ). tenor_at (t ++ b ∷ [])) (of_two_digits n more less)
+            ∙ ap₂ with_unit (pair_read n more less) unit ∙ ap (λ (k : ℕ). Some (Some (frequency k f.unit))) (sym same)
+        | inr many ↦
+            let few : n < 1000 = omega (arith, high, same) in
+            ap (λ (t : List ℕ). tenor_at (t ++ b ∷ [])) (three n many few)
+            ∙ ap₂ with_unit (three_read n many few) unit ∙ ap (λ (k : ℕ). Some (Some (frequency k f.unit))) (sym same)
+      ]
+    ]
+
+pub tenor_back : (tenor : Option Frequency) → IfSome tenor IsLawfulTenor → tenor_at (tenor_text tenor) ≡ Some tenor
+tenor_back None h = refl
+tenor_back (Some f) h =
+    let u = unit_back f.unit h.1 in
+    ap tenor_at (tenor_made f u.0 u.1) ∙ tenor_by f f.count u.0 h refl u.2
 
 -- what is a tenor is read as one
 pub tenor_read : (w : List ℕ) (f : Frequency) → IsTenorWord w f → tenor_at w ≡ Some (Some f)
