@@ -9,7 +9,8 @@ use Rattle.irs_base.specs.Days.{weekday_at}
 use Rattle.irs_calendar.specs.declared.sections.Section.{Section}
 use Rattle.irs_calendar.specs.declared.weekends.Weekend.{Weekend}
 use Rattle.irs_calendar.specs.declared.weekends.Week.{Week}
-use Rattle.irs_calendar.specs.Sections.{is_listed, is_open, all_open}
+use Rattle.irs_calendar.specs.Sections.{is_open, all_open}
+use Rattle.irs_calendar.specs.Rising.{is_listed}
 use Rattle.irs_calendar.specs.Private.Closed.{off_on, any_off, IsStretch, IsWeek, IsWeekend, day_after, weekend_after}
 use Rattle.irs_calendar.specs.Private.Closed.{any_listed, IsNext, AreHeld}
 

@@ -16,7 +16,8 @@ use Rattle.irs_calendar.specs.declared.part.Part.TheVariants.{Between, Named, Co
 use Rattle.irs_calendar.specs.declared.part.State.{State}
 use Rattle.irs_calendar.specs.declared.machine.Fault.{Fault}
 use Rattle.irs_calendar.specs.declared.machine.Fault.TheVariants.{Syntax, Repeat, TooMany}
-use Rattle.irs_calendar.specs.Private.Files.{all_before, begun, after_center, after_cover, after_weekend, after_holiday}
+use Rattle.irs_calendar.specs.Private.Files.{begun, after_center, after_cover, after_weekend, after_holiday}
+use Rattle.irs_calendar.specs.Private.Rising.{all_before}
 use Rattle.irs_calendar.specs.Private.Files.{after_line, at_end, fits_section, Place, numbered, then_read, sections_in}
 use Rattle.irs_calendar.specs.Private.Files.{sections_of, in_file, then_file, calendars_in}
 use Rattle.irs_calendar.specs.Sections.{is_named, AreDistinct}

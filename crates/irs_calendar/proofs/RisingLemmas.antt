@@ -6,8 +6,9 @@ use Rattle.std.proofs.lemmas.Option.{slice_get_within, same_Some}
 use Rattle.std.proofs.lemmas.Bool.{cases_Bool}
 use Rattle.jiff_core.proofs.SignedLemmas.{signed_arith}
 use Rattle.irs_calendar.specs.declared.sections.Section.{Section}
-use Rattle.irs_calendar.specs.Sections.{RisesByPlace}
-use Rattle.irs_calendar.specs.Private.Files.{IsAfter, all_before, fits_section}
+use Rattle.irs_calendar.specs.Rising.{RisesByPlace}
+use Rattle.irs_calendar.specs.Private.Files.{fits_section}
+use Rattle.irs_calendar.specs.Private.Rising.{IsAfter, all_before}
 use Rattle.irs_base.proofs.Orders.{lt_true, lt_false, true_lt, both_true}
 
 -- numbers that compare equal are equal

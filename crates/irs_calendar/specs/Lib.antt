@@ -1,4 +1,5 @@
 pub mod GoodDays
+pub mod Rising
 pub mod Sections
 pub mod Grammar
 pub mod Private

@@ -1,8 +1,8 @@
 -- The sections of calendar files, by their centres, and the business days of a list of centres.
-use Rattle.std.specs.Prelude.{◌≡◌, ℕ, ◌<◌, Bool, List, ℤ, ◌<ℤ◌, slice_get, Some, false, not, ◌&&◌, [], ◌∷◌, Option, map}
+use Rattle.std.specs.Prelude.{◌≡◌, ℕ, Bool, List, ℤ, slice_get, Some, false, not, ◌&&◌, [], ◌∷◌, Option, map}
 use Rattle.std.specs.Prelude.{slice_index_or, None, Vec, ◌+◌, ◌≤ℤ◌, ◌↔◌, if◌then◌else◌}
 use Rattle.std.specs.List.{list_any, list_all, find}
-use Rattle.std.specs.Ordering.{int_eq, nat_cmp, int_cmp, is_lt}
+use Rattle.std.specs.Ordering.{nat_cmp, int_cmp, is_lt}
 use Rattle.std.specs.Str.{bytes_eq}
 use Rattle.std.specs.Global.{Global}
 use Rattle.std.specs.Cmp.Lexicographic.{slice_cmp}
@@ -10,16 +10,7 @@ use Rattle.std.specs.BTreeMap.{BTreeMap, get_by}
 use Rattle.irs_base.specs.Days.{weekday_at, first_day, last_day, IsDay}
 use Rattle.irs_calendar.specs.declared.sections.Section.{Section}
 use Rattle.irs_calendar.specs.GoodDays.{DaySet, InCover}
-
--- ---- days that rise
-
--- each day is below those after it
-pub record RisesByPlace (days : List ℤ) : Type 0 where
-  pub rises : (i j : ℕ) (x y : ℤ) → i < j → slice_get days i ≡ Some x → slice_get days j ≡ Some y → x <ℤ y
-
--- the day is in the list
-abbrev pub is_listed : ℤ → List ℤ → Bool
-is_listed d days = list_any (λ x. int_eq x d) days
+use Rattle.irs_calendar.specs.Rising.{is_listed}
 
 -- ---- the sections of calendar files: what each says of its centre
 

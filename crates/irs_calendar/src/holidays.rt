@@ -1,7 +1,7 @@
 //! The holidays of a centre: days that rise strictly.
 ghost use Rattle.std.specs.Prelude.{◌≡◌, ℤ, List, [], ◌∷◌, ◌++◌, OnOk, OnErr, Some, length};
-ghost use Rattle.irs_calendar.specs.Sections.{RisesByPlace};
-ghost use Rattle.irs_calendar.specs.Private.Files.{IsAfter, all_before};
+ghost use Rattle.irs_calendar.specs.Rising.{RisesByPlace};
+ghost use Rattle.irs_calendar.specs.Private.Rising.{IsAfter, all_before};
 
 use irs_base::{Day, Memory};
 use std::alloc::Global;

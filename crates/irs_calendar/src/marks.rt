@@ -2,7 +2,7 @@
 //! few steps.
 ghost use Rattle.std.specs.Prelude.{◌≡◌, ℕ, ◌+◌, ◌*◌, ◌<◌, ◌≤◌, ◌^◌, ◌==◌, ◌||◌, true, IfOk, map, length};
 ghost use Rattle.std.specs.Int.{bit_at};
-ghost use Rattle.irs_calendar.specs.Sections.{is_listed};
+ghost use Rattle.irs_calendar.specs.Rising.{is_listed};
 ghost use Rattle.irs_calendar.specs.Private.Closed.{any_listed, is_marked, IsClosed, IsNextBit, IsNext, AreSet};
 ghost use Rattle.irs_calendar.specs.Private.Closed.{AreHeld, AreMarks};
 

@@ -7,7 +7,7 @@ use Rattle.std.specs.Int.{bit_at}
 use Rattle.std.specs.Ordering.{int_cmp, is_le, is_lt}
 use Rattle.irs_base.specs.Days.{weekday_at}
 use Rattle.irs_calendar.specs.declared.sections.Section.{Section}
-use Rattle.irs_calendar.specs.Sections.{is_listed}
+use Rattle.irs_calendar.specs.Rising.{is_listed}
 use Rattle.irs_calendar.specs.declared.weekends.Weekend.{Weekend}
 use Rattle.irs_calendar.specs.declared.weekends.Week.{Week}
 use Rattle.irs_calendar.specs.GoodDays.{InCover, IsGood, CoveredRuns, AreRuns, set_of_runs}

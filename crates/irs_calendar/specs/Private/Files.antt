@@ -1,9 +1,8 @@
 -- Private: no public contract rests on this file.
 -- Of private functions: how calendar files are read.
-use Rattle.std.specs.Prelude.{◌≡◌, ℕ, Bool, List, ℤ, ◌<ℤ◌, slice_get, Some, ◌&&◌, [], ◌∷◌, ◌++◌, length, Result, Ok}
+use Rattle.std.specs.Prelude.{◌≡◌, ℕ, Bool, List, ℤ, Some, ◌&&◌, [], ◌∷◌, ◌++◌, length, Result, Ok}
 use Rattle.std.specs.Prelude.{Err, nat_le, if◌then◌else◌, ◌+◌, Option, None, false}
-use Rattle.std.specs.List.{list_all}
-use Rattle.std.specs.Ordering.{int_cmp, is_lt, is_le}
+use Rattle.std.specs.Ordering.{int_cmp, is_le}
 use Rattle.irs_base.specs.Limits.{most_holidays}
 use Rattle.irs_calendar.specs.declared.sections.Section.{Section}
 use Rattle.irs_calendar.specs.declared.part.Part.{Part}
@@ -21,16 +20,7 @@ use Rattle.irs_calendar.specs.declared.machine.StepErr.{StepErr}
 use Rattle.irs_calendar.specs.declared.part.Said.TheVariants as given
 use Rattle.irs_calendar.specs.declared.files.FileErr.TheVariants as file_err
 use Rattle.irs_calendar.specs.declared.machine.StepErr.TheVariants as step_err
-
--- ---- days that rise
-
--- the day is above each of the days
-abbrev pub IsAfter : ℤ → List ℤ → Type 0
-IsAfter d days = (i : ℕ) (x : ℤ) → slice_get days i ≡ Some x → x <ℤ d
-
--- the day is above each of the days, as a test
-abbrev pub all_before : ℤ → List ℤ → Bool
-all_before d days = list_all (λ x. is_lt (int_cmp x d)) days
+use Rattle.irs_calendar.specs.Private.Rising.{all_before}
 
 -- ---- what the lines of calendar files hold
 
