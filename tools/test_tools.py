@@ -1076,6 +1076,129 @@ second n = after (after n)
         self.assertIn("abbrev pub first_day : ℕ\nfirst_day = 1\n", self.text("irs_low/specs/Days.antt"))
 
 
+class MergingDefinitions(InRoom):
+    """tools/merge_definitions over two small crates."""
+
+    FILES = {
+        "irs_low/specs/Lib.antt": "pub mod Days\npub mod Kinds\npub mod Spans\npub mod Other\n",
+        "irs_low/specs/Days.antt": """-- Days, by their numbers.
+use Rattle.std.specs.Prelude.{ℕ, ◌+◌}
+
+-- the day after
+abbrev pub after : ℕ → ℕ
+after n = n + 1
+""",
+        "irs_low/specs/Spans.antt": """-- Spans of days. Each has an end.
+use Rattle.std.specs.Prelude.{◌≡◌, ℕ}
+use Rattle.irs_low.specs.Days.{after as next}
+
+-- the end
+abbrev pub Ends : ℕ → ℕ → Type 0
+Ends n end = next n ≡ end
+""",
+        "irs_low/specs/Kinds.antt": """-- What needs days.
+use Rattle.std.specs.Prelude.{ℕ}
+use Rattle.irs_low.specs.Days.{after}
+
+-- two on
+abbrev pub second : ℕ → ℕ
+second n = after (after n)
+""",
+        "irs_low/specs/Other.antt": """-- The same name again.
+use Rattle.std.specs.Prelude.{ℕ}
+
+abbrev pub after : ℕ → ℕ
+after n = n
+""",
+        "irs_low/src/lib.rt": """ghost use Rattle.irs_low.specs.Days.{after};
+ghost use Rattle.irs_low.specs.Spans.{Ends};
+
+#[tactic(auto, unfolding(crate::specs::Days::after))]
+fn one() {
+}
+""",
+        "irs_low/README.md": "Days are in `specs/Days.antt`.\n",
+        "irs_low/must-fail/a_day_less.edit": "file: specs/Days.antt\nold: after n = n + 1\nnew: after n = n + 2\n",
+        "irs_high/proofs/Facts.antt": """use Rattle.irs_low.specs.Days.{after}
+use Rattle.irs_low.specs.Spans.{Ends}
+
+fact : Ends 0 (after 0)
+fact = refl
+""",
+    }
+
+    def setUp(self) -> None:
+        super().setUp()
+        self.top = self.copy("tools/reading", "tools/move_private", "tools/rename_definitions", "tools/merge_definitions")
+        for name, text in self.FILES.items():
+            self.write(f"crates/{name}", text)
+        self.write("crates.txt", "irs_low:\nirs_high: irs_low\n")
+
+    def write(self, name: str, text: str) -> None:
+        path = self.top / name
+        path.parent.mkdir(parents=True, exist_ok=True)
+        path.write_text(text)
+
+    def text(self, name: str) -> str:
+        return (self.top / "crates" / name).read_text()
+
+    def merged(self, line: str, *words: str) -> Tuple[int, str, str]:
+        self.write("list", f"# a list\n{line}\n")
+        return self.run_tool(["tools/merge_definitions", *words, "list"], self.top)
+
+    def test_two_files_become_one(self) -> None:
+        status, out, said = self.merged("irs_low/specs/Spans = Spans Days Gone -- Days and spans.")
+        self.assertEqual((status, said), (0, ""))
+        self.assertIn("to be looked at: there is no crates/irs_low/specs/Gone.antt\n", out)
+        self.assertEqual(
+            self.text("irs_low/specs/Spans.antt"),
+            """-- Days and spans.
+use Rattle.std.specs.Prelude.{ℕ, ◌+◌, ◌≡◌}
+
+-- ---- days, by their numbers
+
+-- the day after
+abbrev pub after : ℕ → ℕ
+after n = n + 1
+
+-- ---- spans of days
+-- Each has an end.
+
+-- the end
+abbrev pub Ends : ℕ → ℕ → Type 0
+Ends n end = after n ≡ end
+""",
+        )
+        self.assertFalse((self.top / "crates/irs_low/specs/Days.antt").exists())
+        self.assertEqual(self.text("irs_low/specs/Lib.antt"), "pub mod Spans\npub mod Kinds\npub mod Other\n")
+
+    def test_what_names_them(self) -> None:
+        self.merged("irs_low/specs/Spans = Days Spans")
+        self.assertIn("use Rattle.irs_low.specs.Spans.{after}\n", self.text("irs_low/specs/Kinds.antt"))
+        source = self.text("irs_low/src/lib.rt")
+        self.assertTrue(source.startswith("ghost use Rattle.irs_low.specs.Spans.{after, Ends};\n\n"))
+        self.assertIn("unfolding(crate::specs::Spans::after)", source)
+        self.assertTrue(self.text("irs_high/proofs/Facts.antt").startswith(
+            "use Rattle.irs_low.specs.Spans.{after, Ends}\n\nfact"))
+        self.assertEqual(self.text("irs_low/README.md"), "Days are in `specs/Spans.antt`.\n")
+        self.assertTrue(self.text("irs_low/must-fail/a_day_less.edit").startswith("file: specs/Spans.antt\n"))
+
+    def test_what_is_refused(self) -> None:
+        status, _, said = self.merged("irs_low/specs/Days = Days Other")
+        self.assertEqual((status, said), (1, "tools/merge_definitions: irs_low.specs.Days: after is defined in "
+                                             "irs_low.specs.Days and in irs_low.specs.Other\n"))
+        self.write("crates/irs_low/specs/Spans.antt", self.FILES["irs_low/specs/Spans.antt"].replace(
+            "Days.{after as next}", "Kinds.{second as next}"))
+        status, _, said = self.merged("irs_low/specs/Days = Days Spans")
+        self.assertEqual((status, said), (1, "tools/merge_definitions: irs_low.specs.Days: it and irs_low.specs.Kinds "
+                                             "would need one another\n"))
+        self.assertEqual(self.text("irs_low/specs/Days.antt"), self.FILES["irs_low/specs/Days.antt"])
+        status, out, _ = self.merged("irs_low/specs/Days = Days Other\nirs_low/specs/Kinds = Kinds Spans", "--skip")
+        self.assertEqual(status, 1)
+        self.assertIn("left: irs_low.specs.Days: after is defined in ", out)
+        self.assertIn("abbrev pub Ends", self.text("irs_low/specs/Kinds.antt"))
+
+
 class Shown(InRoom):
     """The commands of pages, and what they print there."""
 
