@@ -8,5 +8,4 @@ pub mod StreamLemmas
 pub mod VerdictLemmas
 pub mod StatedLemmas
 pub mod StatedBounds
-pub mod SumLemmas
 pub mod Standards

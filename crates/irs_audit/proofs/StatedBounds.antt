@@ -17,7 +17,8 @@ use Rattle.irs_schedule.specs.declared.views.CalculationPeriod.{CalculationPerio
 use Rattle.irs_schedule.specs.Parts.{Part, KeepsBounds, IsAmount, HasAmount, IsEntry, most_entry_rate, HasObserved}
 use Rattle.irs_schedule.specs.Parts.{most_observed_rate}
 use Rattle.irs_schedule.specs.RowsOf.{period_at, dated_period}
-use Rattle.irs_audit.specs.Private.Comparisons.{IsStatable, IsStatableDec, IsStatablePeriod, IsStatableRate}
+use Rattle.irs_audit.specs.StatedFlows.{IsStatable, IsStatableDec}
+use Rattle.irs_audit.specs.Private.Comparisons.{IsStatablePeriod, IsStatableRate}
 use Rattle.irs_base.proofs.MemberLemmas.{every_get}
 use Rattle.irs_audit.proofs.ValueLemmas.{both_powers}
 

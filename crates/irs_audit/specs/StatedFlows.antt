@@ -1,7 +1,7 @@
--- The cash flows that state a schedule, and what is added up of it.
+-- The cash flows that state a schedule.
 use Rattle.std.specs.Prelude.{ℕ, ◌+◌, ◌-◌, ◌^◌, ℤ, pos, ◌*ℤ◌, List, [], ◌∷◌, map, Option, Some, option_map, slice_get}
-use Rattle.std.specs.Prelude.{◌*◌, length, sum_by, None, ◌+ℤ◌, ◌≤ℤ◌, ◌<ℤ◌}
-use Rattle.irs_base.specs.Limits.{rounded, most_periods, most_numerator}
+use Rattle.std.specs.Prelude.{◌*◌, ◌≤◌, unsigned_abs, ◌≤ℤ◌, ◌<ℤ◌}
+use Rattle.irs_base.specs.Limits.{rounded, most_numerator}
 use Rattle.irs_base.specs.declared.line.Dec.{Dec}
 use Rattle.irs_base.specs.declared.rounding.Direction.TheVariants.{Nearest}
 use Rattle.irs_terms.specs.declared.currency.Currency.{Currency}
@@ -20,7 +20,6 @@ use Rattle.irs_schedule.specs.RowsOf.{dated_period}
 use Rattle.irs_schedule.specs.declared.entries.PaymentEntry.{PaymentEntry}
 use Rattle.irs_schedule.specs.declared.entries.PeriodEntry.{PeriodEntry}
 use Rattle.irs_schedule.specs.declared.views.CalculationPeriod.{CalculationPeriod}
-use Rattle.irs_audit.specs.declared.summing.Sums.{Sums}
 
 -- ---- the cash flows that state each row of a schedule, and each field of it that the schedule knows
 
@@ -98,50 +97,16 @@ stated_part p = record {
 abbrev pub stated_flows : List Part → List FlowPart
 stated_flows s = map stated_part s
 
--- ---- what is added up of a schedule: its payments and calculation periods, what it pays, and its days
-
--- how many payments and calculation periods a stream has
-abbrev pub payment_row_count : Part → ℕ
-payment_row_count p = length p.payments + length p.periods
-
--- an amount in units of 10^-12; one that isn't known adds nothing
-abbrev pub known_or_zero : Option Dec → ℤ
-known_or_zero None = pos 0
-known_or_zero (Some v) = stated_amount v
-
--- a sum plus the amounts of these payments
-abbrev pub paid_from : ℤ → List PaymentEntry → ℤ
-paid_from t [] = t
-paid_from t (y ∷ ys) = paid_from (t +ℤ known_or_zero y.amount) ys
-
--- a sum plus what these streams pay
-abbrev pub total_from : ℤ → List Part → ℤ
-total_from t [] = t
-total_from t (p ∷ ps) = total_from (paid_from t p.payments) ps
-
--- a sum plus the days of these periods
-abbrev pub days_added_from : ℤ → List PeriodEntry → ℤ
-days_added_from t [] = t
-days_added_from t (e ∷ es) = days_added_from (t +ℤ e.days) es
-
--- a sum plus the days of these streams
-abbrev pub all_days_from : ℤ → List Part → ℤ
-all_days_from t [] = t
-all_days_from t (p ∷ ps) = all_days_from (days_added_from t p.periods) ps
-
--- the sums of a schedule
-abbrev pub sums_in : List Part → Sums
-sums_in s = record { rows = sum_by payment_row_count s; total = total_from (pos 0) s; days = all_days_from (pos 0) s }
-
--- the greatest size of an amount, in units of 10^-12
-abbrev pub most_stated_amount : ℕ
-most_stated_amount = 10 ^ 26
-
--- the greatest size of what one stream adds to a sum
-abbrev pub most_of_stream : ℕ
-most_of_stream = most_periods * most_stated_amount
-
 -- ---- what the comparisons of rows rest on: bounds that every schedule keeps
+
+-- a number, in units of 10^-places, that can be stated in units of 10^-12: at most 10^14 in size
+pub record IsStatable (units : ℤ) (places : ℕ) : Type 0 where
+  pub decimals : places ≤ 12
+  pub size : unsigned_abs units ≤ 10 ^ 14 * 10 ^ places
+
+-- an amount can be stated in units of 10^-12
+abbrev pub IsStatableDec : Dec → Type 0
+IsStatableDec v = IsStatable v.units v.places
 
 -- a fraction within the bounds of periods
 pub record IsBoundedFraction (f : Frac) : Type 0 where

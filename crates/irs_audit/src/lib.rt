@@ -9,7 +9,6 @@ mod row_fields;
 mod rows;
 mod stated_rows;
 mod stating;
-mod summing;
 
 pub use agreement::{audit, audit_stated};
 pub use comparisons::{
@@ -17,5 +16,4 @@ pub use comparisons::{
 };
 pub use departures::{Departure, Field, RowKind, Verdict};
 pub use irs_flows::{FlowErr, Flows, ShapeKind, read_flows};
-pub use stating::flows_of;
-pub use summing::{Sums, sums_of};
+pub use stating::{flows_of, stated_amount};

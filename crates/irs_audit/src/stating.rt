@@ -3,11 +3,10 @@
 ghost use Rattle.std.specs.Prelude.{◌≡◌, ◌+◌, ◌-◌, ◌<◌, ◌*◌, ◌^◌, ◌*ℤ◌, unsigned_abs, map};
 ghost use Rattle.std.specs.Prelude.{option_map, slice_get, IfOk, IfSome};
 ghost use Rattle.irs_audit.specs.Verdicts.{Agrees};
-ghost use Rattle.irs_audit.specs.StatedFlows.{IsBoundedFraction, period_with, stated_amount, stated_exchange};
-ghost use Rattle.irs_audit.specs.StatedFlows.{stated_flows, stated_fraction, stated_number, stated_part};
+ghost use Rattle.irs_audit.specs.StatedFlows.{IsBoundedFraction, IsStatable, IsStatableDec, period_with, stated_amount};
+ghost use Rattle.irs_audit.specs.StatedFlows.{stated_exchange, stated_flows, stated_fraction, stated_number, stated_part};
 ghost use Rattle.irs_audit.specs.StatedFlows.{stated_payment, stated_periods_from, stated_reset};
-ghost use Rattle.irs_audit.specs.Private.Comparisons.{IsComparedPayment, IsStatable, IsStatableDec, IsStatablePeriod};
-ghost use Rattle.irs_audit.specs.Private.Comparisons.{IsStatableRate};
+ghost use Rattle.irs_audit.specs.Private.Comparisons.{IsComparedPayment, IsStatablePeriod, IsStatableRate};
 
 use crate::comparisons::{power_of_ten, scaled};
 use crate::rows::item;
@@ -37,8 +36,8 @@ fn number(units: i128, places: u8) -> i128
     product(units, power_of_ten(12 - places))
 }
 
-/// An amount in units of 10^-12.
-pub(crate) fn amount(v: Dec) -> i128
+/// An amount as flows state it, in units of 10^-12; that is our rule.
+pub fn stated_amount(v: Dec) -> i128
     requires { IsStatableDec v }
     ensures { result ≡ stated_amount v }
 {
@@ -50,7 +49,7 @@ fn known_amount(amount_of: Option<Dec>) -> Option<i128>
     ensures { result ≡ option_map stated_amount amount_of }
 {
     match amount_of {
-        Some(v) => Some(amount(v)),
+        Some(v) => Some(stated_amount(v)),
         None => None,
     }
 }
@@ -132,7 +131,7 @@ fn exchange(x: &Exchange) -> FlowExchange
     FlowExchange {
         unadjusted: Some(x.unadjusted),
         adjusted: Some(x.adjusted),
-        amount: Some(amount(x.amount)),
+        amount: Some(stated_amount(x.amount)),
     }
 }
 
@@ -187,7 +186,7 @@ fn exchanges(alloc: Global, part: &StreamPart) -> Result<Vec<FlowExchange>, Memo
     for x in part.exchanges() {
         let unadjusted = Some(x.unadjusted);
         let adjusted = Some(x.adjusted);
-        let amount = Some(amount(x.amount));
+        let amount = Some(stated_amount(x.amount));
         list.push(FlowExchange {
             unadjusted,
             adjusted,

@@ -1,2 +1,3 @@
 pub mod CalendarLengths
+pub mod SumLemmas
 pub mod BulkRunLemmas

@@ -1,13 +1,16 @@
 -- What `bulk N` comes to, with its calendar and its line.
 use Rattle.std.specs.Prelude.{ℕ, zero, suc, ◌+◌, List, [], ◌∷◌, ◌++◌, codes, ◌*◌, ◌^◌, ◌≤◌, decimal, pos, ◌+ℤ◌}
-use Rattle.std.specs.Prelude.{unsigned_abs, ◌≡◌, ◌⊎◌, ◌<◌, Bool, true, false, None}
+use Rattle.std.specs.Prelude.{unsigned_abs, ◌≡◌, ◌⊎◌, ◌<◌, Bool, true, false, Option, Some, None, ℤ, length, sum_by}
 use Rattle.std.specs.List.{flat_map}
 use Rattle.std.specs.Fmt.{signed_decimal}
 use Rattle.irs_base.specs.Texts.{date_text, dec_text}
 use Rattle.irs_base.specs.Limits.{rounded}
+use Rattle.irs_base.specs.declared.line.Dec.{Dec}
 use Rattle.irs_base.specs.declared.rounding.Direction.TheVariants.{Nearest}
 use Rattle.irs_schedule.specs.Parts.{Part}
-use Rattle.irs_audit.specs.StatedFlows.{stated_flows, sums_in}
+use Rattle.irs_schedule.specs.declared.entries.PaymentEntry.{PaymentEntry}
+use Rattle.irs_schedule.specs.declared.entries.PeriodEntry.{PeriodEntry}
+use Rattle.irs_audit.specs.StatedFlows.{stated_amount, stated_flows}
 use Rattle.irs_audit.specs.Verdicts.{IsVerdict}
 use Rattle.irs_audit.specs.declared.departures.Verdict.{Verdict}
 use Rattle.irs_audit.specs.declared.departures.Verdict.TheVariants.{Yes, No}
@@ -16,6 +19,7 @@ use Rattle.irs_answers.specs.Due.{DueFor, Facts, PassesEachStep}
 use Rattle.irs_answers.specs.Forms.{json_text, no_source_text, Given}
 use Rattle.irs_answers.specs.Messages.{Is, ReadStep}
 use Rattle.irs_bulk.specs.Documents.{most_bulk, bulk_document_text}
+use Rattle.irs_bulk.specs.declared.summing.Sums.{Sums}
 use Rattle.irs_bulk.specs.declared.totals.Totals.{Totals}
 
 -- ---- the calendar of `bulk`: one centre, whose holidays are the first of January and the 25th of December
@@ -77,6 +81,41 @@ line_text t =
     codes "bulk " ++ decimal t.documents ++ 32 ∷ decimal t.rows
     ++ 32 ∷ dec_text (rounded Nearest t.total (pos (10 ^ 10))) 2
     ++ 32 ∷ signed_decimal t.days ++ 32 ∷ decimal t.agree ++ 32 ∷ decimal t.first ++ codes "\n"
+
+-- ---- what is added up of a schedule: its payments and calculation periods, what it pays, and its days
+
+-- how many payments and calculation periods a stream has
+abbrev pub payment_row_count : Part → ℕ
+payment_row_count p = length p.payments + length p.periods
+
+-- an amount in units of 10^-12; one that isn't known adds nothing
+abbrev pub known_or_zero : Option Dec → ℤ
+known_or_zero None = pos 0
+known_or_zero (Some v) = stated_amount v
+
+-- a sum plus the amounts of these payments
+abbrev pub paid_from : ℤ → List PaymentEntry → ℤ
+paid_from t [] = t
+paid_from t (y ∷ ys) = paid_from (t +ℤ known_or_zero y.amount) ys
+
+-- a sum plus what these streams pay
+abbrev pub total_from : ℤ → List Part → ℤ
+total_from t [] = t
+total_from t (p ∷ ps) = total_from (paid_from t p.payments) ps
+
+-- a sum plus the days of these periods
+abbrev pub days_added_from : ℤ → List PeriodEntry → ℤ
+days_added_from t [] = t
+days_added_from t (e ∷ es) = days_added_from (t +ℤ e.days) es
+
+-- a sum plus the days of these streams
+abbrev pub all_days_from : ℤ → List Part → ℤ
+all_days_from t [] = t
+all_days_from t (p ∷ ps) = all_days_from (days_added_from t p.periods) ps
+
+-- the sums of a schedule
+abbrev pub sums_in : List Part → Sums
+sums_in s = record { rows = sum_by payment_row_count s; total = total_from (pos 0) s; days = all_days_from (pos 0) s }
 
 -- ---- what `bulk N` comes to: the first of its documents that has no schedule, or the sums over the schedules of all
 

@@ -7,6 +7,7 @@ mod digits;
 mod documents;
 mod holidays;
 mod runs;
+mod summing;
 mod totals;
 
 pub use documents::{MOST_BULK, bulk_doc, bulk_limit};

@@ -15,9 +15,10 @@ ghost use Rattle.irs_bulk.specs.BulkRuns.{one_total};
 ghost use Rattle.irs_bulk.specs.Private.BulkRuns.{IsCalendar, IsTable};
 ghost use Rattle.irs_bulk.specs.Documents.{bulk_document_text, most_bulk};
 
+use crate::summing::sums_of;
 use crate::{Totals, bulk_calendar, bulk_doc, bulk_text};
 use irs_answers::{Form, Refusal, Reply, Source, read_document};
-use irs_audit::{Verdict, audit_stated, sums_of};
+use irs_audit::{Verdict, audit_stated};
 use irs_base::{Line, Memory};
 use irs_calendar::{CalErr, Calendars};
 use irs_read::read_swap;

@@ -12,7 +12,7 @@ use Rattle.irs_audit.specs.declared.departures.Field.{Field}
 use Rattle.irs_audit.specs.declared.departures.Departure.{Departure}
 use Rattle.irs_audit.specs.declared.departures.RowKind.{RowKind}
 use Rattle.irs_audit.specs.Verdicts.{KindDeparts, StreamDeparts}
-use Rattle.irs_audit.specs.StatedFlows.{stated_part}
+use Rattle.irs_audit.specs.StatedFlows.{IsStatable, stated_part}
 use Rattle.irs_audit.specs.declared.stated_rows.StatedRows.{StatedRows}
 use Rattle.irs_audit.specs.declared.stated_rows.StatedStreams.{StatedStreams}
 use Rattle.irs_audit.specs.declared.stated_rows.StatedRows.TheVariants as rows
@@ -29,15 +29,6 @@ pub record IsComparedPayment (x : PaymentEntry) : Type 0 where
   pub order : x.first_period ≤ x.last_period
   pub last : x.last_period ≤ most_periods
   pub decimals : IfSome x.amount (λ v. v.places ≤ 12)
-
--- a number, in units of 10^-places, that can be stated in units of 10^-12: at most 10^14 in size
-pub record IsStatable (units : ℤ) (places : ℕ) : Type 0 where
-  pub decimals : places ≤ 12
-  pub size : unsigned_abs units ≤ 10 ^ 14 * 10 ^ places
-
--- an amount can be stated in units of 10^-12
-abbrev pub IsStatableDec : Dec → Type 0
-IsStatableDec v = IsStatable v.units v.places
 
 -- a rate, in units of 10^-9, can be stated in units of 10^-12
 abbrev pub IsStatableRate : ℤ → Type 0

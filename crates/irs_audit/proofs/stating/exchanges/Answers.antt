@@ -4,8 +4,8 @@ use Rattle.std.proofs.lemmas.Option.{slice_get_read}
 use Rattle.irs_audit.proofs.StatedBounds.{exchange_statable}
 use Rattle.irs_audit.proofs.stating.exchanges.Goals as goal
 
-pub amount-requires : goal.amount-requires
-amount-requires c =
+pub stated_amount-requires : goal.stated_amount-requires
+stated_amount-requires c =
     let there : slice_get c.args.part.now.exchanges c.loop-x.x-index ≡ Some c.x-item.result =
     rw (← c.exchanges-x-items.ensures.value)
     (slice_get_read c.exchanges-x-items.result.now

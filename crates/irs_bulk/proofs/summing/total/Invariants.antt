@@ -1,6 +1,7 @@
 use Rattle.std.proofs.Common.{◌≡◌, ◌*◌, ◌≤◌, drop, pos, unsigned_abs}
-use Rattle.irs_audit.specs.StatedFlows.{most_of_stream, total_from}
-use Rattle.irs_audit.proofs.summing.total.Given as goal
+use Rattle.irs_bulk.specs.BulkRuns.{total_from}
+use Rattle.irs_bulk.specs.Private.BulkRuns.{most_of_stream}
+use Rattle.irs_bulk.proofs.summing.total.Given as goal
 
 -- the sum with the streams still to be added is the schedule's total, and is bounded
 abbrev pub invariant-loop-part : goal.invariant-loop-part

@@ -1,6 +1,6 @@
 use Rattle.std.proofs.Common.{arith}
 use Rattle.irs_audit.proofs.BoundLemmas.{payments_few}
-use Rattle.irs_audit.proofs.summing.payment_rows.Goals as goal
+use Rattle.irs_bulk.proofs.summing.payment_rows.Goals as goal
 
 pub overflow_cast-result : goal.overflow_cast-result
 overflow_cast-result c =

@@ -1,10 +1,11 @@
 use Rattle.std.proofs.Common.{◌≡◌, ◌+◌, ◌*◌, ◌<◌, ◌≤◌, length, rules, arith, FitsSigned, to_z, ◌+ℤ◌, unsigned_abs, ◌∙◌}
 use Rattle.std.specs.Int.{w128}
 use Rattle.std.proofs.lemmas.Int.{to_z-of_z}
-use Rattle.irs_audit.specs.StatedFlows.{known_or_zero, most_stated_amount}
+use Rattle.irs_bulk.specs.BulkRuns.{known_or_zero}
+use Rattle.irs_bulk.specs.Private.BulkRuns.{most_stated_amount}
 use Rattle.irs_audit.proofs.BoundLemmas.{payments_few}
-use Rattle.irs_audit.proofs.SumLemmas.{paid_more}
-use Rattle.irs_audit.proofs.summing.paid.Goals as goal
+use Rattle.irs_bulk.proofs.SumLemmas.{paid_more}
+use Rattle.irs_bulk.proofs.summing.paid.Goals as goal
 
 pub sum-total-requires : goal.sum-total-requires
 sum-total-requires c =

@@ -13,9 +13,9 @@ use Rattle.irs_base.specs.declared.line.Dec.{Dec}
 use Rattle.irs_schedule.specs.Parts.{Part, KeepsBounds, IsWithin}
 use Rattle.irs_schedule.specs.declared.entries.PaymentEntry.{PaymentEntry}
 use Rattle.irs_schedule.specs.declared.entries.PeriodEntry.{PeriodEntry}
-use Rattle.irs_audit.specs.Private.Comparisons.{IsStatableDec}
-use Rattle.irs_audit.specs.StatedFlows.{stated_amount, days_added_from, known_or_zero, most_stated_amount, paid_from}
-use Rattle.irs_audit.specs.StatedFlows.{payment_row_count}
+use Rattle.irs_audit.specs.StatedFlows.{IsStatableDec, stated_amount}
+use Rattle.irs_bulk.specs.BulkRuns.{days_added_from, known_or_zero, paid_from, payment_row_count}
+use Rattle.irs_bulk.specs.Private.BulkRuns.{most_stated_amount}
 use Rattle.irs_audit.proofs.BoundLemmas.{payments_few}
 use Rattle.irs_audit.proofs.ValueLemmas.{both_powers}
 use Rattle.irs_audit.proofs.VerdictLemmas.{sum_few}

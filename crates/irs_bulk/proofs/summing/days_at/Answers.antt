@@ -2,8 +2,8 @@ use Rattle.std.proofs.Common.{◌≡◌, Some, rules, option_map, FitsSigned, sy
 use Rattle.std.specs.Int.{w64, w128}
 use Rattle.std.specs.Prelude.{slice_get}
 use Rattle.std.proofs.lemmas.Int.{to_z-of_z}
-use Rattle.irs_audit.proofs.SumLemmas.{days_size, days_there}
-use Rattle.irs_audit.proofs.summing.days_at.Goals as goal
+use Rattle.irs_bulk.proofs.SumLemmas.{days_size, days_there}
+use Rattle.irs_bulk.proofs.summing.days_at.Goals as goal
 
 pub returns-in-Some : goal.returns-in-Some
 returns-in-Some c =

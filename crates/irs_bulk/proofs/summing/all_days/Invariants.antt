@@ -1,6 +1,7 @@
 use Rattle.std.proofs.Common.{◌≡◌, ◌*◌, ◌≤◌, drop, pos, unsigned_abs}
-use Rattle.irs_audit.specs.StatedFlows.{all_days_from, most_of_stream}
-use Rattle.irs_audit.proofs.summing.all_days.Given as goal
+use Rattle.irs_bulk.specs.BulkRuns.{all_days_from}
+use Rattle.irs_bulk.specs.Private.BulkRuns.{most_of_stream}
+use Rattle.irs_bulk.proofs.summing.all_days.Given as goal
 
 -- the days with those of the streams still to be added are the schedule's, and are bounded
 abbrev pub invariant-loop-part : goal.invariant-loop-part

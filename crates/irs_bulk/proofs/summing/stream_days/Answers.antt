@@ -2,9 +2,9 @@ use Rattle.std.proofs.Common.{◌≡◌, ◌+◌, ◌*◌, ◌<◌, ◌≤◌, l
 use Rattle.std.specs.Prelude.{slice_get, IfSome}
 use Rattle.std.specs.Int.{w128}
 use Rattle.std.proofs.lemmas.Int.{to_z-of_z}
-use Rattle.irs_audit.specs.StatedFlows.{most_stated_amount}
-use Rattle.irs_audit.proofs.SumLemmas.{days_more}
-use Rattle.irs_audit.proofs.summing.stream_days.Goals as goal
+use Rattle.irs_bulk.specs.Private.BulkRuns.{most_stated_amount}
+use Rattle.irs_bulk.proofs.SumLemmas.{days_more}
+use Rattle.irs_bulk.proofs.summing.stream_days.Goals as goal
 
 pub loop-place-preserved : goal.loop-place-preserved
 loop-place-preserved c =

@@ -1,6 +1,7 @@
 use Rattle.std.proofs.Common.{◌≡◌, ◌+◌, ◌*◌, ◌≤◌, drop, unsigned_abs}
-use Rattle.irs_audit.specs.StatedFlows.{days_added_from, most_stated_amount}
-use Rattle.irs_audit.proofs.summing.stream_days.Given as goal
+use Rattle.irs_bulk.specs.BulkRuns.{days_added_from}
+use Rattle.irs_bulk.specs.Private.BulkRuns.{most_stated_amount}
+use Rattle.irs_bulk.proofs.summing.stream_days.Given as goal
 
 -- the sum with the days still to be added is the stream's total, and is bounded
 abbrev pub invariant-loop-place : goal.invariant-loop-place

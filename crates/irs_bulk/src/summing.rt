@@ -2,17 +2,18 @@
 ghost use Rattle.std.specs.Prelude.{◌≡◌, ◌+◌, ◌*◌, ◌<◌, ◌≤◌, ◌^◌, ◌+ℤ◌, pos, length, unsigned_abs, slice_get, sum_by};
 ghost use Rattle.std.specs.Prelude.{IfSome};
 ghost use Rattle.irs_base.specs.Limits.{most_streams};
-ghost use Rattle.irs_audit.specs.Private.Comparisons.{IsStatableDec};
-ghost use Rattle.irs_audit.specs.StatedFlows.{all_days_from, days_added_from, known_or_zero, most_stated_amount};
-ghost use Rattle.irs_audit.specs.StatedFlows.{most_of_stream, paid_from, payment_row_count, sums_in, total_from};
+ghost use Rattle.irs_audit.specs.StatedFlows.{IsStatableDec};
+ghost use Rattle.irs_bulk.specs.BulkRuns.{all_days_from, days_added_from, known_or_zero, paid_from, payment_row_count};
+ghost use Rattle.irs_bulk.specs.BulkRuns.{sums_in, total_from};
+ghost use Rattle.irs_bulk.specs.Private.BulkRuns.{most_of_stream, most_stated_amount};
 
-use crate::stating::amount;
+use irs_audit::stated_amount;
 use irs_base::Dec;
 use irs_schedule::{Schedule, StreamPart};
 
 /// Sums over a schedule.
 #[derive(Clone, Copy)]
-pub struct Sums {
+pub(crate) struct Sums {
     /// How many payments and calculation periods it has.
     pub rows: u32,
     /// The amounts of its payments, in units of 10^-12; one that isn't known adds nothing.
@@ -36,7 +37,7 @@ fn known_or_zero(amount_of: Option<Dec>) -> i128
     ensures size { unsigned_abs result ≤ most_stated_amount }
 {
     match amount_of {
-        Some(v) => amount(v),
+        Some(v) => stated_amount(v),
         None => 0,
     }
 }
@@ -117,7 +118,7 @@ fn all_days(parts: &[StreamPart]) -> i128
 }
 
 /// What a run over many schedules adds up of one. It takes no memory.
-pub fn sums_of(s: &Schedule) -> Sums
+pub(crate) fn sums_of(s: &Schedule) -> Sums
     ensures value { result ≡ sums_in s.now }
     ensures rows { result.rows < 2 ^ 32 }
     ensures total { unsigned_abs result.total ≤ most_streams * most_of_stream }

@@ -1,8 +1,8 @@
 use Rattle.std.proofs.Common.{rules}
 use Rattle.std.proofs.lemmas.Iterator.{YieldsList-from_map, YieldsList-from_slice}
 use Rattle.std.proofs.lemmas.Iterator.Consumers.{YieldsList-at, sum_by_from_yields_List}
-use Rattle.irs_audit.specs.StatedFlows.{payment_row_count}
-use Rattle.irs_audit.proofs.summing.rows.Goals as goal
+use Rattle.irs_bulk.specs.BulkRuns.{payment_row_count}
+use Rattle.irs_bulk.proofs.summing.rows.Goals as goal
 
 pub returns : goal.returns
 returns c = sum_by_from_yields_List payment_row_count c.args.parts.now c.map.result c.sum.result c.sum.ensures.ran

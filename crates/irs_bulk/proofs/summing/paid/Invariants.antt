@@ -1,6 +1,7 @@
 use Rattle.std.proofs.Common.{◌≡◌, ◌+◌, ◌*◌, ◌≤◌, drop, unsigned_abs}
-use Rattle.irs_audit.specs.StatedFlows.{most_stated_amount, paid_from}
-use Rattle.irs_audit.proofs.summing.paid.Given as goal
+use Rattle.irs_bulk.specs.BulkRuns.{paid_from}
+use Rattle.irs_bulk.specs.Private.BulkRuns.{most_stated_amount}
+use Rattle.irs_bulk.proofs.summing.paid.Given as goal
 
 -- the sum with the payments still to be added is the stream's total, and is bounded
 abbrev pub invariant-loop-y : goal.invariant-loop-y
