@@ -9,31 +9,35 @@ use Rattle.irs_cli.specs.Run.{run_status}
 use Rattle.irs_cli.specs.declared.causes.RunCause.{RunCause}
 use Rattle.irs_main.specs.Answering.{Explained, explanation_of, ended_lines, listing_of}
 use Rattle.irs_main.specs.Private.Answering.{SaysNoWord}
+use Rattle.irs_main.specs.WrongWords.{commands}
+use Rattle.irs_main.specs.declared.help.TheConstants.{COMMANDS}
+use Rattle.irs_main.proofs.LineLemmas.{lines_in}
+use Rattle.irs_main.proofs.TableLaws.{commands_are}
 
 -- where there is nothing to say, the explanation is empty
-pub unsaid : (commands words : List (List ℕ)) (c : RunCause) → is_silent c ≡ true → explanation_of commands words c ≡ []
+pub unsaid : (words : List (List ℕ)) (c : RunCause) → is_silent c ≡ true → explanation_of words c ≡ []
 unfolding explanation_of
-unsaid commands words c silent =
-    let full = (sentence_of words c ++ codes "\n") ++ listing_of commands c in
+unsaid words c silent =
+    let full = (sentence_of words c ++ codes "\n") ++ listing_of c in
     ap (λ (b : Bool). if b then [] else full) silent
 
 -- where there is nothing to say, nothing is said
-pub nothing_said : (commands words : List (List ℕ)) (c : RunCause) (a : Option (List ℕ)) (faults : ℕ)
-    → is_silent c ≡ true → Explained (explanation_of commands words c) a a faults faults
-nothing_said commands words c a faults silent =
+pub nothing_said : (words : List (List ℕ)) (c : RunCause) (a : Option (List ℕ)) (faults : ℕ)
+    → is_silent c ≡ true → Explained (explanation_of words c) a a faults faults
+nothing_said words c a faults silent =
     let E : List ℕ → Type 0 = λ t. Explained t a a faults faults in
-    subst E (sym (unsaid commands words c silent)) (inl (grew_nothing a, refl))
+    subst E (sym (unsaid words c silent)) (inl (grew_nothing a, refl))
 
 -- what is said of a failed write and of memory doesn't depend on the words, nor where nothing is said
-pub said_of_plain : (commands words others : List (List ℕ)) (c : RunCause) → SaysNoWord c
-    → explanation_of commands words c ≡ explanation_of commands others c
+pub said_of_plain : (words others : List (List ℕ)) (c : RunCause) → SaysNoWord c
+    → explanation_of words c ≡ explanation_of others c
 unfolding explanation_of
-said_of_plain commands words others c (inl silent) =
-    unsaid commands words c silent ∙ sym (unsaid commands others c silent)
-said_of_plain commands words others c (inr (inl is)) =
-    subst (λ (x : RunCause). explanation_of commands words x ≡ explanation_of commands others x) (sym is) refl
-said_of_plain commands words others c (inr (inr is)) =
-    subst (λ (x : RunCause). explanation_of commands words x ≡ explanation_of commands others x) (sym is) refl
+said_of_plain words others c (inl silent) =
+    unsaid words c silent ∙ sym (unsaid others c silent)
+said_of_plain words others c (inr (inl is)) =
+    subst (λ (x : RunCause). explanation_of words x ≡ explanation_of others x) (sym is) refl
+said_of_plain words others c (inr (inr is)) =
+    subst (λ (x : RunCause). explanation_of words x ≡ explanation_of others x) (sym is) refl
 
 -- an explanation that was written is also one of an equal text
 pub explained_as : (text other : List ℕ) (old now : Option (List ℕ)) (before after : ℕ)
@@ -41,29 +45,29 @@ pub explained_as : (text other : List ℕ) (old now : Option (List ℕ)) (before
 explained_as text other old now before after h is = subst (λ (t : List ℕ). Explained t old now before after) is h
 
 -- the same words have the same explanation
-pub said_of_same : (commands words others : List (List ℕ)) (c : RunCause) → words ≡ others
-    → explanation_of commands words c ≡ explanation_of commands others c
-said_of_same commands words others c same = ap (λ (ws : List (List ℕ)). explanation_of commands ws c) same
+pub said_of_same : (words others : List (List ℕ)) (c : RunCause) → words ≡ others
+    → explanation_of words c ≡ explanation_of others c
+said_of_same words others c same = ap (λ (ws : List (List ℕ)). explanation_of ws c) same
 
 -- a list of lines for status 4 alone
-listing_at : (commands : List (List ℕ)) (n : ℕ) → n ≡ 4 → (if n == 4 then ended_lines commands else []) ≡ ended_lines commands
-listing_at commands n is = ap (λ (k : ℕ). if k == 4 then ended_lines commands else []) is
+listing_at : (n : ℕ) → n ≡ 4 → lines_in COMMANDS ≡ (if n == 4 then ended_lines commands else [])
+listing_at n is = ap ended_lines commands_are ∙ sym (ap (λ (k : ℕ). if k == 4 then ended_lines commands else []) is)
 
-no_listing_at : (commands : List (List ℕ)) (n : ℕ) → ¬ (n ≡ 4) → (if n == 4 then ended_lines commands else []) ≡ []
-no_listing_at commands n other = grind arith
+no_listing_at : (n : ℕ) → ¬ (n ≡ 4) → (if n == 4 then ended_lines commands else []) ≡ []
+no_listing_at n other = grind arith
 
-module _ (commands words : List (List ℕ)) (c : RunCause) where
+module _ (words : List (List ℕ)) (c : RunCause) where
   -- the sentence
   abbrev sentence : List ℕ
   sentence = sentence_of words c
 
   -- the listed commands, where they follow
   abbrev listing : List ℕ
-  listing = listing_of commands c
+  listing = listing_of c
 
   -- the whole explanation
   abbrev text : List ℕ
-  text = explanation_of commands words c
+  text = explanation_of words c
 
   -- where there is something to say, it is a sentence and what follows it
   said_is : is_silent c ≡ false → text ≡ (sentence ++ codes "\n") ++ listing
@@ -94,21 +98,21 @@ module _ (commands words : List (List ℕ)) (c : RunCause) where
 
     -- the listed commands weren't written whole
     pub listing_failed : (a b d e : Option (List ℕ)) → Grew a b sentence → Grew b d (codes "\n") → run_status c ≡ 4
-        → GrewByFront d e (ended_lines commands) → GrewByFront a e text
+        → GrewByFront d e (lines_in COMMANDS) → GrewByFront a e text
     listing_failed a b d e h k bad m =
         let G : List ℕ → Type 0 = λ t. GrewByFront d e t in
         through_last_part a d e listing text (end_put a b d h k)
-        (subst G (sym (listing_at commands (run_status c) bad)) m)
+        (subst G (listing_at (run_status c) bad) m)
 
     -- the listed commands were written
     pub listing_put : (a b d e : Option (List ℕ)) → Grew a b sentence → Grew b d (codes "\n") → run_status c ≡ 4
-        → Grew d e (ended_lines commands) → Grew a e text
+        → Grew d e (lines_in COMMANDS) → Grew a e text
     listing_put a b d e h k bad m =
         let G : List ℕ → Type 0 = λ t. Grew d e t in
-        through_last a d e listing text (end_put a b d h k) (subst G (sym (listing_at commands (run_status c) bad)) m)
+        through_last a d e listing text (end_put a b d h k) (subst G (listing_at (run_status c) bad) m)
 
     -- there is nothing more to write
     pub sentence_alone : (a b d : Option (List ℕ)) → Grew a b sentence → Grew b d (codes "\n") → ¬ (run_status c ≡ 4)
         → Grew a d text
     sentence_alone a b d h k other =
-        through_all a d listing text (no_listing_at commands (run_status c) other) (end_put a b d h k)
+        through_all a d listing text (no_listing_at (run_status c) other) (end_put a b d h k)

@@ -7,6 +7,7 @@ use Rattle.irs_cli.specs.Run.{IsCauseOfWritten, run_status, Ran, Source, Written
 use Rattle.irs_cli.specs.Commands.{Words}
 use Rattle.irs_cli.specs.declared.causes.RunCause.{RunCause}
 use Rattle.irs_main.specs.Sentences.{is_silent, sentence_of}
+use Rattle.irs_main.specs.WrongWords.{commands}
 
 -- ---- the program itself
 
@@ -38,13 +39,12 @@ ended_lines [] = []
 ended_lines (line ∷ lines) = (line ++ codes "\n") ++ ended_lines lines
 
 -- the text after the sentence: the listed commands, where the words are none of them
-abbrev pub listing_of : (commands : List (List ℕ)) → RunCause → List ℕ
-listing_of commands c = if run_status c == 4 then ended_lines commands else []
+abbrev pub listing_of : RunCause → List ℕ
+listing_of c = if run_status c == 4 then ended_lines commands else []
 
 -- what is said of what the words came to; nothing where all is done and no payment lacks its amount
-unfoldable pub explanation_of : (commands words : List (List ℕ)) → RunCause → List ℕ
-explanation_of commands words c =
-    if is_silent c then [] else (sentence_of words c ++ codes "\n") ++ listing_of commands c
+unfoldable pub explanation_of : (words : List (List ℕ)) → RunCause → List ℕ
+explanation_of words c = if is_silent c then [] else (sentence_of words c ++ codes "\n") ++ listing_of c
 
 -- the text was written and no write failed, or one failed and a front of the text was written
 abbrev pub Explained : (text : List ℕ) → (old now : Option (List ℕ)) → (before after : ℕ) → Type 0

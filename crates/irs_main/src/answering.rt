@@ -44,7 +44,7 @@ pub fn answer<F: Files, S: Sink, E: Sink>(
     // No file is fetched for such a text.
     ensures unread { IsSome (itself_of HELP.now VERSION.now (word_texts words.now)) → files.new ≡ files.old }
     // What the words came to is said with the words as they are shown, or nothing is, where all is done.
-    ensures said { let text = explanation_of (map (λ c. c.now) COMMANDS) (map shown (word_texts words.now)) result in
+    ensures said { let text = explanation_of (map shown (word_texts words.now)) result in
         Explained text (E.written errors.old) (E.written errors.new) (E.faults errors.old) (E.faults errors.new) }
     ensures silent { is_silent_of result ≡ true → errors.new ≡ errors.old }
 {
@@ -98,7 +98,7 @@ fn print<S: Sink>(out: &mut S, text: &str) -> RunCause
 
 /// Says what the words came to, as far as `errors` takes it.
 pub(crate) fn explain<E: Sink>(errors: &mut E, words: &[String], cause: &RunCause)
-    ensures said { Explained (explanation_of (map (λ c. c.now) COMMANDS) (word_texts words.now) cause.now)
+    ensures said { Explained (explanation_of (word_texts words.now) cause.now)
         (E.written errors.old) (E.written errors.new) (E.faults errors.old) (E.faults errors.new) }
     ensures silent { is_silent_of cause.now ≡ true → errors.new ≡ errors.old }
 {
@@ -112,10 +112,10 @@ pub(crate) fn explain<E: Sink>(errors: &mut E, words: &[String], cause: &RunCaus
 fn tell<E: Sink>(errors: &mut E, words: &[String], cause: &RunCause) -> Result<(), PutFailed>
     requires { is_silent_of cause.now ≡ false }
     ensures ok { OnOk result (Grew (E.written errors.old) (E.written errors.new)
-        (explanation_of (map (λ c. c.now) COMMANDS) (word_texts words.now) cause.now)) }
+        (explanation_of (word_texts words.now) cause.now)) }
     ensures quiet { OnOk result (E.faults errors.new ≡ E.faults errors.old) }
     ensures err { OnErr result (GrewByFront (E.written errors.old) (E.written errors.new)
-        (explanation_of (map (λ c. c.now) COMMANDS) (word_texts words.now) cause.now)) }
+        (explanation_of (word_texts words.now) cause.now)) }
     ensures rose { OnErr result (Rose (E.faults errors.old) (E.faults errors.new)) }
 {
     put_sentence(errors, words, cause)?;

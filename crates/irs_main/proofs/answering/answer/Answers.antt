@@ -25,7 +25,7 @@ returns-in-Some-clause-came g c =
 pub returns-in-Some-clause-said : goal.returns-in-Some-clause-said
 returns-in-Some-clause-said g c =
     explained_as _ _ _ _ _ _ c.explain.ensures.said
-    (said_of_plain _ [] (map shown (word_texts c.args.words.now)) _ c.print-cause.ensures.plain)
+    (said_of_plain [] (map shown (word_texts c.args.words.now)) _ c.print-cause.ensures.plain)
 
 pub returns-in-Ok-clause-came : goal.returns-in-Ok-clause-came
 returns-in-Ok-clause-came g c =
@@ -47,7 +47,7 @@ returns-in-Ok-clause-unread g c some = absurd (cc (subst IsSome (sym c.in-None.e
 pub returns-in-Ok-clause-said : goal.returns-in-Ok-clause-said
 returns-in-Ok-clause-said g c =
     explained_as _ _ _ _ _ _ c.explain-in-Ok.ensures.said
-    (said_of_same _ _ _ _ (ap word_texts c.deref.ensures.value ∙ c.in-Ok.ensures))
+    (said_of_same _ _ _ (ap word_texts c.deref.ensures.value ∙ c.in-Ok.ensures))
 
 pub returns-in-Err-clause-came : goal.returns-in-Err-clause-came
 returns-in-Err-clause-came g c =
@@ -65,4 +65,4 @@ returns-in-Err-clause-came g c =
 pub returns-in-Err-clause-said : goal.returns-in-Err-clause-said
 returns-in-Err-clause-said g c =
     explained_as _ _ _ _ _ _ c.explain-in-Err.ensures.said
-    (said_of_plain _ [] (map shown (word_texts c.args.words.now)) _ (inr (inr refl)))
+    (said_of_plain [] (map shown (word_texts c.args.words.now)) _ (inr (inr refl)))
