@@ -1,18 +1,13 @@
 -- The words of a command line, and what is said of words that are no listed command.
-use Rattle.std.specs.Prelude.{ℕ, List, [], Option, Some, None, map, slice_get, String, string_bytes, ◌∷◌, codes}
+use Rattle.std.specs.Prelude.{ℕ, List, [], Option, Some, None, slice_get, ◌∷◌, codes}
 use Rattle.std.specs.Prelude.{if◌then◌else◌, ◌≡◌, ◌⊎◌, ◌==◌, ◌||◌, ◌&&◌, Bool, false, ◌++◌, ◌+◌, ◌-◌, not, nat_eq}
 use Rattle.std.specs.Prelude.{nat_lt, length}
-use Rattle.std.specs.declared.alloc.Global.{Global}
 use Rattle.std.specs.Str.{bytes_eq}
 use Rattle.std.specs.List.{ends_with}
 use Rattle.irs_base.specs.Limits.{most_files}
 use Rattle.irs_main.specs.Shown.{front, after_byte}
 
 -- ---- the words of a command line; the first word is the command
-
--- the texts of words
-abbrev pub word_texts : List (String Global) → List (List ℕ)
-word_texts words = map string_bytes words
 
 -- a word that may be absent
 abbrev pub word_or_none : Option (List ℕ) → List ℕ

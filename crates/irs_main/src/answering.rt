@@ -6,7 +6,7 @@ ghost use Rattle.std.specs.Prelude.{◌≡◌, ℕ, ◌<◌, List, true, false, 
 ghost use Rattle.irs_outside.specs.Outside.{Grew, GrewByFront, Rose};
 ghost use Rattle.irs_main.specs.Sentences.{is_silent as is_silent_of};
 ghost use Rattle.irs_main.specs.Shown.{shown};
-ghost use Rattle.irs_main.specs.WrongWords.{word_texts};
+ghost use Rattle.irs_cli.specs.Commands.{word_texts};
 ghost use Rattle.irs_cli.specs.Run.{run_status, source, written};
 ghost use Rattle.irs_main.specs.Answering.{CameTo, Explained, Printed, explanation_of, itself_of};
 ghost use Rattle.irs_main.specs.Private.Answering.{SaysNoWord};

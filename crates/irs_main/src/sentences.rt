@@ -24,7 +24,7 @@ ghost use Rattle.irs_main.specs.Sentences.{refused_by as refused_by_of, replied 
 ghost use Rattle.irs_main.specs.Sentences.{stream_words as stream_words_of, told_texts, uncompared as uncompared_of};
 ghost use Rattle.irs_main.specs.Sentences.{unless_stream as unless_stream_of, unless_zero as unless_zero_of};
 ghost use Rattle.irs_main.specs.Sentences.{unreadable_sentence as unreadable_of, verb as verb_of};
-ghost use Rattle.irs_main.specs.WrongWords.{word_texts};
+ghost use Rattle.irs_cli.specs.Commands.{word_texts};
 ghost use Rattle.std.specs.Prelude.{◌≡◌, ℕ, List, [], true, OnOk, OnErr};
 
 use crate::cuts::is;

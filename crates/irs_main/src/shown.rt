@@ -5,7 +5,7 @@ ghost use Rattle.irs_base.specs.Lists.{Every};
 ghost use Rattle.irs_main.specs.Shown.{hex_digit as hex_digit_of, is_control as is_control_of, shown as shown_of};
 ghost use Rattle.irs_main.specs.Shown.{IsPrinted, shown_char as shown_char_of, turns_text as turns_text_of};
 ghost use Rattle.irs_main.specs.Shown.{two_hex_digits};
-ghost use Rattle.irs_main.specs.WrongWords.{word_texts};
+ghost use Rattle.irs_cli.specs.Commands.{word_texts};
 ghost use Rattle.std.specs.Prelude.{◌≡◌, ℕ, ◌<◌, ◌++◌, List, map, IfOk, OnOk, string_bytes};
 
 use irs_base::Memory;

@@ -1,5 +1,6 @@
 //! The words of a command line. The first word is the command.
-ghost use Rattle.irs_main.specs.WrongWords.{command as command_of, word_texts, word_at as word_at_of};
+ghost use Rattle.irs_main.specs.WrongWords.{command as command_of, word_at as word_at_of};
+ghost use Rattle.irs_cli.specs.Commands.{word_texts};
 ghost use Rattle.std.specs.Prelude.{◌≡◌};
 
 /// The word at a place, where the command has place 0; empty past the last one.

@@ -2,7 +2,8 @@
 ghost use Rattle.irs_main.specs.Private.Lookup.{texts as texts_in};
 ghost use Rattle.irs_main.specs.Shown.{joined_texts};
 ghost use Rattle.irs_main.specs.Private.Parts.{said};
-ghost use Rattle.irs_main.specs.WrongWords.{commands, word_texts, field_at as field_at_of, field_count as fields_of};
+ghost use Rattle.irs_main.specs.WrongWords.{commands, field_at as field_at_of, field_count as fields_of};
+ghost use Rattle.irs_cli.specs.Commands.{word_texts};
 ghost use Rattle.irs_main.specs.WrongWords.{helped as helped_of, is_help as is_help_of};
 ghost use Rattle.irs_main.specs.WrongWords.{is_help_command as is_help_command_of, is_lacking as is_lacking_of};
 ghost use Rattle.irs_main.specs.WrongWords.{lacking as lacking_of, misfit as misfit_of, most_told as most_told_of};

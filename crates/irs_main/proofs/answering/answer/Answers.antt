@@ -1,7 +1,7 @@
 use Rattle.std.proofs.Common.{[], List, ℕ, Option, ap, inr, map, refl, subst, sym, ◌∙◌}
 use Rattle.std.specs.Prelude.{IsSome}
 use Rattle.irs_main.specs.Shown.{shown}
-use Rattle.irs_main.specs.WrongWords.{word_texts}
+use Rattle.irs_cli.specs.Commands.{word_texts}
 use Rattle.irs_cli.specs.Run.{Source, Written, source, written}
 use Rattle.irs_cli.specs.declared.causes.RunCause.TheVariants.{NoMemory}
 use Rattle.irs_cli.proofs.RunLemmas.{memory_ran}

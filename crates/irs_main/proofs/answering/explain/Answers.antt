@@ -1,5 +1,5 @@
 use Rattle.std.proofs.Common.{sym, ◌∙◌}
-use Rattle.irs_main.specs.WrongWords.{word_texts}
+use Rattle.irs_cli.specs.Commands.{word_texts}
 use Rattle.irs_main.proofs.TellLemmas.{nothing_said}
 use Rattle.irs_main.proofs.answering.explain.Goals as goal
 

@@ -1,5 +1,5 @@
 use Rattle.std.proofs.Common.{sym, ◌∙◌}
-use Rattle.irs_main.specs.WrongWords.{word_texts}
+use Rattle.irs_cli.specs.Commands.{word_texts}
 use Rattle.irs_cli.proofs.PutLemmas.{on_err}
 use Rattle.irs_main.proofs.TellLemmas.{end_failed, listing_failed, listing_put, sentence_alone, sentence_failed}
 use Rattle.irs_main.proofs.answering.tell.Goals as goal

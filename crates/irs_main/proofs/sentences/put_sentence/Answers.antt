@@ -3,7 +3,7 @@ use Rattle.irs_cli.proofs.PutLemmas.{first_part, on_err, on_err_then, through_la
 use Rattle.irs_main.specs.Notes.{note_of}
 use Rattle.irs_main.specs.Shown.{joined_texts}
 use Rattle.irs_main.specs.Sentences.{told_texts}
-use Rattle.irs_main.specs.WrongWords.{word_texts}
+use Rattle.irs_cli.specs.Commands.{word_texts}
 use Rattle.irs_main.proofs.sentences.put_sentence.Goals as goal
 
 pub returns-in_err-put_told-clause-err : goal.returns-in_err-put_told-clause-err

@@ -1,6 +1,6 @@
 use Rattle.std.proofs.Common.{◌≡◌, map, take}
 use Rattle.irs_main.specs.Shown.{shown}
-use Rattle.irs_main.specs.WrongWords.{word_texts}
+use Rattle.irs_cli.specs.Commands.{word_texts}
 use Rattle.irs_main.proofs.shown.shown_words.Given as goal
 
 -- the words so far as they are shown
