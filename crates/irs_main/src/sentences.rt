@@ -561,7 +561,7 @@ fn say<'a>(words: &'a [String], cause: &RunCause) -> Sentence<'a>
 
 /// Whether there is nothing to say of what a run comes to. That is so where the command is done, and an audit has
 /// compared each amount. As far as the command states amounts, each payment has its amount.
-pub fn is_silent(cause: &RunCause) -> bool
+pub(crate) fn is_silent(cause: &RunCause) -> bool
     ensures { result ≡ is_silent_of cause.now }
 {
     match cause {
@@ -576,8 +576,8 @@ pub fn is_silent(cause: &RunCause) -> bool
 }
 
 /// Writes what a run comes to, in one sentence with its note, and nothing after a write that failed. `words` are
-/// the words of the command line; the first is the command. The sentence is empty exactly where `is_silent` says
-/// so. It takes no memory.
+/// the words of the command line; the first is the command. The sentence is empty exactly where there
+/// is nothing to say. It takes no memory.
 pub fn put_sentence<S: Sink>(
     out: &mut S,
     words: &[String],

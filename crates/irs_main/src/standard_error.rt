@@ -6,14 +6,14 @@ use std::io::{Stderr, Write};
 
 /// The standard error. What was written to it is unknown to the clauses.
 #[derive(Drop)]
-pub struct StandardError {
+pub(crate) struct StandardError {
     to: Stderr,
     faults: u64,
 }
 
 impl StandardError {
     /// Nothing was written yet.
-    pub fn new(rt: &HostRuntime) -> StandardError {
+    pub(crate) fn new(rt: &HostRuntime) -> StandardError {
         StandardError {
             to: rt.stderr(),
             faults: 0,
