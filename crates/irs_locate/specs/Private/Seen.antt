@@ -2,7 +2,6 @@
 -- The mathematical values that the types of this crate have.
 use Rattle.irs_elements.specs.Elements.{referenced_texts}
 use Rattle.irs_locate.specs.Lines as text
-use Rattle.irs_locate.specs.Ways as table
 use Rattle.irs_locate.specs.Ways as ways
 use Rattle.irs_locate.specs.declared.markup.Mark.{Mark}
 use Rattle.irs_locate.specs.declared.markup.Mark.TheVariants.{Plain, Passed, Opening, Empty, Closing}
@@ -27,5 +26,5 @@ abbrev pub piece_seen : Piece → text.Piece
 piece_seen p = record { mark = mark_seen p.mark; size = p.size }
 
 -- a table of elements
-abbrev pub known_seen : members.Known → table.Known
+abbrev pub known_seen : members.Known → ways.Known
 known_seen t = record { rows = t.rows.now; names = referenced_texts t.names.now }
