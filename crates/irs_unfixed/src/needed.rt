@@ -154,8 +154,7 @@ fn daily_fixing<'a>(
     requires gap { IsGap calendars.now fixings.now s.now part.now number }
     requires pays { s.now.leg ≡ OfFloating float.now }
     requires daily { float.now.parameters ≡ Some parameters.now }
-    ensures { IfOk result
-        (λ n. LacksFixing calendars.now fixings.now s.now part.now number (fixing_in n)) }
+    ensures { IfOk result (λ n. LacksFixing calendars.now fixings.now s.now part.now number (fixing_in n)) }
 {
     let day = observation_day(
         alloc, s, float, parameters, calendars, fixings, part, number,
@@ -179,8 +178,7 @@ fn floating_fixing<'a>(
 ) -> Result<Needed<'a>, Memory>
     requires gap { IsGap calendars.now fixings.now s.now part.now number }
     requires pays { s.now.leg ≡ OfFloating float.now }
-    ensures { IfOk result
-        (λ n. LacksFixing calendars.now fixings.now s.now part.now number (fixing_in n)) }
+    ensures { IfOk result (λ n. LacksFixing calendars.now fixings.now s.now part.now number (fixing_in n)) }
 {
     match &float.parameters {
         Some(parameters) => daily_fixing(
@@ -201,8 +199,7 @@ pub(crate) fn needed_fixing<'a>(
     number: u32,
 ) -> Result<Needed<'a>, Memory>
     requires { IsGap calendars.now fixings.now s.now part.now number }
-    ensures { IfOk result
-        (λ n. LacksFixing calendars.now fixings.now s.now part.now number (fixing_in n)) }
+    ensures { IfOk result (λ n. LacksFixing calendars.now fixings.now s.now part.now number (fixing_in n)) }
 {
     match &s.leg {
         Leg::Floating(float) => {
