@@ -1198,6 +1198,55 @@ Ends n end = after n ≡ end
         self.assertIn("left: irs_low.specs.Days: after is defined in ", out)
         self.assertIn("abbrev pub Ends", self.text("irs_low/specs/Kinds.antt"))
 
+    def test_what_a_type_needs(self) -> None:
+        self.write("crates/irs_low/src/dates.rt", """ghost use Rattle.irs_low.specs.Days.{after};
+
+pub struct Date {
+    day: u32,
+}
+
+impl Model for Date {
+    ghost invariant = { λ d. after d.day ≡ 2 };
+}
+
+pub struct Span {
+    end: Date,
+}
+""")
+        self.write("crates/irs_low/specs/Kinds.antt", self.FILES["irs_low/specs/Kinds.antt"].replace(
+            "Days.{after}", "declared.dates.Span.{Span}"))
+        status, _, said = self.merged("irs_low/specs/Days = Days Kinds")
+        self.assertEqual((status, said), (1, "tools/merge_definitions: irs_low.specs.Days: it and irs_low.specs."
+                                             "declared.dates.Date.TheView, irs_low.specs.declared.dates.Span would "
+                                             "need one another\n"))
+
+    def test_variants_of_one_name(self) -> None:
+        self.write("crates/irs_low/specs/Other.antt", """-- Kinds of rows.
+use Rattle.irs_low.specs.declared.rows.RowKind.{RowKind}
+use Rattle.irs_low.specs.declared.rows.RowKind.TheVariants.{Payment, Reset}
+
+abbrev pub is_paid : RowKind → Bool
+is_paid Payment = true
+is_paid Reset = false
+""")
+        self.write("crates/irs_low/specs/Kinds.antt", """-- Payments.
+use Rattle.irs_low.specs.declared.results.Payment.{Payment}
+
+abbrev pub same : Payment → Payment
+same p = p
+""")
+        status, _, said = self.merged("irs_low/specs/Kinds = Other Kinds")
+        self.assertEqual((status, said), (0, ""))
+        spans = self.text("irs_low/specs/Kinds.antt")
+        self.assertIn("is_paid row_kind.Payment = true\nis_paid Reset = false\n", spans)
+        self.assertIn("use Rattle.irs_low.specs.declared.rows.RowKind.TheVariants as row_kind\n", spans)
+
+    def test_an_edit_whose_line_would_be_there_twice(self) -> None:
+        self.write("crates/irs_low/specs/Kinds.antt", "-- The like.\nabbrev pub later : ℕ → ℕ\nlater after n = n + 1\n")
+        status, _, said = self.merged("irs_low/specs/Days = Days Kinds")
+        self.assertEqual((status, said), (1, "tools/merge_definitions: crates/irs_low/must-fail/a_day_less.edit: "
+                                             "after n = n + 1 isn't once in crates/irs_low/specs/Days.antt\n"))
+
 
 class Shown(InRoom):
     """The commands of pages, and what they print there."""
