@@ -1241,6 +1241,20 @@ same p = p
         self.assertIn("is_paid row_kind.Payment = true\nis_paid Reset = false\n", spans)
         self.assertIn("use Rattle.irs_low.specs.declared.rows.RowKind.TheVariants as row_kind\n", spans)
 
+    def test_one_other_name_of_a_module(self) -> None:
+        self.write("crates/irs_high/proofs/Facts.antt", """use Rattle.irs_low.specs.Days as days
+use Rattle.irs_low.specs.Spans as spans
+
+fact : spans.Ends 0 (days.after 0)
+fact = refl
+""")
+        self.assertEqual(self.merged("irs_low/specs/Spans = Days Spans")[0], 0)
+        self.assertEqual(self.text("irs_high/proofs/Facts.antt"), """use Rattle.irs_low.specs.Spans as days
+
+fact : days.Ends 0 (days.after 0)
+fact = refl
+""")
+
     def test_an_edit_whose_line_would_be_there_twice(self) -> None:
         self.write("crates/irs_low/specs/Kinds.antt", "-- The like.\nabbrev pub later : ℕ → ℕ\nlater after n = n + 1\n")
         status, _, said = self.merged("irs_low/specs/Days = Days Kinds")
