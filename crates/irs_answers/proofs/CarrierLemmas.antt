@@ -1,6 +1,6 @@
 -- The text of a carrier: the value as serde_json writes it, and LF; it reads as the value.
 use Rattle.std.proofs.Common.{◌≡◌, ℕ, ◌-◌, ◌^◌, ◌<◌, ◌≤◌, List, [], ◌∷◌, ◌++◌, length, false, Some, Result, Ok, Err}
-use Rattle.std.proofs.Common.{ap, ◌∙◌, sym, subst, refl, arith}
+use Rattle.std.proofs.Common.{ap, inl, inr, ◌∙◌, sym, subst, refl, arith}
 use Rattle.std.specs.Prelude.{IfErr, IfOk, IsErr}
 use Rattle.irs_base.specs.declared.memory.Memory.{Memory as WantOfMemory}
 use Rattle.std.specs.Result.{IsErrAnd}
@@ -14,21 +14,19 @@ use Rattle.irs_emit.proofs.ReadBack.{Built, built_depth, built_floatless, line_f
 use Rattle.irs_json.specs.Reading.{PlaceIn as PlaceInJson, ReadsNone as JsonReadsNone, Reads}
 use Rattle.irs_json.specs.declared.reading.JsonErr.{JsonErr}
 use Rattle.irs_json.specs.declared.reading.JsonErr.TheVariants as json
-use Rattle.irs_xml.proofs.TextLaws.{reads_one}
 use Rattle.irs_xml.specs.Document.{XmlReads, PlaceIn, ReadsNone}
 use Rattle.irs_xml.specs.declared.reading.XmlErr.{XmlErr}
 use Rattle.irs_xml.specs.declared.reading.XmlErr.TheVariants as xml
 use Rattle.irs_answers.specs.Tasks.{DueCarrier, ReadsBack, carrier_text}
 use Rattle.irs_answers.specs.Private.Outcomes.{MeansXml}
 use Rattle.irs_answers.specs.Forms.{json_text, xml_text}
-use Rattle.irs_answers.specs.Messages.{refused, unreadable, Is, reply_status, reply_text}
 use Rattle.irs_answers.specs.Due.{Ends, IfRefused, ReadFails, answer_of, of_json, of_read, of_xml}
 use Rattle.irs_answers.specs.declared.forms.ReadErr.{ReadErr}
 use Rattle.irs_answers.specs.declared.forms.ReadErr.TheVariants as reading
+use Rattle.irs_answers.specs.Messages.{reply_status, reply_text}
 use Rattle.irs_answers.specs.declared.refusals.Refusal.{Refusal}
 use Rattle.irs_answers.specs.declared.replies.Reply.{Reply}
 use Rattle.irs_answers.proofs.DueLemmas.{ends_by}
-use Rattle.irs_answers.proofs.StepLemmas.{read as read_one, unread}
 use Rattle.irs_answers.proofs.XmlValues.{xml_built}
 
 -- the line feed
@@ -98,28 +96,14 @@ Carries bytes status text = Ends (DueCarrier bytes) status text × (status ≡ 0
 pub refuse_carrier : (bytes : List ℕ) (e : ReadErr) → ReadFails (xml_text bytes) e
     → IfRefused (of_read e) (Carries bytes)
 refuse_carrier bytes (reading.Unreadable u) h =
-    let line = refused unreadable in (
-      record {
-        due = unread (XmlReads bytes) (Is 2 line 2 line) (λ v. Is 0 (carrier_text v) 2 line)
-            (λ v reads. h.none (v, reads)) (refl, refl);
-        verdict = omega arith;
-      },
-      λ e. absurd (omega (arith, e)),
-    )
+    (record { due = inr (inl (tt, h.none, refl)); verdict = omega arith }, λ e. absurd (omega (arith, e)))
 refuse_carrier bytes reading.Memory h = tt
 
 -- the text of the value is due
 pub carries : (bytes text : List ℕ) (v : Data) → XmlReads bytes v → text ≡ carrier_text v → Reads text v
     → Carries bytes 0 text
-carries bytes text v is e back = (
-  record {
-    due =
-        read_one (XmlReads bytes) (Is 2 (refused unreadable) 0 text) (λ w. Is 0 (carrier_text w) 0 text) v is
-        (λ w other. (refl, e ∙ ap carrier_text (reads_one bytes v w is other)));
-    verdict = omega arith;
-  },
-  λ _. (v, is, back),
-)
+carries bytes text v is e back =
+    (record { due = inl (v, is, (λ i. (0, e i))); verdict = omega arith }, λ _. (v, is, back))
 
 -- a refusal replies with its line, as is due for the bytes
 pub refused_carries : (r : Refusal) (bytes : List ℕ) (o : Result Reply WantOfMemory) → IfRefused r (Carries bytes)

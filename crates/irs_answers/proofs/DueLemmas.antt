@@ -1,36 +1,37 @@
--- What is due for the files of a task, step by step.
+-- What is due for the files of a task: one outcome of each step, and of all of them in turn.
 use Rattle.std.proofs.Common.{◌≡◌, inl, inr, ℕ, List, [], Option, Some, None, Bool, true, false, Result, Ok, refl, sym}
-use Rattle.std.proofs.Common.{◌∙◌, ap, subst, arith}
-use Rattle.std.specs.Prelude.{IfSome, if◌then◌else◌, slice_get}
-use Rattle.std.proofs.lemmas.Option.{same_Some}
+use Rattle.std.proofs.Common.{◌∙◌, ap, subst}
+use Rattle.std.specs.Prelude.{IfSome, if◌then◌else◌, option_map, slice_get}
+use Rattle.std.proofs.lemmas.Option.{IfSome_then, same_Some}
 use Rattle.serde_json.specs.Data.{Data}
 use Rattle.irs_base.specs.Outcomes.{IfStopped, First, Only, is_before}
+use Rattle.irs_base.proofs.Outcomes.{answered_free}
 use Rattle.irs_base.specs.declared.places.Broken.{Broken}
 use Rattle.irs_base.specs.declared.stopped.Stopped.{Stopped}
 use Rattle.irs_base.specs.declared.stopped.Stopped.TheVariants as stopped
 use Rattle.irs_xml.proofs.TextLaws.{reads_one}
-use Rattle.irs_answers.specs.Forms.{IsReadable, ReadsAs, TextReads, SourceText, Given}
+use Rattle.irs_answers.specs.Forms.{ReadsAs, TextReads, SourceText, value_of, Given}
 use Rattle.irs_answers.specs.declared.forms.Form.{Form}
 use Rattle.irs_answers.specs.declared.forms.Form.TheVariants.{Json, Xml}
 use Rattle.irs_answers.specs.declared.forms.ReadErr.{ReadErr}
 use Rattle.irs_answers.specs.declared.forms.ReadErr.TheVariants as reading
-use Rattle.irs_read.specs.Documents.{DocumentFault, Means}
+use Rattle.irs_read.specs.Documents.{DocumentFault, swap_of_document, Means}
+use Rattle.irs_read.proofs.LawfulSwaps.{document_lawful, means_read}
 use Rattle.irs_read.proofs.Outcomes.{one_meaning as meant_once}
 use Rattle.irs_read.specs.Readings.{streams_in}
+use Rattle.irs_rules.specs.TermsRules.{terms_of, BreaksTerms}
 use Rattle.irs_terms.specs.Lawful.{IsLawfulSwap}
 use Rattle.irs_terms.specs.declared.stream_list.Swap.{Swap}
 use Rattle.irs_calendar.specs.Grammar.{Spot, spot_of, IsFirstCalendarFault, CalFiles}
 use Rattle.irs_calendar.specs.declared.calendars.CalErr.{CalErr}
-use Rattle.irs_calendar.specs.declared.calendars.CalErr.TheVariants as calendar
 use Rattle.irs_calendar.specs.declared.sections.Section.{Section}
 use Rattle.irs_calendar.proofs.FaultLemmas.{faulty_spell_none, one_first_fault}
 use Rattle.irs_calendar.proofs.GrammarLemmas.{spelt_is_read}
 use Rattle.irs_resets.specs.Rates.{RateTable}
 use Rattle.irs_resets.specs.declared.fixings.FixErr.{FixErr}
 use Rattle.irs_resets.specs.declared.fixings.FixErr.TheVariants as fixing
-use Rattle.irs_rules.specs.TermsRules.{IsFirstBrokenRule as IsFirstOfTerms}
-use Rattle.irs_schedule.proofs.OnePart.{one_broken}
-use Rattle.irs_schedule.specs.Schedules.{DatedKept, DatedBroken, IsSchedule}
+use Rattle.irs_schedule.proofs.OnePart.{one_broken, one_schedule, schedule_determined}
+use Rattle.irs_schedule.specs.Schedules.{DatedKept, DatedBroken, schedule_of, IsSchedule}
 use Rattle.irs_schedule.specs.Parts.{Part}
 use Rattle.irs_net.specs.Parties.{BreaksK8Of, IsBackward, IsForward, IsSide, SidesOf}
 use Rattle.irs_net.specs.declared.sides.Sides.{Sides}
@@ -42,21 +43,20 @@ use Rattle.irs_answers.specs.declared.refusals.Refusal.{Refusal}
 use Rattle.irs_answers.specs.declared.refusals.Refusal.TheVariants.{Rule, Calendars, Fixings}
 use Rattle.irs_answers.specs.declared.replies.Reply.{Reply}
 use Rattle.irs_answers.specs.Tasks.{nets, uses_rates}
-use Rattle.irs_answers.specs.Messages.{reply_status, reply_text, refused, unreadable, bad_calendar, bad_fixings, Is}
-use Rattle.irs_answers.specs.Messages.{Refuses}
-use Rattle.irs_answers.specs.Due.{SpellsTask, AreGivenFixings, BadCalendars, BadFixings, BreaksSides, BreaksSidesIf}
-use Rattle.irs_answers.specs.Due.{HasSides, IsFixingsFault, KeepsTerms, SidesIf, Facts, facts, Answered, rates_for}
-use Rattle.irs_answers.specs.Due.{DueKept, DueDated, DueTerms, DueFixings, DueCalendars, DueSides, DueDocument, DueFor}
-use Rattle.irs_answers.specs.Due.{PassesEachStep, Answer, answer_of, of_read, of_stopped, Ends, FixingsFail, IfRefused}
-use Rattle.irs_answers.specs.Due.{IsRuleFirst, IsUnscheduled, IsScheduled, ReadFails}
-use Rattle.irs_answers.specs.Private.Outcomes.{IfAnswered}
+use Rattle.irs_answers.specs.Messages.{reply_status, reply_text, Answer, Gives, keeping}
+use Rattle.irs_answers.specs.Due.{SpellsTask, AreGivenFixings, BreaksSides, BreaksSidesIf, HasSides, KeepsTerms}
+use Rattle.irs_answers.specs.Due.{SidesIf, Facts, facts, DueFor, PassesEachStep, answer_for, rates_for, found_of, due}
+use Rattle.irs_answers.specs.Due.{one_schedule_of, rates_of, sections_of, sides_of, faulty_calendar, answer_of, of_read}
+use Rattle.irs_answers.specs.Due.{of_stopped, Ends, FixingsFail, IfRefused, RefusedBy, ReadFails}
+use Rattle.irs_answers.specs.Private.Outcomes.{IsCarriedOut}
 use Rattle.irs_answers.proofs.AccrueSame.{accrued_same}
+use Rattle.irs_answers.proofs.Agreement.{Agree, IsOne, Within, answer_agree, given_agree, given_within, refused_as_agree}
+use Rattle.irs_answers.proofs.Agreement.{same_within, then_agree, then_one}
 use Rattle.irs_answers.proofs.FirstLemmas.{one_first, one_fixings_fault, no_fixings}
-use Rattle.irs_answers.proofs.SameRates.{SameRates, same_back, same_file, schedule_same, kept_same, first_same_table}
-use Rattle.irs_answers.proofs.DerivedSame.{average_due, interpolate_due, overnight_due}
-use Rattle.irs_answers.proofs.ObservedLemmas.{observations_same}
-use Rattle.irs_answers.proofs.StepLemmas.{answered_more, refused_more, ends_more, read, unread, kept, broken}
-use Rattle.irs_answers.proofs.StepLemmas.{rules_more}
+use Rattle.irs_answers.proofs.SameRates.{SameRates, same_back, same_file, schedule_same, first_same_table}
+use Rattle.irs_answers.proofs.DerivedSame.{average_within, interpolate_within, overnight_within}
+use Rattle.irs_answers.proofs.ObservedLemmas.{observations_within}
+use Rattle.irs_answers.proofs.StepLemmas.{carried_low, refusal_ends}
 
 -- ---- the files say one thing
 
@@ -126,325 +126,302 @@ pub same_if : (b : Bool) (t u : RateTable) → SameRates t u → SameRates (if b
 same_if true t u e = e
 same_if false t u e = λ index slot. refl
 
-module _ (swap : Swap) (cal : List Section) (t u : RateTable) (e : SameRates t u) where
-  only_same : (s : List Part) → Only (IsSchedule swap cal t) s → Only (IsSchedule swap cal u) s
-  only_same s h =
-      record {
-        is = schedule_same t u e swap cal s h.is;
-        only =
-            λ y k. h.only y (schedule_same u t (same_back t u e) swap cal y k);
+-- the rates alone decide what a task answers
+tables_within : (t : Task) (g : Given) (swap : Swap) (sides : Option Sides) (cal : List Section) (r q : RateTable)
+    (s : List Part) → SameRates r q
+    → Within (answer_for t g (facts swap sides cal r s)) (answer_for t g (facts swap sides cal q s))
+tables_within Check g swap sides cal r q s e = same_within _
+tables_within Schedule g swap sides cal r q s e = same_within _
+tables_within Audit g swap sides cal r q s e = same_within _
+tables_within (Breaks from) g swap sides cal r q s e = same_within _
+tables_within Emit g swap sides cal r q s e = same_within _
+tables_within EmitXml g swap sides cal r q s e = same_within _
+tables_within (Accrue date) g swap sides cal r q s e =
+    given_within _ _ (λ a h. (h.0, accrued_same r q e swap cal date s a.1 h.1))
+tables_within Net g swap sides cal r q s e = same_within _
+tables_within (Observations stream) g swap sides cal r q s e = observations_within r q e swap cal s stream
+tables_within (Overnight stream) g swap sides cal r q s e = overnight_within r q e swap cal s stream
+tables_within (Average stream mean step) g swap sides cal r q s e = average_within r q e swap cal s stream mean step
+tables_within (Interpolate stream side low high) g swap sides cal r q s e =
+    interpolate_within r q e swap s stream side low high
+
+-- ---- each step has one outcome
+
+abbrev Same : {X : Type 0} → X → X → Type 0
+Same x y = x ≡ y
+
+-- a text has one reading, or none
+pub one_value : (w : SourceText) → IsOne (value_of w)
+one_value w = record {
+  answers = λ u v h k. one_reading w v u k h;
+  refuses = λ _ _ _ _. refl;
+  apart = λ v _ h none. none (v, h);
+  back = λ v _ none h. none (v, h);
+}
+
+one_swap : (v : Data) → IsOne (swap_of_document v)
+one_swap v = record {
+  answers = λ s u h k. one_meaning v u s k h;
+  refuses = λ b c h k. one_first (DocumentFault v) c b k h;
+  apart = λ s b means first. means.clean b first.0;
+  back = λ s b first means. means.clean b first.0;
+}
+
+-- a document means a lawful swap
+pub means_lawful : (v : Data) (s : Swap) → Means v s → IsLawfulSwap s
+means_lawful v s m = document_lawful v m.at s m.clean m.found (means_read v s m)
+
+one_side : (t : Task) (v : Data) → IsOne (sides_of t v)
+one_side t v = record {
+  answers = λ s u h k. one_sided t v u s k h;
+  refuses = λ b c h k. sides_first (nets t) v c b k h;
+  apart = λ s b has first. no_sides (nets t) v b s first has;
+  back = λ s b first has. no_sides (nets t) v b s first has;
+}
+
+one_list : (files : List (List ℕ)) → IsOne (sections_of files)
+one_list files = record {
+  answers = λ s u h k. one_calendars files u s k h;
+  refuses = λ x y h k. one_first_fault files x y h k;
+  apart = λ s x spelt first. faulty_spell_none files x s first spelt;
+  back = λ s x first spelt. faulty_spell_none files x s first spelt;
+}
+
+-- a file of fixings has one outcome, up to tables with the same rates
+rates_agree : (file : Option (List ℕ)) → Agree SameRates (rates_of file) (rates_of file)
+rates_agree file = record {
+  answers = λ t u h k. one_fixings file t u h k;
+  refuses = λ e f h k. one_fixings_fault file f e k h;
+  apart = λ t f are fault. no_fixings file f t fault are;
+  back = λ t f fault are. no_fixings file f t fault are;
+}
+
+one_terms : (swap : Swap) (cal : List Section) → IsOne (terms_of swap cal)
+one_terms swap cal = record {
+  answers = λ _ _ _ _. refl;
+  refuses = λ b c h k. one_first (BreaksTerms swap cal) c b k h;
+  apart = λ _ b keeps first. keeps b first.0;
+  back = λ _ b first keeps. keeps b first.0;
+}
+
+module _ (swap : Swap) (cal : List Section) (r q : RateTable) (e : SameRates r q) (lawful : IsLawfulSwap swap) where
+  dates_agree : KeepsTerms swap cal → Agree Same (keeping (DatedKept swap cal r) (DatedBroken swap cal r))
+      (keeping (DatedKept swap cal q) (DatedBroken swap cal q))
+  dates_agree keeps = let there = first_same_table r q e swap cal in
+      let back = first_same_table q r (same_back r q e) swap cal in record {
+        answers = λ _ _ _ _. refl;
+        refuses = λ b c h k. one_broken swap cal r lawful keeps b c h (back c k);
+        apart = λ _ b kept first. kept b (back b first);
+        back = λ _ b first kept. kept b (there b first);
       }
 
-  refuses_same : (status : ℕ) (text : List ℕ) → Refuses (DatedBroken swap cal t) status text
-      → Refuses (DatedBroken swap cal u) status text
-  refuses_same status text h = (
-    h.0,
-    record {
-      is = first_same_table t u e swap cal h.0 h.1.is;
-      only =
-          λ y k. h.1.only y (first_same_table u t (same_back t u e) swap cal y k);
-    },
-    h.2,
-  )
+  -- a lawful swap has one schedule or one first broken rule, whichever table has the rates
+  schedules_agree : Agree Same (one_schedule_of swap cal r) (one_schedule_of swap cal q)
+  schedules_agree =
+      then_agree Same Same _ _ _ _ (refused_as_agree Same _ _ _ (one_terms swap cal)) (λ _ _ keeps _ _.
+      then_agree Same Same _ _ _ _ (refused_as_agree Same _ _ _ (dates_agree keeps)) (λ _ _ _ _ _.
+      given_agree Same _ _ (λ s u h k.
+      sym (h.only u (schedule_same q r (same_back r q e) swap cal u k.is)))))
 
-answered_same : (t : Task) (g : Given) (swap : Swap) (sides : Option Sides) (cal : List Section) (r q : RateTable)
-    (s : List Part) (status : ℕ) (text : List ℕ) → SameRates r q → Answered t g (facts swap sides cal r s) status text
-    → Answered t g (facts swap sides cal q s) status text
-answered_same Check g swap sides cal r q s status text e h = h
-answered_same Schedule g swap sides cal r q s status text e h = h
-answered_same Audit g swap sides cal r q s status text e h = h
-answered_same (Breaks from) g swap sides cal r q s status text e h = h
-answered_same Emit g swap sides cal r q s status text e h = h
-answered_same EmitXml g swap sides cal r q s status text e h = h
-answered_same (Accrue date) g swap sides cal r q s status text e h =
-    (h.0, accrued_same r q e swap cal date s text h.1)
-answered_same Net g swap sides cal r q s status text e h = h
-answered_same (Observations stream) g swap sides cal r q s status text e h =
-    observations_same r q e swap cal s stream status text h
-answered_same (Overnight stream) g swap sides cal r q s status text e h =
-    overnight_due r q e swap cal s status text stream h
-answered_same (Average stream mean step) g swap sides cal r q s status text e h =
-    average_due r q e swap cal s status text stream mean step h
-answered_same (Interpolate stream side low high) g swap sides cal r q s status text e h =
-    interpolate_due r q e swap s status text stream side low high h
+-- ---- all steps in turn
 
-module _ (t : Task) (g : Given) (swap : Swap) (sides : Option Sides) (cal : List Section) (r q : RateTable)
-    (e : SameRates r q) (status : ℕ) (text : List ℕ) where
-  for_same : SameRates (rates_for t r) (rates_for t q)
-  for_same = same_if (uses_rates t) r q e
+-- the same facts, with tables of the same rates
+pub record AreSameFacts (f h : Facts) : Type 0 where
+  pub swap : f.swap ≡ h.swap
+  pub sides : f.sides ≡ h.sides
+  pub cal : f.cal ≡ h.cal
+  pub table : SameRates f.table h.table
+  pub parts : f.parts ≡ h.parts
 
-  kept_too : DueKept t g swap sides cal r status text → DueKept t g swap sides cal q status text
-  kept_too z = (
-    z.0,
-    only_same swap cal (rates_for t r) (rates_for t q) for_same z.0 z.1,
-    answered_same t g swap sides cal r q z.0 status text e z.2,
-  )
+-- the files of a task give one set of facts, or one refusal
+pub found_agree : (t : Task) (g : Given) → Agree AreSameFacts (found_of t g) (found_of t g)
+unfolding found_of
+found_agree t g =
+    then_one AreSameFacts _ _ (refused_as_agree Same _ _ _ (one_value g.document)) (λ v _.
+    then_one AreSameFacts _ _ (refused_as_agree Same _ _ _ (one_swap v)) (λ swap means.
+    then_one AreSameFacts _ _ (refused_as_agree Same _ _ _ (one_side t v)) (λ sides _.
+    then_one AreSameFacts _ _ (refused_as_agree Same _ _ _ (one_list g.calendars)) (λ cal _.
+    then_agree SameRates AreSameFacts _ _ _ _ (refused_as_agree SameRates _ _ _ (rates_agree g.fixings)) (λ r q _ _ e.
+    then_agree Same AreSameFacts _ _ _ _
+    (schedules_agree swap cal (rates_for t r) (rates_for t q) (same_if (uses_rates t) r q e) (means_lawful v swap means))
+    (λ p s _ _ same. answer_agree AreSameFacts (facts swap sides cal r p) (facts swap sides cal q s)
+    (record { swap = refl; sides = refl; cal = refl; table = e; parts = same })))))))
 
-  dated_same : DueDated t g swap sides cal r status text → DueDated t g swap sides cal q status text
-  dated_same k =
-      let x = rates_for t r in
-      let y = rates_for t q in
-      rules_more (DatedKept swap cal x) (DatedKept swap cal y) (Refuses (DatedBroken swap cal x) status text)
-      (Refuses (DatedBroken swap cal y) status text) (DueKept t g swap sides cal r status text)
-      (DueKept t g swap sides cal q status text)
-      (kept_same x y for_same swap cal) (kept_same y x (same_back x y for_same) swap cal)
-      (refuses_same swap cal x y for_same status text) kept_too k
+-- the same facts give the same answers of a task
+pub answers_within : (t : Task) (g : Given) (f h : Facts) → AreSameFacts f h → Within (answer_for t g f) (answer_for t g h)
+answers_within t g f h e =
+    subst (λ (x : Facts). Within (answer_for t g f) (answer_for t g x))
+    (λ i. facts (e.swap i) (e.sides i) (e.cal i) h.table (e.parts i))
+    (tables_within t g f.swap f.sides f.cal f.table h.table f.parts e.table)
 
-  terms_same : DueTerms t g swap sides cal r status text → DueTerms t g swap sides cal q status text
-  terms_same h =
-      rules_more (KeepsTerms swap cal) (KeepsTerms swap cal) (Refuses (IsFirstOfTerms swap cal) status text)
-      (Refuses (IsFirstOfTerms swap cal) status text) (DueDated t g swap sides cal r status text)
-      (DueDated t g swap sides cal q status text) (λ k. k) (λ k. k) (λ k. k) dated_same h
+-- a text spells a task
+pub spells_by : (t : Task) (w : SourceText) (v : Data) (swap : Swap) (sides : Option Sides) → TextReads w v → Means v swap
+    → HasSides t v sides → SpellsTask t w swap sides
+spells_by t w v swap sides reads means has = record { value = v; reads = reads; means = means; has_sides = has }
 
--- ---- each step that is passed
-
-module _ (t : Task) (g : Given) (status : ℕ) (text : List ℕ) where
-  -- what is due for the reading is due
-  pub in_text : (v : Data) → TextReads g.document v → DueDocument t g v status text → DueFor t g status text
-  in_text v is h =
-      read (TextReads g.document) (Is 2 (refused unreadable) status text) (λ w. DueDocument t g w status text) v is
-      (λ w other. subst (λ (x : Data). DueDocument t g x status text) (sym (one_reading g.document v w is other)) h)
-
-  -- what is due for the swap is due for its value
-  pub in_swap : (v : Data) (swap : Swap) → Means v swap → DueSides t g v swap status text
-      → DueDocument t g v status text
-  in_swap v swap is h =
-      read (Means v) (Refuses (First is_before (DocumentFault v)) status text)
-      (λ w. DueSides t g v w status text) swap is
-      (λ w other. subst (λ (x : Swap). DueSides t g v x status text) (sym (one_meaning v swap w is other)) h)
-
-  -- what is due for the sides is due for the swap
-  pub in_sides : (v : Data) (swap : Swap) (sides : Option Sides) → HasSides t v sides
-      → DueCalendars t g swap sides status text → DueSides t g v swap status text
-  in_sides v swap sides is h =
-      read (HasSides t v) (Refuses (BreaksSides t v) status text) (λ o. DueCalendars t g swap o status text) sides is
-      (λ o other. subst (λ (x : Option Sides). DueCalendars t g swap x status text)
-      (sym (one_sided t v sides o is other)) h)
-
-  -- what is due after the document is due
-  pub in_document : (swap : Swap) (sides : Option Sides) → SpellsTask t g.document swap sides
-      → DueCalendars t g swap sides status text → DueFor t g status text
-  in_document swap sides s h =
-      in_text s.value s.reads (in_swap s.value swap s.means (in_sides s.value swap sides s.has_sides h))
-
-  -- what is due after the calendar files is due from them on
-  pub in_calendars : (swap : Swap) (sides : Option Sides) (cal : List Section) → CalFiles g.calendars cal
-      → DueFixings t g swap sides cal status text → DueCalendars t g swap sides status text
-  in_calendars swap sides cal is h =
-      read (CalFiles g.calendars) (BadCalendars g status text) (λ c. DueFixings t g swap sides c status text) cal is
-      (λ c other. subst (λ (x : List Section). DueFixings t g swap sides x status text)
-      (sym (one_calendars g.calendars cal c is other)) h)
-
-  -- what is due after the file of fixings is due from it on
-  pub in_fixings : (swap : Swap) (sides : Option Sides) (cal : List Section) (table : RateTable)
-      → AreGivenFixings g.fixings table → DueTerms t g swap sides cal table status text
-      → DueFixings t g swap sides cal status text
-  in_fixings swap sides cal table is h =
-      read (AreGivenFixings g.fixings) (BadFixings g status text) (λ q. DueTerms t g swap sides cal q status text) table is
-      (λ q other. terms_same t g swap sides cal table q (one_fixings g.fixings table q is other) status text h)
-
-  -- what is due after the rules of the terms is due where they are kept
-  pub in_terms : (swap : Swap) (sides : Option Sides) (cal : List Section) (table : RateTable) → KeepsTerms swap cal
-      → DueDated t g swap sides cal table status text → DueTerms t g swap sides cal table status text
-  in_terms swap sides cal table is h =
-      kept (KeepsTerms swap cal) (Refuses (IsFirstOfTerms swap cal) status text)
-      (DueDated t g swap sides cal table status text) is h
-
-  -- what is due after the rules of dates and amounts is due where they are kept
-  pub in_dated : (swap : Swap) (sides : Option Sides) (cal : List Section) (table : RateTable)
-      → DatedKept swap cal (rates_for t table) → DueKept t g swap sides cal table status text
-      → DueDated t g swap sides cal table status text
-  in_dated swap sides cal table is h =
-      kept (DatedKept swap cal (rates_for t table)) (Refuses (DatedBroken swap cal (rates_for t table)) status text)
-      (DueKept t g swap sides cal table status text) is h
-
-  -- what is due at the end is due where every step passes
-  pub passed : (f : Facts) → PassesEachStep t g f → Answered t g f status text → DueFor t g status text
-  passed f p h =
-      in_document f.swap f.sides p.document
-      (in_calendars f.swap f.sides f.cal p.calendars
-      (in_fixings f.swap f.sides f.cal f.table p.fixings
-      (in_terms f.swap f.sides f.cal f.table p.terms
-      (in_dated f.swap f.sides f.cal f.table p.dated (f.parts, p.schedule, h)))))
-
--- an answer at the end is the answer where every step passes
-pub passed_answer : (t : Task) (g : Given) (f : Facts) (r : Result Reply Refusal) → PassesEachStep t g f
-    → IfAnswered r (Ends (Answered t g f)) → IfAnswered r (Ends (DueFor t g))
-passed_answer t g f r p h =
-    answered_more r (Ends (Answered t g f)) (Ends (DueFor t g))
-    (ends_more (Answered t g f) (DueFor t g) (λ status text k. passed t g status text f p k)) h
-
--- ---- the step that fails
+-- the answer of a spot meets Q where the spot meets P
+some_spot : (o : Option Spot) {P : Spot → Type 0} (Q : Answer → Type 0) → ((s : Spot) → P s → Q (faulty_calendar s))
+    → IfSome o P → IfSome (option_map faulty_calendar o) Q
+some_spot None Q f h = tt
+some_spot (Some s) Q f h = f s h
 
 module _ (t : Task) (g : Given) where
-  at_text : (IsReadable g.document → ⊥) → DueFor t g 2 (refused unreadable)
-  at_text never =
-      unread (TextReads g.document) (Is 2 (refused unreadable) 2 (refused unreadable))
-      (λ v. DueDocument t g v 2 (refused unreadable)) (λ v reads. never (v, reads)) (refl, refl)
-
-  at_document : (v : Data) (b : Broken) → First is_before (DocumentFault v) b → DueDocument t g v 2 (refused b)
-  at_document v b first =
-      unread (Means v) (Refuses (First is_before (DocumentFault v)) 2 (refused b))
-      (λ swap. DueSides t g v swap 2 (refused b)) (λ swap means. means.clean b first.0) (
-        b,
-        record { is = first; only = λ c h. one_first (DocumentFault v) b c first h },
-        (refl, refl),
+  -- files that pass each step give these facts
+  pub passes_found : (f : Facts) → PassesEachStep t g f → (found_of t g).Answers f
+  unfolding found_of
+  passes_found f p =
+      let d = p.document in (
+        d.value,
+        d.reads,
+        (
+          f.swap,
+          d.means,
+          (
+            f.sides,
+            d.has_sides,
+            (
+              f.cal,
+              p.calendars,
+              (
+                f.table,
+                p.fixings,
+                (f.parts, (tt, p.terms, (tt, p.dated, p.schedule)), refl),
+              ),
+            ),
+          ),
+        ),
       )
 
-  at_sides : (v : Data) (swap : Swap) (b : Broken) → BreaksSides t v b → DueSides t g v swap 2 (refused b)
-  at_sides v swap b first =
-      unread (HasSides t v) (Refuses (BreaksSides t v) 2 (refused b)) (λ o. DueCalendars t g swap o 2 (refused b))
-      (λ o has. no_sides (nets t) v b o first has) (
-        b,
-        record { is = first; only = λ c h. sides_first (nets t) v b c first h },
-        (refl, refl),
-      )
+  -- and only they do
+  pub found_passes : (f : Facts) → (found_of t g).Answers f → PassesEachStep t g f
+  unfolding found_of
+  found_passes f (value, reads, (swap, means, (sides, has, (cal, files, (table, rates, (parts, made, same)))))) =
+      subst (PassesEachStep t g) (sym same) (record {
+        document = record { value = value; reads = reads; means = means; has_sides = has };
+        calendars = files;
+        fixings = rates;
+        terms = made.1;
+        dated = made.2.1;
+        schedule = made.2.2;
+      })
 
-  at_calendars : (swap : Swap) (sides : Option Sides) (s : Spot) → IsFirstCalendarFault g.calendars s
-      → DueCalendars t g swap sides 3 (bad_calendar s)
-  at_calendars swap sides s first =
-      unread (CalFiles g.calendars) (BadCalendars g 3 (bad_calendar s))
-      (λ cal. DueFixings t g swap sides cal 3 (bad_calendar s))
-      (λ cal spelt. faulty_spell_none g.calendars s cal first spelt) (
-        s,
-        record { is = first; only = λ x h. one_first_fault g.calendars x s h first },
-        (refl, refl),
-      )
+  module _ (f : Facts) (p : PassesEachStep t g f) where
+    same_as : (h : Facts) → (found_of t g).Answers h → Within (answer_for t g h) (answer_for t g f)
+    same_as h found = answers_within t g h f ((found_agree t g).answers h f found (passes_found f p))
 
-  at_fixings : (swap : Swap) (sides : Option Sides) (cal : List Section) (f : FixErr) → IsFixingsFault g.fixings f
-      → DueFixings t g swap sides cal 3 (bad_fixings f)
-  at_fixings swap sides cal f fault =
-      unread (AreGivenFixings g.fixings) (BadFixings g 3 (bad_fixings f))
-      (λ table. DueTerms t g swap sides cal table 3 (bad_fixings f))
-      (λ table are. no_fixings g.fixings f table fault are) (
-        f,
-        record { is = fault; only = λ x h. one_fixings_fault g.fixings f x fault h },
-        (refl, refl),
-      )
+    -- what is due for files that pass is what the task answers
+    pub passes_due : (status : ℕ) (text : List ℕ) → DueFor t g status text → Gives (answer_for t g f) status text
+    unfolding due
+    passes_due status text (inl (h, found, told)) = inl ((same_as h found).answers (status, text) told)
+    passes_due status text (inr (inl stopped)) = absurd ((found_agree t g).apart f (status, text) (passes_found f p) stopped)
+    passes_due status text (inr (inr (h, found, told))) = inr ((same_as h found).refuses (status, text) told)
 
-  at_rule : (swap : Swap) (sides : Option Sides) (cal : List Section) (table : RateTable) (b : Broken)
-      → IsRuleFirst swap cal (rates_for t table) b → DueTerms t g swap sides cal table 2 (refused b)
-  at_rule swap sides cal table b (inl first) =
-      broken (KeepsTerms swap cal) (Refuses (IsFirstOfTerms swap cal) 2 (refused b))
-      (DueDated t g swap sides cal table 2 (refused b)) (λ keeps. keeps b first.is.0) (b, first, (refl, refl))
-  at_rule swap sides cal table b (inr first) =
-      let rates = rates_for t table in
-      in_terms t g 2 (refused b) swap sides cal table first.0
-      (broken (DatedKept swap cal rates) (Refuses (DatedBroken swap cal rates) 2 (refused b))
-      (DueKept t g swap sides cal table 2 (refused b)) (λ keeps. keeps b first.1.is) (
-        b,
-        first.1,
-        (refl, refl),
-      ))
+    -- and what it answers is due
+    pub passed_reply : (o : Reply) → IsCarriedOut o → (answer_for t g f).Answers (reply_status o, reply_text o)
+        → Ends (DueFor t g) (reply_status o) (reply_text o)
+    unfolding due
+    passed_reply o carried h = record { due = inl (f, passes_found f p, h); verdict = carried_low o carried }
 
-  -- ---- the errors of the calls are what is due
+    -- so is what it refuses
+    pub passed_refusal : (r : Refusal) → RefusedBy (answer_for t g f) r → IfRefused r (Ends (DueFor t g))
+    unfolding due
+    passed_refusal r h =
+        refusal_ends r (answer_for t g f).Refuses (DueFor t g) (λ status text k. inr (inr (f, passes_found f p, k))) h
+
+  -- what is refused at a step is due
+  pub refused_due : (r : Refusal) → RefusedBy (found_of t g) r → IfRefused r (Ends (DueFor t g))
+  unfolding due
+  refused_due r h = refusal_ends r (found_of t g).Refuses (DueFor t g) (λ status text k. inr (inl k)) h
+
+  -- ---- the step that fails
 
   -- a text without a reading is refused
-  pub refuse_text : (e : ReadErr) → ReadFails g.document e → IfRefused (of_read e) (Ends (DueFor t g))
-  refuse_text (reading.Unreadable u) h = record { due = at_text h.none; verdict = omega arith }
+  pub refuse_text : (e : ReadErr) → ReadFails g.document e → RefusedBy (found_of t g) (of_read e)
+  unfolding found_of
+  refuse_text (reading.Unreadable u) h = inl (tt, h.none, refl)
   refuse_text reading.Memory h = tt
 
   -- a document that breaks a rule is refused
   pub refuse_read : (v : Data) (e : Stopped Broken) → TextReads g.document v
-      → IfStopped e (First is_before (DocumentFault v)) → IfRefused (of_stopped e) (Ends (DueFor t g))
-  refuse_read v (stopped.Broken b) reads first =
-      record { due = in_text t g 2 (refused b) v reads (at_document v b first); verdict = omega arith }
+      → IfStopped e (First is_before (DocumentFault v)) → RefusedBy (found_of t g) (of_stopped e)
+  unfolding found_of
+  refuse_read v (stopped.Broken b) reads first = inr (v, reads, inl (b, first, refl))
   refuse_read v stopped.Memory reads first = tt
 
   -- parties that break a rule are refused
   pub refuse_sides : (v : Data) (swap : Swap) (b : Broken) → TextReads g.document v → Means v swap → BreaksSides t v b
-      → IfRefused (Rule b) (Ends (DueFor t g))
-  refuse_sides v swap b reads means first =
-      record {
-        due =
-            in_text t g 2 (refused b) v reads (in_swap t g 2 (refused b) v swap means (at_sides v swap b first));
-        verdict =
-            omega arith;
+      → RefusedBy (found_of t g) (Rule b)
+  unfolding found_of
+  refuse_sides v swap b reads means first = inr (v, reads, inr (swap, means, inl (b, first, refl)))
+
+  module _ (swap : Swap) (sides : Option Sides) (d : SpellsTask t g.document swap sides) where
+    -- a faulty calendar file is refused
+    pub refuse_calendars : (e : CalErr) → IfSome (spot_of e) (IsFirstCalendarFault g.calendars)
+        → RefusedBy (found_of t g) (Calendars e)
+    unfolding found_of
+    refuse_calendars e h = some_spot (spot_of e) (found_of t g).Refuses (λ s first.
+        inr (d.value, d.reads, inr (swap, d.means, inr (sides, d.has_sides, inl (s, first, refl))))) h
+
+    module _ (cal : List Section) (files : CalFiles g.calendars cal) where
+      -- a faulty file of fixings is refused
+      pub refuse_fixings : (e : FixErr) → FixingsFail g.fixings e → RefusedBy (found_of t g) (Fixings e)
+      unfolding found_of
+      refuse_fixings (fixing.Syntax line) h =
+          inr (d.value, d.reads, inr (swap, d.means, inr (sides, d.has_sides, inr (cal, files, inl (_, h, refl)))))
+      refuse_fixings (fixing.Repeat line) h =
+          inr (d.value, d.reads, inr (swap, d.means, inr (sides, d.has_sides, inr (cal, files, inl (_, h, refl)))))
+      refuse_fixings fixing.Memory h = tt
+
+      -- a broken rule of the swap is refused
+      pub refuse_rules : (table : RateTable) (r : Refusal) → AreGivenFixings g.fixings table
+          → RefusedBy (one_schedule_of swap cal (rates_for t table)) r → RefusedBy (found_of t g) r
+      unfolding found_of
+      refuse_rules table r rates h = IfSome_then (answer_of r) h (λ a k.
+          inr (
+            d.value,
+            d.reads,
+            inr (
+              swap,
+              d.means,
+              inr (
+                sides,
+                d.has_sides,
+                inr (
+                  cal,
+                  files,
+                  inr (table, rates, inl k),
+                ),
+              ),
+            ),
+          ))
+
+      -- files that pass, from what was read and made
+      pub passes_by : (table : RateTable) (parts : List Part) → AreGivenFixings g.fixings table
+          → (one_schedule_of swap cal (rates_for t table)).Answers parts
+          → PassesEachStep t g (facts swap sides cal table parts)
+      passes_by table parts rates made = record {
+        document = d;
+        calendars = files;
+        fixings = rates;
+        terms = made.1;
+        dated = made.2.1;
+        schedule = made.2.2;
       }
 
-  calendar_due : (swap : Swap) (sides : Option Sides) (s : Spot) → SpellsTask t g.document swap sides
-      → IsFirstCalendarFault g.calendars s → Ends (DueFor t g) 3 (bad_calendar s)
-  calendar_due swap sides s spells first =
-      record {
-        due = in_document t g 3 (bad_calendar s) swap sides spells (at_calendars swap sides s first);
-        verdict =
-            omega arith;
-      }
-
-  -- a faulty calendar file is refused
-  pub refuse_calendars : (swap : Swap) (sides : Option Sides) (e : CalErr) → SpellsTask t g.document swap sides
-      → IfSome (spot_of e) (IsFirstCalendarFault g.calendars) → IfRefused (Calendars e) (Ends (DueFor t g))
-  refuse_calendars swap sides (calendar.Syntax file line) spells h = calendar_due swap sides _ spells h
-  refuse_calendars swap sides (calendar.Repeat file line) spells h = calendar_due swap sides _ spells h
-  refuse_calendars swap sides (calendar.TooMany file line) spells h = calendar_due swap sides _ spells h
-  refuse_calendars swap sides calendar.Memory spells h = tt
-
-  fixing_due : (swap : Swap) (sides : Option Sides) (cal : List Section) (f : FixErr) → SpellsTask t g.document swap sides
-      → CalFiles g.calendars cal → IsFixingsFault g.fixings f → Ends (DueFor t g) 3 (bad_fixings f)
-  fixing_due swap sides cal f spells files fault =
-      record {
-        due =
-            in_document t g 3 (bad_fixings f) swap sides spells
-            (in_calendars t g 3 (bad_fixings f) swap sides cal files (at_fixings swap sides cal f fault));
-        verdict =
-            omega arith;
-      }
-
-  -- a faulty file of fixings is refused
-  pub refuse_fixings : (swap : Swap) (sides : Option Sides) (cal : List Section) (e : FixErr)
-      → SpellsTask t g.document swap sides → CalFiles g.calendars cal → FixingsFail g.fixings e
-      → IfRefused (Fixings e) (Ends (DueFor t g))
-  refuse_fixings swap sides cal (fixing.Syntax line) spells files h =
-      fixing_due swap sides cal (fixing.Syntax line) spells files h
-  refuse_fixings swap sides cal (fixing.Repeat line) spells files h =
-      fixing_due swap sides cal (fixing.Repeat line) spells files h
-  refuse_fixings swap sides cal fixing.Memory spells files h = tt
-
-  rule_due : (swap : Swap) (sides : Option Sides) (cal : List Section) (table : RateTable)
-      → SpellsTask t g.document swap sides → CalFiles g.calendars cal → AreGivenFixings g.fixings table
-      → (status : ℕ) (text : List ℕ) → IsUnscheduled swap cal (rates_for t table) status text
-      → Ends (DueFor t g) status text
-  rule_due swap sides cal table spells files rates status text h =
-      rw (h.2.0, h.2.1) (record {
-        due =
-            in_document t g 2 (refused h.0) swap sides spells
-            (in_calendars t g 2 (refused h.0) swap sides cal files
-            (in_fixings t g 2 (refused h.0) swap sides cal table rates (at_rule swap sides cal table h.0 h.1)));
-        verdict =
-            omega arith;
-      })
-
-  -- a broken rule of the swap is refused
-  pub refuse_rules : (swap : Swap) (sides : Option Sides) (cal : List Section) (table : RateTable) (r : Refusal)
-      → SpellsTask t g.document swap sides → CalFiles g.calendars cal → AreGivenFixings g.fixings table
-      → IfRefused r (IsUnscheduled swap cal (rates_for t table)) → IfRefused r (Ends (DueFor t g))
-  refuse_rules swap sides cal table r spells files rates h =
-      refused_more r (IsUnscheduled swap cal (rates_for t table)) (Ends (DueFor t g))
-      (rule_due swap sides cal table spells files rates) h
+-- the schedule that was made is the one schedule
+pub made_schedule : (swap : Swap) (cal : List Section) (table : RateTable) → IsLawfulSwap swap → KeepsTerms swap cal
+    → (parts : List Part) → (schedule_of swap cal table).Answers parts → IsSchedule swap cal table parts
+    → (one_schedule_of swap cal table).Answers parts
+made_schedule swap cal table lawful keeps parts made is =
+    let dated = answered_free (schedule_determined swap cal table lawful keeps) parts made in
+    let only = λ t h. one_schedule swap cal table lawful keeps dated t parts h is in
+    (tt, keeps, (tt, dated, record { is = is; only = only }))
 
 -- a schedule that cannot be made is refused
-pub refuse_making : (swap : Swap) (cal : List Section) (table : RateTable) (e : Stopped Broken) → IsLawfulSwap swap
-    → KeepsTerms swap cal → IfStopped e (DatedBroken swap cal table)
-    → IfRefused (of_stopped e) (IsUnscheduled swap cal table)
-refuse_making swap cal table (stopped.Broken b) lawful kept h =
-    let first : Only (DatedBroken swap cal table) b =
-    record { is = h; only = λ y k. one_broken swap cal table lawful kept y b k h } in
-    (b, inr (kept, first), (refl, refl))
-refuse_making swap cal table stopped.Memory lawful kept h = tt
-
--- files that pass, from what was read and made
-pub passes_by : (t : Task) (g : Given) (f : Facts) → SpellsTask t g.document f.swap f.sides → CalFiles g.calendars f.cal
-    → AreGivenFixings g.fixings f.table → IsScheduled f.swap f.cal (rates_for t f.table) f.parts → PassesEachStep t g f
-passes_by t g f document calendars fixings made =
-    record {
-      document = document;
-      calendars = calendars;
-      fixings = fixings;
-      terms = made.terms;
-      dated =
-          made.dated;
-      schedule = made.schedule;
-    }
+pub refuse_making : (swap : Swap) (cal : List Section) (table : RateTable) (e : Stopped Broken) → KeepsTerms swap cal
+    → IfStopped e (DatedBroken swap cal table) → RefusedBy (one_schedule_of swap cal table) (of_stopped e)
+refuse_making swap cal table (stopped.Broken b) keeps h = inr (tt, keeps, inl (b, h, refl))
+refuse_making swap cal table stopped.Memory keeps h = tt
 
 -- a refusal's answer, where its reply has been made
 pub ends_by : (r : Refusal) (reply : Reply) (P : ℕ → List ℕ → Type 0)

@@ -15,15 +15,13 @@ use Rattle.irs_emit_xml.proofs.Stated.{states as states_in_xml}
 use Rattle.irs_answers.specs.Tasks.{IsAuditedYes}
 use Rattle.irs_answers.specs.Forms.{SourceText, json_text, xml_text}
 use Rattle.irs_answers.specs.Private.Outcomes.{SpellsFlows}
-use Rattle.irs_answers.proofs.FlowLemmas.{due_verdict}
 
 -- the audit of a text that states the flows of the schedule is yes
 audited : (w : SourceText) (s : List Part) → SpellsFlows w (stated_flows s)
     → IsVerdict (stated_flows s) s (Yes (row_count s) (unfixed_count s)) → IsAuditedYes s w
 audited w s spells is =
     let v : Verdict = Yes (row_count s) (unfixed_count s) in
-    let ends = due_verdict w s (stated_flows s) v spells is (λ o h. one_verdict (stated_flows s) s o v h is) in
-    ends.due
+    (stated_flows s, spells, (v, record { is = is; only = λ o h. one_verdict (stated_flows s) s o v h is }, refl))
 
 -- the audit of the text that `emit` prints is yes
 pub json_audited : (s : List Part) → IsWithin s → IsAuditedYes s (json_text (emit_text s))

@@ -1,4 +1,5 @@
 pub mod PageLemmas
+pub mod Agreement
 pub mod FirstLemmas
 pub mod SameRates
 pub mod StepLemmas

@@ -5,7 +5,6 @@ use Rattle.std.specs.Prelude.{slice_get}
 use Rattle.std.proofs.lemmas.Option.{same_Some, slice_get_within}
 use Rattle.irs_base.specs.Outcomes.{in_stream, Only, Spec, each_in_turn, refused_as}
 use Rattle.irs_base.specs.Lists.{IsRising}
-use Rattle.irs_base.specs.declared.places.Broken.{Broken}
 use Rattle.irs_base.proofs.EveryLemmas.{pairs_length}
 use Rattle.irs_base.proofs.MemberLemmas.{numbered_map}
 use Rattle.irs_base.proofs.Outcomes.{answer_there}
@@ -27,7 +26,7 @@ use Rattle.irs_observed.specs.ObservedRates.{DailyRates, daily_rates, one_day}
 use Rattle.irs_observed.specs.OvernightRates.{OvernightSource, overnight_source, rates_source}
 use Rattle.irs_observed.specs.declared.overnight_rate.OvernightRate.{OvernightRate}
 use Rattle.irs_daily.specs.Laws.{NoneOutOfRange}
-use Rattle.irs_daily.specs.ObservedRows.{AreObservedRows, AreRowsOf, AreRowsOfKind, HasNoRows, observations_text}
+use Rattle.irs_daily.specs.ObservedRows.{AreObservedRows, AreRowsOf, AreRowsOfKind, HasNoRows}
 use Rattle.irs_daily.specs.declared.rows.NoRowsWhy.{NoRowsWhy}
 use Rattle.irs_daily.specs.declared.rows.ObservedRow.{ObservedRow}
 use Rattle.irs_daily.proofs.OneList.{one_list}
@@ -38,13 +37,10 @@ use Rattle.irs_schedule.specs.Schedules.{resets_over, schedule_of, stream_of, Is
 use Rattle.irs_schedule.specs.Parts.{Part, FactorPassesAt, resets_by, resets_in}
 use Rattle.irs_schedule.proofs.LayoutRules.{layout_kept}
 use Rattle.irs_schedule.proofs.OnePart.{one_schedule, schedule_determined, schedule_is}
-use Rattle.irs_answers.specs.Tasks.{Accruing, accruing, AreRowsIn, DailyStream, DueObservations, IsDailyAt, NotDaily}
-use Rattle.irs_answers.specs.Tasks.{ShowsRows, no_daily_stream, source_in}
+use Rattle.irs_answers.specs.Tasks.{Accruing, accruing, AreRowsIn, DailyStream, IsDailyAt, daily_of, observations_of}
+use Rattle.irs_answers.specs.Tasks.{source_in}
 use Rattle.irs_answers.specs.Private.Outcomes.{IsAccruing, daily_stream}
-use Rattle.irs_answers.specs.Messages.{refused}
-use Rattle.irs_answers.specs.Due.{Ends, IfRefused}
-use Rattle.irs_answers.specs.declared.refusals.Refusal.TheVariants.{Rule}
-use Rattle.irs_answers.proofs.StepLemmas.{only_more, read, step_next, unread}
+use Rattle.irs_answers.proofs.Agreement.{IsOne, Within, only_within, same_within, then_within}
 
 -- ---- the stream
 
@@ -85,32 +81,14 @@ module _ (n : ℕ) (x : Accruing) (parts : List Part) (y : DailyStream) where
   pub only_rows : (rows : List ObservedRow) → AreRowsIn n x parts y rows → Only (AreRowsIn n x parts y) rows
   only_rows rows are = record { is = are; only = λ b k. one_rows rows b are k }
 
--- ---- what is due, from what the calls answer
-
-module _ (n : ℕ) (x : Accruing) (parts : List Part) where
-  -- K49 is refused where there is no such stream with calculation parameters
-  pub refuse_plain : (b : Broken) → ((y : DailyStream) → IsDailyAt x.swap n y → ⊥) → b ≡ no_daily_stream n
-      → IfRefused (Rule b) (Ends (DueObservations n x parts))
-  refuse_plain b never e =
-      rw e (record {
-        due =
-            unread (IsDailyAt x.swap n) (NotDaily n 2 (refused (no_daily_stream n)))
-            (λ y. ShowsRows n x parts y 2 (refused (no_daily_stream n))) never (refl, refl);
-        verdict = omega arith;
-      })
-
-  -- the text of the rows is due
-  pub shows : (y : DailyStream) (rows : List ObservedRow) → IsDailyAt x.swap n y → AreRowsIn n x parts y rows
-      → Ends (DueObservations n x parts) 0 (observations_text n rows)
-  shows y rows at are =
-      let text = observations_text n rows in
-      let here : ShowsRows n x parts y 0 text = (rows, only_rows n x parts y rows are, (refl, refl)) in
-      record {
-        due = read (IsDailyAt x.swap n) (NotDaily n 0 text) (λ z. ShowsRows n x parts z 0 text) y at
-            (λ z other. subst (λ (w : DailyStream). ShowsRows n x parts w 0 text) (sym (one_daily x.swap n y z at other))
-            here);
-        verdict = omega arith;
-      }
+-- a number names one stream with calculation parameters, or none
+pub one_observed : (swap : Swap) (n : ℕ) → IsOne (daily_of swap n)
+one_observed swap n = record {
+  answers = λ x y h k. one_daily swap n y x k h;
+  refuses = λ b c h k. h.1 ∙ sym k.1;
+  apart = λ x b at none. none.0 x at;
+  back = λ x b none at. none.0 x at;
+}
 
 -- ---- rates alone
 
@@ -143,21 +121,13 @@ module _ (t u : RateTable) (e : SameRates t u) where
   }
 
 -- what is due depends on a table of rates by its rates alone
-pub observations_same : (t u : RateTable) → SameRates t u → (swap : Swap) (cal : List Section) (parts : List Part) (n : ℕ)
-    (status : ℕ) (text : List ℕ) → DueObservations n (accruing swap cal t) parts status text
-    → DueObservations n (accruing swap cal u) parts status text
-observations_same t u e swap cal parts n status text h =
+pub observations_within : (t u : RateTable) → SameRates t u → (swap : Swap) (cal : List Section) (parts : List Part) (n : ℕ)
+    → Within (observations_of n (accruing swap cal t) parts) (observations_of n (accruing swap cal u) parts)
+observations_within t u e swap cal parts n =
     let back : SameRates u t = λ index slot. sym (e index slot) in
-    let x = accruing swap cal t in
-    let z = accruing swap cal u in
-    step_next (IsDailyAt swap n) (NotDaily n status text) (λ y. ShowsRows n x parts y status text)
-    (λ y. ShowsRows n z parts y status text)
-    (λ y k. (
-      k.0,
-      only_more (AreRowsIn n x parts y) (AreRowsIn n z parts y) (rows_same t u e swap cal n parts y)
-          (rows_same u t back swap cal n parts y) k.0 k.1,
-      k.2,
-    )) h
+    then_within _ _ _ _ (same_within _) (λ y.
+    then_within _ _ _ _ (only_within _ _ (rows_same t u e swap cal n parts y) (rows_same u t back swap cal n parts y)) (λ rows.
+    same_within _))
 
 -- ---- a schedule that was made
 

@@ -4,6 +4,8 @@ use Rattle.std.proofs.Common.{ℤ, refl, sym, ap, subst, ◌∙◌, arith}
 use Rattle.std.specs.Prelude.{slice_get}
 use Rattle.std.proofs.lemmas.Option.{same_Some}
 use Rattle.irs_base.specs.Days.{IsDay}
+use Rattle.irs_base.specs.Lists.{HoldsOf}
+use Rattle.irs_base.specs.Outcomes.{Only, Spec, ◌>>=◌, given_by, refused_as}
 use Rattle.irs_base.specs.declared.places.Broken.{Broken}
 use Rattle.irs_base.specs.declared.places.Fault.{Fault}
 use Rattle.serde_json.specs.Data.{Data}
@@ -35,26 +37,21 @@ use Rattle.irs_average.specs.Interpolations.{HasStub, IsStubOn, Stub, StubAsked,
 use Rattle.irs_average.specs.declared.means.Mean.{Mean}
 use Rattle.irs_average.specs.declared.stubs.Side.{Side}
 use Rattle.irs_average.specs.declared.stubs.Side.TheVariants.{Initial, Last}
-use Rattle.irs_answers.specs.Derived.{DueAveraged, DueCompounded, DueStub, FloatingStream, IsFloatingAt, NotFloating}
-use Rattle.irs_answers.specs.Derived.{PrintsOne, PrintsStub, IsMadeWith}
-use Rattle.irs_answers.specs.Due.{Answered, AreGivenFixings as FixingsGive, DueFor, Facts, PassesEachStep, SpellsTask}
-use Rattle.irs_answers.specs.Due.{facts}
+use Rattle.irs_answers.specs.Derived.{FloatingStream, IsFloatingAt, PrintsStub, averaged_of, compounded_of, floating_of}
+use Rattle.irs_answers.specs.Derived.{printed, stub_of, HasRateOf, HasRowRates, IsMadeWith}
+use Rattle.irs_answers.specs.Due.{AreGivenFixings as FixingsGive, DueFor, Facts, PassesEachStep, SpellsTask, facts}
 use Rattle.irs_answers.specs.Forms.{Given}
 use Rattle.irs_answers.specs.PrintedRates.{IsKeptSchedule, AveragePrints, InterpolatePrints, OvernightPrints, asked_of}
 use Rattle.irs_answers.specs.PrintedRates.{with_fixings}
-use Rattle.irs_answers.specs.Messages.{Refuses, Rules, ReadStep}
+use Rattle.irs_answers.specs.Messages.{Answer, Gives, broken_rule, keeping}
 use Rattle.irs_answers.specs.declared.tasks.Task.{Task}
 use Rattle.irs_answers.specs.declared.tasks.Task.TheVariants.{Schedule, Overnight, Average, Interpolate}
 use Rattle.irs_answers.proofs.DerivedSchedules.{average_used, overnight_used, own_part, stub_period, stub_used}
-use Rattle.irs_answers.proofs.DueLemmas.{one_calendars, one_meaning, one_reading}
+use Rattle.irs_answers.proofs.DueLemmas.{means_lawful, one_calendars, one_meaning, one_reading, passes_due}
 use Rattle.irs_answers.proofs.KeptDerived.{derived_kept, fixing_is_day, means_kept, stub_kept}
 use Rattle.irs_answers.proofs.StubLemmas.{one_index}
 
 -- ---- what the files say
-
--- a document means a lawful swap
-means_lawful : (d : Data) (s : Swap) → Means d s → IsLawfulSwap s
-means_lawful d s m = document_lawful d m.at s m.clean m.found (means_read d s m)
 
 -- a document spells one swap, whatever the task needs
 one_swap : (t r : Task) (g h : Given) (f u : Facts) → g.document ≡ h.document → SpellsTask t g.document f.swap f.sides
@@ -91,16 +88,6 @@ made_with t g f u text other p q same =
       schedule = subst (λ (c : List Section). IsSchedule f.swap c u.table u.parts) cal by_swap;
     }
 
--- what is due for files that pass is the answer over their schedule
-answered_for : (t : Task) (g : Given) (f : Facts) (status : ℕ) (text : List ℕ) → PassesEachStep t g f → DueFor t g status text
-    → Answered t g (facts f.swap f.sides f.cal f.table f.parts) status text
-answered_for t g f status text p h =
-    let d = p.document in
-    let last = (((((((h.next d.value d.reads).next f.swap d.means).next f.sides d.has_sides).next f.cal
-    p.calendars).next f.table p.fixings).next p.terms).next p.dated) in
-    subst (λ (s : List Part). Answered t g (facts f.swap f.sides f.cal f.table s) status text)
-    (sym (last.1.only f.parts p.schedule.is)) last.2
-
 -- ---- the stream and its lines
 
 own_line : (swap : Swap) (number : ℕ) (x : FloatingStream) → IsLawfulSwap swap → IsFloatingAt swap number x
@@ -125,28 +112,30 @@ lawful_on Last (Some stubs) index tenor lawful gives = lawful_given stubs.last i
 
 -- ---- what is printed with status 0
 
-not_two : (status : ℕ) → status ≡ 0 → status ≡ 2 → ⊥
-not_two status a b = omega (arith, a, b)
+-- what is printed with status 0 is no refusal
+not_broken : {A : Type 0} (spec : Spec A Broken) (text : List ℕ) → (refused_as broken_rule spec).Refuses (0, text) → ⊥
+not_broken spec text (b, is, e) = let low : 0 ≡ 2 = ap (λ (a : Answer). a.0) e in absurd (omega (arith, low))
 
--- the floating stream is there, and what is due for it is due
-record Floated (swap : Swap) (number : ℕ) (Next : FloatingStream → Type 0) : Type 0 where
-  stream : FloatingStream
-  floats : IsFloatingAt swap number stream
-  next : Next stream
+-- the stream is there, and what comes after it is printed
+floated : (swap : Swap) (number : ℕ) (next : FloatingStream → Spec Answer Answer) (text : List ℕ)
+    → Gives (refused_as broken_rule (floating_of swap number) >>= next) 0 text
+    → (x : FloatingStream) × IsFloatingAt swap number x × Gives (next x) 0 text
+floated swap number next text (inl (x, at, told)) = (x, at, inl told)
+floated swap number next text (inr (inl none)) = absurd (not_broken (floating_of swap number) text none)
+floated swap number next text (inr (inr (x, at, told))) = (x, at, inr told)
 
-floated : (swap : Swap) (number : ℕ) (text : List ℕ) (Next : FloatingStream → Type 0)
-    → ReadStep (IsFloatingAt swap number) (NotFloating number 0 text) Next → Floated swap number Next
-floated swap number text Next h = elim h.case [
-  | inl none ↦ absurd (not_two 0 refl (h.fails none).0)
-  | inr there ↦ record { stream = there.0; floats = there.1; next = h.next there.0 there.1 }
-]
+-- the rules are kept, and what comes after them is answered
+kept_next : (Keeps : Type 0) (P : Broken → Type 0) (spec : Spec Answer Answer) (text : List ℕ)
+    → ((a : Answer) → spec.Refuses a → ⊥) → Gives (refused_as broken_rule (keeping Keeps P) >>= λ _. spec) 0 text
+    → Keeps × spec.Answers (0, text)
+kept_next Keeps P spec text free (inl (_, keeps, told)) = (keeps, told)
+kept_next Keeps P spec text free (inr (inl broken)) = absurd (not_broken (keeping Keeps P) text broken)
+kept_next Keeps P spec text free (inr (inr (_, keeps, told))) = absurd (free (0, text) told)
 
-kept_next : (Keeps : Type 0) (P : Broken → Type 0) (text : List ℕ) (Next : Type 0)
-    → Rules Keeps (Refuses P 0 text) Next → Keeps × ((_ : Keeps) → Next)
-kept_next Keeps P text Next h = elim h.case [
-  | inl broken ↦ absurd (not_two 0 refl (h.fails broken).2.0)
-  | inr keeps ↦ (keeps, h.next)
-]
+-- printing rows refuses nothing
+printed_free : (P : List DerivedRow → Type 0) (float : FloatTerms) (a : Answer) → (printed P float).Refuses a → ⊥
+printed_free P float a (inl none) = none
+printed_free P float a (inr (rows, is, none)) = none
 
 module _ (t : Task) (g : Given) (f : Facts) (p : PassesEachStep t g f) (kept : IsKeptSchedule f.swap f.cal [] f.parts)
     (number : ℕ) (x : FloatingStream) (at : IsFloatingAt f.swap number x) where
@@ -220,22 +209,22 @@ overnight_prints number g f text p due =
       dated = p.dated;
       schedule = p.schedule.is;
     } in
-    let x = floated f.swap number text
-    (λ y. DueCompounded (asked_of f number y) y.float 0 text) (answered_for t g f 0 text p due) in
-    let a = asked_of f number x.stream in
-    let rules = kept_next (OvernightKept a) (IsFirstDerived a) text (PrintsOne (IsOvernight a) x.stream.float 0 text)
-    x.next in
-    let rows = rules.1 rules.0 in
-    let file = overnight_file t g f p kept number x.stream x.floats rows.0 rules.0 rows.1.is in
+    let x = floated f.swap number (λ y. compounded_of (asked_of f number y) y.float) text (passes_due t g f p 0 text due) in
+    let a = asked_of f number x.0 in
+    let told = kept_next (OvernightKept a) (IsFirstDerived a) (printed (IsOvernight a) x.0.float) text
+    (printed_free (IsOvernight a) x.0.float) x.2 in
+    let rows = told.1 in
+    let text_is = ap (λ (a : Answer). a.1) rows.2 in
+    let file = overnight_file t g f p kept number x.0 x.1 rows.0 told.0 rows.1.is in
     record {
-      stream = x.stream;
-      floats = x.floats;
+      stream = x.0;
+      floats = x.1;
       rows = rows.0;
       only = rows.1;
-      printed = rows.2.1;
+      printed = text_is;
       file = file;
-      used = λ u q. overnight_used f.swap f.cal f.parts kept number x.stream x.floats f.table rows.0 rules.0 rows.1.is
-          file u.parts (made_with t g f u text (file_text rows.0 x.stream.float.tenor x.stream.float.index) p q rows.2.1);
+      used = λ u q. overnight_used f.swap f.cal f.parts kept number x.0 x.1 f.table rows.0 told.0 rows.1.is
+          file u.parts (made_with t g f u text (file_text rows.0 x.0.float.tenor x.0.float.index) p q text_is);
     }
 
 pub average_prints : (number : ℕ) (mean : Mean) (step : ℕ) (g : Given) (f : Facts) (text : List ℕ)
@@ -248,23 +237,24 @@ average_prints number mean step g f text p due =
       dated = p.dated;
       schedule = p.schedule.is;
     } in
-    let x = floated f.swap number text
-    (λ y. DueAveraged (averaged (asked_of f number y) mean step) y.float 0 text) (answered_for t g f 0 text p due) in
-    let a = averaged (asked_of f number x.stream) mean step in
-    let rules = kept_next (AverageKept a) (IsFirstOfAverage a) text (PrintsOne (IsAverage a) x.stream.float 0 text)
-    x.next in
-    let rows = rules.1 rules.0 in
+    let x = floated f.swap number (λ y. averaged_of (averaged (asked_of f number y) mean step) y.float) text
+    (passes_due t g f p 0 text due) in
+    let a = averaged (asked_of f number x.0) mean step in
+    let told = kept_next (AverageKept a) (IsFirstOfAverage a) (printed (IsAverage a) x.0.float) text
+    (printed_free (IsAverage a) x.0.float) x.2 in
+    let rows = told.1 in
+    let text_is = ap (λ (a : Answer). a.1) rows.2 in
     let small = fixings_small g.fixings f.table p.fixings in
-    let file = average_file t g f p kept number x.stream x.floats mean step rows.0 small rules.0 rows.1.is in
+    let file = average_file t g f p kept number x.0 x.1 mean step rows.0 small told.0 rows.1.is in
     record {
-      stream = x.stream;
-      floats = x.floats;
+      stream = x.0;
+      floats = x.1;
       rows = rows.0;
       only = rows.1;
-      printed = rows.2.1;
+      printed = text_is;
       file = file;
-      used = λ u q. average_used f.swap f.cal f.parts kept number x.stream x.floats f.table mean step rows.0 rules.0
-          rows.1.is file u.parts (made_with t g f u text (file_text rows.0 x.stream.float.tenor x.stream.float.index) p q rows.2.1);
+      used = λ u q. average_used f.swap f.cal f.parts kept number x.0 x.1 f.table mean step rows.0 told.0
+          rows.1.is file u.parts (made_with t g f u text (file_text rows.0 x.0.float.tenor x.0.float.index) p q text_is);
     }
 
 pub interpolate_prints : (number : ℕ) (side : Side) (low high : Frequency) (g : Given) (f : Facts) (text : List ℕ)
@@ -278,23 +268,27 @@ interpolate_prints number side low high g f text p due =
       schedule = p.schedule.is;
     } in
     let a : StubAsked = stub_asked f.swap number side low high f.parts f.table in
-    let x = floated f.swap number text (λ y. DueStub a 0 text) (answered_for t g f 0 text p due) in
-    let rules = kept_next (StubKept a) (IsStubBroken a) text (PrintsStub a 0 text) x.next in
-    let row = rules.1 rules.0 in
+    let x = floated f.swap number (λ y. stub_of a) text (passes_due t g f p 0 text due) in
+    let told = kept_next (StubKept a) (IsStubBroken a) (given_by (Only (IsInterpolated a)) >>= λ r. given_by (PrintsStub a r)) text
+    (λ b none. elim none [
+      | inl no ↦ no
+      | inr no ↦ no.2
+    ]) x.2 in
+    let row = told.1 in
     let is : IsInterpolated a row.0 = row.1.is in
     let stub = is.stub in
     let said = one_index f.swap number side row.2.0 stub.source.index row.2.1.0 stub.tenor row.2.1.1 is.has.gives in
-    let printed : text ≡ file_text (row.0 ∷ []) stub.tenor stub.source.index =
-    row.2.1.2.1 ∙ (λ i. file_text (row.0 ∷ []) (sym said.1 i) (sym said.0 i)) in
+    let text_is : text ≡ file_text (row.0 ∷ []) stub.tenor stub.source.index =
+    ap (λ (b : Answer). b.1) row.2.1.2 ∙ (λ i. file_text (row.0 ∷ []) (sym said.1 i) (sym said.0 i)) in
     let small = fixings_small g.fixings f.table p.fixings in
-    let file = stub_file t g f p kept number x.stream x.floats side low high row.0 stub small is.has is.is in
+    let file = stub_file t g f p kept number x.0 x.1 side low high row.0 stub small is.has is.is in
     record {
       row = row.0;
       only = row.1;
       stub = stub;
       has = is.has;
-      printed = printed;
+      printed = text_is;
       file = file;
-      used = λ u q. stub_used f.swap f.cal f.parts kept number x.stream x.floats f.table side low high row.0 stub is
-          is.has file u.parts (made_with t g f u text (file_text (row.0 ∷ []) stub.tenor stub.source.index) p q printed);
+      used = λ u q. stub_used f.swap f.cal f.parts kept number x.0 x.1 f.table side low high row.0 stub is
+          is.has file u.parts (made_with t g f u text (file_text (row.0 ∷ []) stub.tenor stub.source.index) p q text_is);
     }

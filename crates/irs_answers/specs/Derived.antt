@@ -1,6 +1,7 @@
 -- What is due for the tasks that derive rates, and schedules with derived rates.
 use Rattle.std.specs.Prelude.{◌≡◌, ℕ, ◌-◌, ◌≤◌, List, [], ◌∷◌, Option, Some, None, slice_get, length, ℤ}
-use Rattle.irs_base.specs.Outcomes.{Only}
+use Rattle.irs_base.specs.Outcomes.{Only, Spec, ◌>>=◌, answer, given_by, refused_as}
+use Rattle.irs_base.specs.declared.places.Broken.{Broken}
 use Rattle.irs_base.specs.Lists.{HoldsOf}
 use Rattle.irs_terms.specs.declared.amounts.FloatTerms.{FloatTerms}
 use Rattle.irs_terms.specs.declared.amounts.Leg.TheVariants.{Floating}
@@ -29,7 +30,7 @@ use Rattle.irs_average.specs.Interpolations.{IsInterpolated, IsStubBroken, StubK
 use Rattle.irs_average.specs.Interpolations.{HasStub, Stub}
 use Rattle.irs_average.specs.declared.means.Mean.{Mean}
 use Rattle.irs_average.specs.declared.stubs.Side.{Side}
-use Rattle.irs_answers.specs.Messages.{refused, Is, Refuses, Rules, ReadStep}
+use Rattle.irs_answers.specs.Messages.{Answer, broken_rule, keeping}
 
 -- ---- what is due for the tasks that derive rates for a floating stream: their own rules, then a fixing file
 
@@ -45,57 +46,61 @@ pub record IsFloatingAt (swap : Swap) (number : ℕ) (x : FloatingStream) : Type
   pub pays : x.stream.leg ≡ Floating x.float
   pub plain : x.float.parameters ≡ None
 
--- K40: the swap has no such stream, or it is fixed, or it has calculationParameters
-abbrev pub NotFloating : ℕ → ℕ → List ℕ → Type 0
-NotFloating number status text = Is 2 (refused (no_floating_stream number)) status text
+-- the stream with that number; or K40 where the swap has no such stream, or it is fixed, or it has calculationParameters
+abbrev pub floating_of : Swap → ℕ → Spec FloatingStream Broken
+floating_of swap number = record {
+  Answers = IsFloatingAt swap number;
+  Refuses = λ b. ((x : FloatingStream) → IsFloatingAt swap number x → ⊥) × (b ≡ no_floating_stream number);
+}
 
--- status 0, with these rows as a fixing file
-abbrev pub Prints : List DerivedRow → Option Frequency → List ℕ → ℕ → List ℕ → Type 0
-Prints rows tenor index status text = Is 0 (file_text rows tenor index) status text
-
--- the only list of rows, as a fixing file of the stream's own index and tenor
-abbrev pub PrintsOne : (P : List DerivedRow → Type 0) → FloatTerms → ℕ → List ℕ → Type 0
-PrintsOne P float status text = (rows : List DerivedRow) × Only P rows × Prints rows float.tenor float.index status text
+-- status 0, with the only list of rows as a fixing file of the stream's own index and tenor
+abbrev pub printed : (List DerivedRow → Type 0) → FloatTerms → Spec Answer Answer
+printed P float = do
+  rows ← given_by (Only P)
+  answer (0, file_text rows float.tenor float.index)
 
 -- K41 to K44, then the rates that daily rates give
-abbrev pub DueCompounded : OvernightAsked → FloatTerms → ℕ → List ℕ → Type 0
-DueCompounded a float status text =
-    Rules (OvernightKept a) (Refuses (IsFirstDerived a) status text) (PrintsOne (IsOvernight a) float status text)
+abbrev pub compounded_of : OvernightAsked → FloatTerms → Spec Answer Answer
+compounded_of a float = do
+  kept ← refused_as broken_rule (keeping (OvernightKept a) (IsFirstDerived a))
+  printed (IsOvernight a) float
 
 -- what is due for daily rates of the stream with that number
-abbrev pub DueOvernight : ℕ → Swap → List Section → RateTable → List Part → ℕ → List ℕ → Type 0
-DueOvernight number swap cal rates parts status text =
-    ReadStep (IsFloatingAt swap number) (NotFloating number status text)
-    (λ x. DueCompounded (asked swap number parts (reset_days cal x.stream) rates) x.float status text)
+abbrev pub overnight_of : ℕ → Swap → List Section → RateTable → List Part → Spec Answer Answer
+overnight_of number swap cal rates parts = do
+  x ← refused_as broken_rule (floating_of swap number)
+  compounded_of (asked swap number parts (reset_days cal x.stream) rates) x.float
 
 -- K41 and K43, then the averages
-abbrev pub DueAveraged : AverageAsked → FloatTerms → ℕ → List ℕ → Type 0
-DueAveraged a float status text =
-    Rules (AverageKept a) (Refuses (IsFirstOfAverage a) status text) (PrintsOne (IsAverage a) float status text)
+abbrev pub averaged_of : AverageAsked → FloatTerms → Spec Answer Answer
+averaged_of a float = do
+  kept ← refused_as broken_rule (keeping (AverageKept a) (IsFirstOfAverage a))
+  printed (IsAverage a) float
 
 -- what is due for averages of the stream with that number
-abbrev pub DueAverage : ℕ → Mean → ℕ → Swap → List Section → RateTable → List Part → ℕ → List ℕ → Type 0
-DueAverage number mean step swap cal rates parts status text =
-    ReadStep (IsFloatingAt swap number) (NotFloating number status text)
-    (λ x. DueAveraged (averaged (asked swap number parts (reset_days cal x.stream) rates) mean step) x.float
-    status text)
+abbrev pub average_of : ℕ → Mean → ℕ → Swap → List Section → RateTable → List Part → Spec Answer Answer
+average_of number mean step swap cal rates parts = do
+  x ← refused_as broken_rule (floating_of swap number)
+  averaged_of (averaged (asked swap number parts (reset_days cal x.stream) rates) mean step) x.float
 
--- the only row of a stub, as a fixing file of the index and the tenor of its `floatingRate`
-abbrev pub PrintsStub : StubAsked → ℕ → List ℕ → Type 0
-PrintsStub a status text =
-    (row : DerivedRow) × Only (IsInterpolated a) row
-    × ((index : List ℕ) × ((tenor : Option Frequency) × GivesIndex a.swap a.number a.side index tenor
-    × Prints (row ∷ []) tenor index status text))
+-- status 0, with the row as a fixing file of the index and the tenor of the stub's `floatingRate`
+abbrev pub PrintsStub : StubAsked → DerivedRow → Answer → Type 0
+PrintsStub a row x =
+    (index : List ℕ) × ((tenor : Option Frequency) × GivesIndex a.swap a.number a.side index tenor
+    × (x ≡ (0, file_text (row ∷ []) tenor index)))
 
--- K45 and K46, then the rate of the stub
-abbrev pub DueStub : StubAsked → ℕ → List ℕ → Type 0
-DueStub a status text = Rules (StubKept a) (Refuses (IsStubBroken a) status text) (PrintsStub a status text)
+-- K45 and K46, then the only row of the stub
+abbrev pub stub_of : StubAsked → Spec Answer Answer
+stub_of a = do
+  kept ← refused_as broken_rule (keeping (StubKept a) (IsStubBroken a))
+  row ← given_by (Only (IsInterpolated a))
+  given_by (PrintsStub a row)
 
 -- what is due for the stub of the stream with that number
-abbrev pub DueInterpolate : ℕ → Side → Frequency → Frequency → Swap → RateTable → List Part → ℕ → List ℕ → Type 0
-DueInterpolate number side low high swap rates parts status text =
-    ReadStep (IsFloatingAt swap number) (NotFloating number status text)
-    (λ x. DueStub (stub_asked swap number side low high parts rates) status text)
+abbrev pub interpolate_of : ℕ → Side → Frequency → Frequency → Swap → RateTable → List Part → Spec Answer Answer
+interpolate_of number side low high swap rates parts = do
+  x ← refused_as broken_rule (floating_of swap number)
+  stub_of (stub_asked swap number side low high parts rates)
 
 -- ---- a schedule made with derived rates
 -- `overnight`, `average` and `interpolate` print a fixing file, and the schedule is made with this file alone.

@@ -1,9 +1,9 @@
 -- What is due for a task and its files, and what the calls answer.
-use Rattle.std.specs.Prelude.{◌≡◌, ℕ, List, [], Option, Some, None, Bool, true, false, if◌then◌else◌, ◌⊎◌, ◌<◌, IfSome}
+use Rattle.std.specs.Prelude.{◌≡◌, ℕ, List, [], Option, Some, None, Bool, true, false, if◌then◌else◌, ◌<◌, IfSome}
 use Rattle.std.specs.Prelude.{option_map, Result, Ok, Err}
 use Rattle.serde_json.specs.Data.{Data}
+use Rattle.irs_base.specs.Outcomes.{Spec, ◌>>=◌, answer, given_by, refused_as, First, Only, is_before}
 use Rattle.irs_base.specs.declared.places.Broken.{Broken}
-use Rattle.irs_base.specs.Outcomes.{First, Only, is_before}
 use Rattle.irs_base.specs.declared.stopped.Stopped.{Stopped}
 use Rattle.irs_base.specs.declared.stopped.Stopped.TheVariants as stopped
 use Rattle.irs_terms.specs.declared.stream_list.Swap.{Swap}
@@ -11,7 +11,7 @@ use Rattle.irs_json.specs.declared.JsonErr.{JsonErr}
 use Rattle.irs_json.specs.declared.JsonErr.TheVariants as json
 use Rattle.irs_xml.specs.declared.XmlErr.{XmlErr}
 use Rattle.irs_xml.specs.declared.XmlErr.TheVariants as xml
-use Rattle.irs_read.specs.Documents.{DocumentFault, Means}
+use Rattle.irs_read.specs.Documents.{swap_of_document, Means}
 use Rattle.irs_flows.specs.declared.error.FlowErr.{FlowErr}
 use Rattle.irs_flows.specs.declared.error.ShapeKind.TheVariants.{NotJson}
 use Rattle.irs_flows.specs.declared.error.FlowErr.TheVariants as flowing
@@ -22,7 +22,7 @@ use Rattle.irs_resets.specs.FixingFiles.{IsFixingFault, IsFixingFile}
 use Rattle.irs_resets.specs.Rates.{RateTable}
 use Rattle.irs_resets.specs.declared.fixings.FixErr.{FixErr}
 use Rattle.irs_resets.specs.declared.fixings.FixErr.TheVariants as fixing
-use Rattle.irs_rules.specs.TermsRules.{BreaksTerms, IsFirstBrokenRule as IsFirstOfTerms}
+use Rattle.irs_rules.specs.TermsRules.{terms_of, BreaksTerms}
 use Rattle.irs_schedule.specs.Schedules.{DatedKept, DatedBroken, IsSchedule}
 use Rattle.irs_schedule.specs.Parts.{Part}
 use Rattle.irs_schedule.specs.RowsOf.{schedule_text}
@@ -30,15 +30,15 @@ use Rattle.irs_net.specs.Parties.{BreaksK8Of, SidesOf}
 use Rattle.irs_net.specs.declared.sides.Sides.{Sides}
 use Rattle.irs_emit.specs.Emitted.{emit_text}
 use Rattle.irs_emit_xml.specs.Flows.{flows_text}
-use Rattle.irs_answers.specs.Tasks.{TellsAccrued, accruing, DueBreaks, DueFlows, DueVerdict, nets, uses_rates, TellsNet}
-use Rattle.irs_answers.specs.Tasks.{DueObservations}
+use Rattle.irs_answers.specs.Tasks.{TellsAccrued, accruing, audit_of, breaks_of, nets, uses_rates, TellsNet}
+use Rattle.irs_answers.specs.Tasks.{observations_of}
 use Rattle.irs_answers.specs.declared.tasks.Task.{Task}
 use Rattle.irs_answers.specs.declared.tasks.Task.TheVariants.{Check, Schedule, Audit, Emit, Accrue, Net, Overnight}
 use Rattle.irs_answers.specs.declared.tasks.Task.TheVariants.{Average, Breaks, EmitXml, Interpolate, Observations}
-use Rattle.irs_answers.specs.Forms.{TextReads, SourceText, Given, IsUnread, files_given_by}
-use Rattle.irs_answers.specs.Messages.{refused, unreadable, bad_calendar, bad_fixings, all_kept, Is, Refuses, Rules}
-use Rattle.irs_answers.specs.Messages.{ReadStep, bad_flows, whole_document}
-use Rattle.irs_answers.specs.Derived.{DueAverage, DueInterpolate, DueOvernight}
+use Rattle.irs_answers.specs.Forms.{TextReads, SourceText, value_of, Given, IsUnread, files_given_by}
+use Rattle.irs_answers.specs.Messages.{unreadable, bad_calendar, bad_fixings, all_kept, Answer, Gives, broken_rule}
+use Rattle.irs_answers.specs.Messages.{keeping, refused, bad_flows, whole_document}
+use Rattle.irs_answers.specs.Derived.{average_of, interpolate_of, overnight_of}
 use Rattle.irs_answers.specs.declared.due.Found.{Found}
 use Rattle.irs_answers.specs.declared.forms.ReadErr.{ReadErr}
 use Rattle.irs_answers.specs.declared.refusals.Refusal.{Refusal}
@@ -48,7 +48,7 @@ use Rattle.irs_answers.specs.declared.common.Common.{Common}
 use Rattle.irs_answers.specs.declared.forms.ReadErr.TheVariants as reading
 use Rattle.irs_answers.specs.declared.forms.Unread.TheVariants as unread
 
--- ---- what is due for a task and its files: status and text, by the first step that applies
+-- ---- what is due for a task and its files: a status and a text, by steps in order
 
 -- the rates of a file of fixings, none without one
 abbrev pub AreGivenFixings : Option (List ℕ) → RateTable → Type 0
@@ -101,77 +101,84 @@ facts swap sides cal table parts = record { swap = swap; sides = sides; cal = ca
 
 -- ---- the last step of each task
 
--- what is due for a task where no rule is broken and the schedule is the only one
-abbrev pub Answered : Task → Given → Facts → ℕ → List ℕ → Type 0
-Answered Check g f status text = Is 0 all_kept status text
-Answered Schedule g f status text = Is 0 (schedule_text f.parts) status text
-Answered Audit g f status text = DueFlows (DueVerdict f.parts) g.flows status text
-Answered (Breaks from) g f status text = DueFlows (DueBreaks from f.parts) g.flows status text
-Answered Emit g f status text = Is 0 (emit_text f.parts) status text
-Answered EmitXml g f status text = Is 0 (flows_text f.parts) status text
-Answered (Accrue date) g f status text =
-    (status ≡ 0) × TellsAccrued date (accruing f.swap f.cal f.table) f.parts text
-Answered Net g f status text = (status ≡ 0) × TellsNet f.sides f.parts text
-Answered (Observations stream) g f status text =
-    DueObservations stream (accruing f.swap f.cal f.table) f.parts status text
-Answered (Overnight stream) g f status text = DueOvernight stream f.swap f.cal f.table f.parts status text
-Answered (Average stream mean step) g f status text =
-    DueAverage stream mean step f.swap f.cal f.table f.parts status text
-Answered (Interpolate stream side low high) g f status text =
-    DueInterpolate stream side low high f.swap f.table f.parts status text
+-- status 0, with a text that meets P
+abbrev pub told_by : (List ℕ → Type 0) → Spec Answer Answer
+told_by P = given_by (λ a. (a.0 ≡ 0) × P a.1)
 
--- ---- the steps that the tasks share, the last first
+-- what a task answers where no rule is broken and the schedule is the only one
+abbrev pub answer_for : Task → Given → Facts → Spec Answer Answer
+answer_for Check g f = answer (0, all_kept)
+answer_for Schedule g f = answer (0, schedule_text f.parts)
+answer_for Audit g f = audit_of f.parts g.flows
+answer_for (Breaks from) g f = breaks_of from f.parts g.flows
+answer_for Emit g f = answer (0, emit_text f.parts)
+answer_for EmitXml g f = answer (0, flows_text f.parts)
+answer_for (Accrue date) g f = told_by (TellsAccrued date (accruing f.swap f.cal f.table) f.parts)
+answer_for Net g f = told_by (TellsNet f.sides f.parts)
+answer_for (Observations stream) g f = observations_of stream (accruing f.swap f.cal f.table) f.parts
+answer_for (Overnight stream) g f = overnight_of stream f.swap f.cal f.table f.parts
+answer_for (Average stream mean step) g f = average_of stream mean step f.swap f.cal f.table f.parts
+answer_for (Interpolate stream side low high) g f = interpolate_of stream side low high f.swap f.table f.parts
 
--- what is due where no rule is broken
-abbrev pub DueKept : Task → Given → Swap → Option Sides → List Section → RateTable → ℕ → List ℕ → Type 0
-DueKept t g swap sides cal table status text =
-    (s : List Part) × Only (IsSchedule swap cal (rates_for t table)) s
-    × Answered t g (facts swap sides cal table s) status text
+-- ---- the steps that the tasks share
 
--- what is due from the rules of dates and amounts on: K30 to K39
-abbrev pub DueDated : Task → Given → Swap → Option Sides → List Section → RateTable → ℕ → List ℕ → Type 0
-DueDated t g swap sides cal table status text =
-    Rules (DatedKept swap cal (rates_for t table)) (Refuses (DatedBroken swap cal (rates_for t table)) status text)
-    (DueKept t g swap sides cal table status text)
+-- the sides of the streams, where the task needs them; or the first stream whose parties aren't those of the first
+abbrev pub sides_of : Task → Data → Spec (Option Sides) Broken
+sides_of t v = record {
+  Answers = HasSides t v;
+  Refuses = BreaksSides t v;
+}
 
--- what is due from the rules of the terms on: K10 to K21
-abbrev pub DueTerms : Task → Given → Swap → Option Sides → List Section → RateTable → ℕ → List ℕ → Type 0
-DueTerms t g swap sides cal table status text =
-    Rules (KeepsTerms swap cal) (Refuses (IsFirstOfTerms swap cal) status text)
-    (DueDated t g swap sides cal table status text)
+-- the sections of the calendar files, or their first line at fault
+abbrev pub sections_of : List (List ℕ) → Spec (List Section) Spot
+sections_of files = record {
+  Answers = CalFiles files;
+  Refuses = IsFirstCalendarFault files;
+}
 
--- what is due for a faulty file of fixings: its first line at fault
-abbrev pub BadFixings : Given → ℕ → List ℕ → Type 0
-BadFixings g status text = (f : FixErr) × Only (IsFixingsFault g.fixings) f × Is 3 (bad_fixings f) status text
+-- the rates of the file of fixings, or its first line at fault
+abbrev pub rates_of : Option (List ℕ) → Spec RateTable FixErr
+rates_of file = record {
+  Answers = AreGivenFixings file;
+  Refuses = IsFixingsFault file;
+}
 
--- what is due from the file of fixings on
-abbrev pub DueFixings : Task → Given → Swap → Option Sides → List Section → ℕ → List ℕ → Type 0
-DueFixings t g swap sides cal status text =
-    ReadStep (AreGivenFixings g.fixings) (BadFixings g status text) (λ table. DueTerms t g swap sides cal table status text)
+-- what is due where a line of a calendar file is at fault
+abbrev pub faulty_calendar : Spot → Answer
+faulty_calendar s = (3, bad_calendar s)
 
--- what is due for faulty calendar files: their first line at fault
-abbrev pub BadCalendars : Given → ℕ → List ℕ → Type 0
-BadCalendars g status text = (s : Spot) × Only (IsFirstCalendarFault g.calendars) s × Is 3 (bad_calendar s) status text
+-- what is due where a line of the file of fixings is at fault
+abbrev pub faulty_fixings : FixErr → Answer
+faulty_fixings f = (3, bad_fixings f)
 
--- what is due from the calendar files on
-abbrev pub DueCalendars : Task → Given → Swap → Option Sides → ℕ → List ℕ → Type 0
-DueCalendars t g swap sides status text =
-    ReadStep (CalFiles g.calendars) (BadCalendars g status text) (λ cal. DueFixings t g swap sides cal status text)
+-- the one schedule of a swap; or the first broken rule of its terms, then of its dates and amounts
+abbrev pub one_schedule_of : Swap → List Section → RateTable → Spec (List Part) Answer
+one_schedule_of swap cal table = do
+  terms ← refused_as broken_rule (terms_of swap cal)
+  dates ← refused_as broken_rule (keeping (DatedKept swap cal table) (DatedBroken swap cal table))
+  given_by (Only (IsSchedule swap cal table))
 
--- what is due from the parties of the streams on: K8, where the task needs them
-abbrev pub DueSides : Task → Given → Data → Swap → ℕ → List ℕ → Type 0
-DueSides t g v swap status text =
-    ReadStep (HasSides t v) (Refuses (BreaksSides t v) status text) (λ sides. DueCalendars t g swap sides status text)
+-- what the files of a task say, and the schedule; or what is due for the first step that fails. K1: the document has
+-- no reading. Then come K2 to K7, K8, the calendars, the fixings, and the rules of the swap.
+unfoldable pub found_of : Task → Given → Spec Facts Answer
+found_of t g = do
+  value ← refused_as (λ _. broken_rule unreadable) (value_of g.document)
+  swap ← refused_as broken_rule (swap_of_document value)
+  sides ← refused_as broken_rule (sides_of t value)
+  cal ← refused_as faulty_calendar (sections_of g.calendars)
+  table ← refused_as faulty_fixings (rates_of g.fixings)
+  parts ← one_schedule_of swap cal (rates_for t table)
+  answer (facts swap sides cal table parts)
 
--- what is due from the document's value on: K2 to K7 where it means no swap
-abbrev pub DueDocument : Task → Given → Data → ℕ → List ℕ → Type 0
-DueDocument t g v status text =
-    ReadStep (Means v) (Refuses (First is_before (DocumentFault v)) status text) (λ swap. DueSides t g v swap status text)
+-- the task's own answer where every step passes, or what is due for the first that fails
+unfoldable pub due : Task → Given → Spec Answer Answer
+due t g = do
+  f ← found_of t g
+  answer_for t g f
 
--- what is due for a task and its files; K1: the document has no reading
+-- what is due for a task and its files
 abbrev pub DueFor : Task → Given → ℕ → List ℕ → Type 0
-DueFor t g status text =
-    ReadStep (TextReads g.document) (Is 2 (refused unreadable) status text) (λ v. DueDocument t g v status text)
+DueFor t g status text = Gives (due t g) status text
 
 -- the text has a reading, it means the swap, and these are the sides that the task needs
 pub record SpellsTask (t : Task) (document : SourceText) (swap : Swap) (sides : Option Sides) : Type 0 where
@@ -221,13 +228,9 @@ abbrev pub of_stopped : Stopped Broken → Refusal
 of_stopped (stopped.Broken b) = Rule b
 of_stopped stopped.Memory = Memory
 
--- a status and a text
-abbrev pub Answer : Type 0
-Answer = ℕ × List ℕ
-
 -- the answer of a faulty calendar file; none where memory ran out
 abbrev pub calendars_answer : CalErr → Option Answer
-calendars_answer e = option_map (λ s. (3, bad_calendar s)) (spot_of e)
+calendars_answer e = option_map faulty_calendar (spot_of e)
 
 -- the answer of a faulty file of fixings; none where memory ran out
 abbrev pub fixings_answer : FixErr → Option Answer
@@ -250,6 +253,15 @@ answer_of (UnreadableFlows u) = Some (3, bad_flows NotJson whole_document)
 answer_of (Flows e) = flows_answer e
 answer_of Memory = None
 
+-- the refusal is a right one, or memory ran out
+abbrev pub RefusedBy : {A : Type 0} → Spec A Answer → Refusal → Type 0
+RefusedBy spec r = IfSome (answer_of r) spec.Refuses
+
+-- a result is a right answer or a right refusal, or memory ran out
+abbrev pub MeetsTask : {A : Type 0} → Spec A Answer → Result A Refusal → Type 0
+MeetsTask spec (Ok a) = spec.Answers a
+MeetsTask spec (Err r) = RefusedBy spec r
+
 -- P holds of the refusal's answer, if it has one
 abbrev pub IfRefused : Refusal → (ℕ → List ℕ → Type 0) → Type 0
 IfRefused r P = IfSome (answer_of r) (λ a. P a.0 a.1)
@@ -269,24 +281,6 @@ FixingsFail bytes fixing.Memory = Unit {0}
 abbrev pub ReadFails : SourceText → ReadErr → Type 0
 ReadFails w (reading.Unreadable u) = IsUnread w u
 ReadFails w reading.Memory = Unit {0}
-
--- no rule of the swap is broken, and the schedule is the only one
-pub record IsScheduled (swap : Swap) (cal : List Section) (table : RateTable) (s : List Part) : Type 0 where
-  pub terms : KeepsTerms swap cal
-  pub dated : DatedKept swap cal table
-  pub schedule : Only (IsSchedule swap cal table) s
-
--- b is the first broken rule of the terms
-abbrev pub IsTermsFirst : Swap → List Section → Broken → Type 0
-IsTermsFirst swap cal b = Only (IsFirstOfTerms swap cal) b
-
--- b is the first broken rule of the swap
-abbrev pub IsRuleFirst : Swap → List Section → RateTable → Broken → Type 0
-IsRuleFirst swap cal table b = IsTermsFirst swap cal b ⊎ (KeepsTerms swap cal × Only (DatedBroken swap cal table) b)
-
--- the answer is the line of the first broken rule of the swap
-abbrev pub IsUnscheduled : Swap → List Section → RateTable → ℕ → List ℕ → Type 0
-IsUnscheduled swap cal table status text = (b : Broken) × IsRuleFirst swap cal table b × Is 2 (refused b) status text
 
 -- ---- what was read of the calendar files and of the file of fixings that tasks have in common
 

@@ -3,6 +3,7 @@ use Rattle.std.specs.Prelude.{◌≡◌, ℕ, ◌-◌, ◌^◌, ◌<◌, List, [
 use Rattle.std.specs.Prelude.{IfSome, ◌==◌, ◌||◌, nat_eq, Bool, false, not, ◌∷◌, Some, if◌then◌else◌}
 use Rattle.serde_json.specs.Data.{Data}
 use Rattle.std.specs.List.{find, starts_with}
+use Rattle.irs_base.specs.Outcomes.{Spec}
 use Rattle.irs_base.specs.Limits.{most_bytes, most_files}
 use Rattle.irs_json.specs.Reading.{LiesIn as LiesInJson, Reads}
 use Rattle.irs_xml.specs.Document.{XmlReads, LiesIn}
@@ -55,6 +56,13 @@ no_source_text = json_text []
 -- the text has a reading in its form
 abbrev pub IsReadable : SourceText → Type 0
 IsReadable w = (v : Data) × TextReads w v
+
+-- the value that the text means, or that it means none
+abbrev pub value_of : SourceText → Spec Data (Unit {0})
+value_of w = record {
+  Answers = TextReads w;
+  Refuses = λ _. ¬ (IsReadable w);
+}
 
 -- how a text has no reading is said in its form. The line and the column are those of a byte of the text or of its end.
 -- That is said of texts below 2^32 - 1 bytes

@@ -2,7 +2,7 @@
 use Rattle.std.specs.Prelude.{ℕ, List, [], ◌∷◌, ◌++◌, codes, decimal, ◌≡◌, ◌⊎◌, ◌<◌, ◌==◌, if◌then◌else◌}
 use Rattle.irs_base.specs.Elements.{document}
 use Rattle.irs_base.specs.Paths.{path_of}
-use Rattle.irs_base.specs.Outcomes.{rule_number, Only}
+use Rattle.irs_base.specs.Outcomes.{rule_number, Spec}
 use Rattle.irs_base.specs.declared.places.Broken.{Broken}
 use Rattle.irs_base.specs.declared.places.Rule.TheVariants.{K1}
 use Rattle.irs_base.specs.declared.places.Place.{Place}
@@ -175,29 +175,30 @@ reply_text (reply.Breaks text) = text.items
 reply_text (reply.Verdict w) = verdict_text w
 reply_text (reply.Refused r) = refusal_text r
 
--- ---- steps in order: each fails, or the next one decides
+-- ---- what a specification over a status and a text gives, and steps that are rules
+
+-- a status and a text
+abbrev pub Answer : Type 0
+Answer = ℕ × List ℕ
+
+-- the specification answers with the status and the text, or refuses with them
+abbrev pub Gives : Spec Answer Answer → ℕ → List ℕ → Type 0
+Gives spec status text = spec.Answers (status, text) ⊎ spec.Refuses (status, text)
 
 -- the status and the text are these
 abbrev pub Is : ℕ → List ℕ → ℕ → List ℕ → Type 0
 Is s t status text = (status ≡ s) × (text ≡ t)
 
--- a rule is broken: the text is the line of the only broken rule that meets P
-abbrev pub Refuses : (P : Broken → Type 0) → ℕ → List ℕ → Type 0
-Refuses P status text = (b : Broken) × Only P b × Is 2 (refused b) status text
+-- what is due where a rule is broken: the line of the rule
+abbrev pub broken_rule : Broken → Answer
+broken_rule b = (2, refused b)
 
--- a step that reads an x: Fails is due where there is none, and Next for each that there is
-pub record ReadStep {X : Type 0} (Reads : X → Type 0) (Fails : Type 0) (Next : X → Type 0) : Type 0 where
-  pub fails : ¬ ((x : X) × Reads x) → Fails
-  pub next : (x : X) → Reads x → Next x
-  -- one of these applies
-  pub case : ¬ ((x : X) × Reads x) ⊎ ((x : X) × Reads x)
-
--- rules: Fails is due where one is broken, otherwise Next
-pub record Rules (Keeps Fails Next : Type 0) : Type 0 where
-  pub fails : ¬ Keeps → Fails
-  pub next : Keeps → Next
-  -- one of these applies
-  pub case : ¬ Keeps ⊎ Keeps
+-- rules are kept, or one is the first that is broken
+abbrev pub keeping : Type 0 → (Broken → Type 0) → Spec (Unit {0}) Broken
+keeping Keeps IsFirst = record {
+  Answers = λ _. Keeps;
+  Refuses = IsFirst;
+}
 
 -- ---- what a reply says, for the sentence about it; and when that is said of a status and a text
 

@@ -4,7 +4,7 @@ use Rattle.std.specs.Prelude.{Option, ◌⊎◌}
 use Rattle.std.specs.List.{flat_map}
 use Rattle.serde_json.specs.Data.{Data}
 use Rattle.serde_json.specs.Written.{compact_text}
-use Rattle.irs_base.specs.Outcomes.{Only, fault_at, in_stream, First, is_before}
+use Rattle.irs_base.specs.Outcomes.{Only, fault_at, in_stream, Spec, ◌>>=◌, answer, given_by, refused_as}
 use Rattle.irs_base.specs.Texts.{day_text}
 use Rattle.irs_base.specs.Elements.{swap_stream}
 use Rattle.irs_base.specs.declared.places.Broken.{Broken}
@@ -18,8 +18,7 @@ use Rattle.irs_terms.specs.declared.parameters.CalculationParameters.{Calculatio
 use Rattle.irs_terms.specs.declared.results.Span.{Span}
 use Rattle.irs_json.specs.Reading.{Reads}
 use Rattle.irs_xml.specs.Document.{XmlReads}
-use Rattle.irs_flows.specs.FlowFaults.{FlowFault}
-use Rattle.irs_flows.specs.FlowReading.{FlowPart, FlowsOf, shape_kind_of}
+use Rattle.irs_flows.specs.FlowReading.{flows_of_document, FlowPart, shape_kind_of}
 use Rattle.irs_flows.specs.declared.error.ShapeKind.TheVariants.{NotJson}
 use Rattle.irs_calendar.specs.declared.sections.Section.{Section}
 use Rattle.irs_periods.specs.Spans.{Regular}
@@ -46,9 +45,9 @@ use Rattle.irs_breaks.specs.Findings.{Findings}
 use Rattle.irs_answers.specs.declared.tasks.Task.{Task}
 use Rattle.irs_answers.specs.declared.tasks.Task.TheVariants.{Check, Schedule, Audit, Emit, Accrue, Overnight, Average}
 use Rattle.irs_answers.specs.declared.tasks.Task.TheVariants.{Breaks, EmitXml, Interpolate, Observations}
-use Rattle.irs_answers.specs.Messages.{refused, Is, ReadStep, bad_flows, verdict_status, verdict_text, whole_document}
-use Rattle.irs_answers.specs.Messages.{unreadable}
-use Rattle.irs_answers.specs.Forms.{SourceText, TextReads}
+use Rattle.irs_answers.specs.Messages.{Answer, broken_rule, bad_flows, verdict_status, verdict_text, whole_document}
+use Rattle.irs_answers.specs.Messages.{unreadable, Gives}
+use Rattle.irs_answers.specs.Forms.{SourceText, value_of, xml_text}
 use Rattle.irs_answers.specs.declared.tasks.Task.TheVariants as task
 
 -- ---- what else the tasks need: rates in the schedule, and the sides of the streams; and the ranges of their
@@ -188,9 +187,12 @@ pub record IsDailyAt (swap : Swap) (number : ℕ) (y : DailyStream) : Type 0 whe
 abbrev pub no_daily_stream : ℕ → Broken
 no_daily_stream number = in_stream number (fault_at K49 swap_stream 0)
 
--- K49: the swap has no such stream, or it has no calculationParameters
-abbrev pub NotDaily : ℕ → ℕ → List ℕ → Type 0
-NotDaily number status text = Is 2 (refused (no_daily_stream number)) status text
+-- the stream with that number; or K49 where the swap has no such stream, or it has no calculationParameters
+abbrev pub daily_of : Swap → ℕ → Spec DailyStream Broken
+daily_of swap number = record {
+  Answers = IsDailyAt swap number;
+  Refuses = λ b. ((y : DailyStream) → IsDailyAt swap number y → ⊥) × (b ≡ no_daily_stream number);
+}
 
 -- what its observed rates are found from: its regular span, the adjusted boundaries of its part of the schedule, and
 -- its applicable business days
@@ -206,54 +208,52 @@ pub record AreRowsIn (number : ℕ) (x : Accruing) (parts : List Part) (y : Dail
   pub regular : Regular y.stream span
   pub are : AreObservedRows (source_in x.cal y span part) x.table rows
 
--- status 0, with the text of the only list of rows
-abbrev pub ShowsRows : ℕ → Accruing → List Part → DailyStream → ℕ → List ℕ → Type 0
-ShowsRows number x parts y status text =
-    (rows : List ObservedRow) × Only (AreRowsIn number x parts y) rows
-    × Is 0 (observations_text number rows) status text
-
--- what is due for the days that each rate of the stream with that number is made of
-abbrev pub DueObservations : ℕ → Accruing → List Part → ℕ → List ℕ → Type 0
-DueObservations number x parts status text =
-    ReadStep (IsDailyAt x.swap number) (NotDaily number status text) (λ y. ShowsRows number x parts y status text)
+-- the text of the only list of the days that each rate of the stream with that number is made of
+abbrev pub observations_of : ℕ → Accruing → List Part → Spec Answer Answer
+observations_of number x parts = do
+  y ← refused_as broken_rule (daily_of x.swap number)
+  rows ← given_by (Only (AreRowsIn number x parts y))
+  answer (0, observations_text number rows)
 
 -- ---- what is due for the tasks that read cash flows: the verdict of an audit, and the list of breaks
 
--- what is due for flows that are stated: a status and a text
-abbrev pub OfFlows : Type 1
-OfFlows = List FlowPart → ℕ → List ℕ → Type 0
+-- what is due where the flows have no reading
+abbrev pub unread_flows : Answer
+unread_flows = (3, bad_flows NotJson whole_document)
 
--- the first fault of a reading of flows
-abbrev pub BadFlows : Data → ℕ → List ℕ → Type 0
-BadFlows v status text =
-    (b : Broken) × Only (First is_before (FlowFault v)) b × Is 3 (bad_flows (shape_kind_of b.rule) b.place) status text
+-- what is due for the first fault of flows that have a reading
+abbrev pub faulty_flows : Broken → Answer
+faulty_flows b = (3, bad_flows (shape_kind_of b.rule) b.place)
 
--- what is due for flows that have a reading: its first fault, or what is due for the flows that it states
-abbrev pub DueStated : OfFlows → Data → ℕ → List ℕ → Type 0
-DueStated Due v status text = ReadStep (FlowsOf v) (BadFlows v status text) (λ flows. Due flows status text)
+-- the flows that a text states; or what is due where it has no reading, or for its first fault
+abbrev pub flows_in : SourceText → Spec (List FlowPart) Answer
+flows_in w = do
+  value ← refused_as (λ _. unread_flows) (value_of w)
+  refused_as faulty_flows (flows_of_document value)
 
--- what is due for the text of flows; `notjson` where it has no reading
-abbrev pub DueFlows : OfFlows → SourceText → ℕ → List ℕ → Type 0
-DueFlows Due w status text =
-    ReadStep (TextReads w) (Is 3 (bad_flows NotJson whole_document) status text) (λ v. DueStated Due v status text)
-
--- the only verdict on flows against a schedule
-abbrev pub DueVerdict : List Part → OfFlows
-DueVerdict s flows status text =
-    (w : Verdict) × Only (IsVerdict flows s) w × Is (verdict_status w) (verdict_text w) status text
+-- the line of the only verdict on the flows of a text against a schedule
+abbrev pub audit_of : List Part → SourceText → Spec Answer Answer
+audit_of s w = do
+  flows ← flows_in w
+  verdict ← given_by (Only (IsVerdict flows s))
+  answer (verdict_status verdict, verdict_text verdict)
 
 -- the audit of the text against the schedule is yes, with the counts of the schedule's rows
 abbrev pub IsAuditedYes : List Part → SourceText → Type 0
-IsAuditedYes s w = DueFlows (DueVerdict s) w 0 (verdict_text (Yes (row_count s) (unfixed_count s)))
+IsAuditedYes s w = (audit_of s w).Answers (0, verdict_text (Yes (row_count s) (unfixed_count s)))
 
 -- 1 where there is a break, and 0 where there is none
 abbrev pub IsStatusOf : Findings → ℕ → Type 0
 IsStatusOf list status = (HasBreak list × (status ≡ 1)) ⊎ (¬ (HasBreak list) × (status ≡ 0))
 
--- the only list of breaks between flows and a schedule, for what is due from a day on, or for all
-abbrev pub DueBreaks : Option ℤ → List Part → OfFlows
-DueBreaks from s flows status text =
-    (list : Findings) × Only (IsBreakList from s flows) list × IsStatusOf list status × (text ≡ breaks_text from list)
+-- the text of the only list of breaks between the flows of a text and a schedule, for what is due from a day on, or for
+-- all
+abbrev pub breaks_of : Option ℤ → List Part → SourceText → Spec Answer Answer
+breaks_of from s w = do
+  flows ← flows_in w
+  list ← given_by (Only (IsBreakList from s flows))
+  status ← given_by (IsStatusOf list)
+  answer (status, breaks_text from list)
 
 -- ---- what is due for `carrier`: the value of FpML XML as a JSON text
 
@@ -261,10 +261,15 @@ DueBreaks from s flows status text =
 abbrev pub carrier_text : Data → List ℕ
 carrier_text v = compact_text v ++ 10 ∷ []
 
--- what is due for the carrier of bytes; K1: they have no reading as FpML XML
+-- the text of the value that bytes mean as FpML XML; or K1 where they mean none
+abbrev pub carrier_of : List ℕ → Spec Answer Answer
+carrier_of bytes = do
+  value ← refused_as (λ _. broken_rule unreadable) (value_of (xml_text bytes))
+  answer (0, carrier_text value)
+
+-- what is due for the carrier of bytes
 abbrev pub DueCarrier : List ℕ → ℕ → List ℕ → Type 0
-DueCarrier bytes status text =
-    ReadStep (XmlReads bytes) (Is 2 (refused unreadable) status text) (λ v. Is 0 (carrier_text v) status text)
+DueCarrier bytes status text = Gives (carrier_of bytes) status text
 
 -- the text reads, as JSON, as the value that the bytes mean as FpML XML
 abbrev pub ReadsBack : List ℕ → List ℕ → Type 0

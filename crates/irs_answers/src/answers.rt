@@ -1,12 +1,13 @@
 //! The last step of each task, where no rule is broken.
-ghost use Rattle.std.specs.Prelude.{◌≡◌, IfOk};
+ghost use Rattle.std.specs.Prelude.{IfOk};
+ghost use Rattle.irs_base.specs.Outcomes.{answer};
 ghost use Rattle.irs_emit.specs.Emitted.{emit_text};
 ghost use Rattle.irs_emit_xml.specs.Flows.{flows_text};
-ghost use Rattle.irs_answers.specs.Tasks.{TellsAccrued, accruing, DueFlows, DueVerdict, IsLawfulTask};
-ghost use Rattle.irs_answers.specs.Private.Outcomes.{IsAccruing, JudgedIf, IfAnswered, IsCarriedOut, AllPlaced};
+ghost use Rattle.irs_answers.specs.Tasks.{TellsAccrued, accruing, audit_of, IsLawfulTask};
+ghost use Rattle.irs_answers.specs.Private.Outcomes.{IsAccruing, JudgedIf, MeetsReply, IsCarriedOut, AllPlaced};
 ghost use Rattle.irs_answers.specs.Private.Outcomes.{FlowsAlone, NoneUnread};
-ghost use Rattle.irs_answers.specs.Messages.{IsJudged, all_kept, Is};
-ghost use Rattle.irs_answers.specs.Due.{Answered, PassesEachStep, facts_by, Ends};
+ghost use Rattle.irs_answers.specs.Messages.{IsJudged, all_kept};
+ghost use Rattle.irs_answers.specs.Due.{PassesEachStep, answer_for, told_by, facts_by};
 ghost use Rattle.irs_answers.specs.Forms.{source_by, given_with};
 ghost use Rattle.irs_terms.specs.Lawful.{IsLawfulSwap};
 
@@ -40,8 +41,8 @@ pub(crate) fn answer_by(
     requires asked { IsLawfulTask task.now }
     requires lawful { IsLawfulSwap found.swap }
     requires passes { PassesEachStep task.now (given_with files.now common.now.files) (facts_by found) }
-    ensures due { IfAnswered result
-        (Ends (Answered task.now (given_with files.now common.now.files) (facts_by found.entry))) }
+    ensures meets { MeetsReply
+        (answer_for task.now (given_with files.now common.now.files) (facts_by found.entry)) result }
     ensures judged { JudgedIf task.now result }
     ensures carried { IfOk result IsCarriedOut }
     ensures placed { AllPlaced (source_by files.now.document) (source_by files.now.flows) result }
@@ -68,7 +69,7 @@ pub(crate) fn answer_by(
 }
 
 fn check_answer(alloc: Global) -> Result<Reply, Refusal>
-    ensures due { IfAnswered result (Ends (Is 0 all_kept)) }
+    ensures meets { MeetsReply (answer (0, all_kept)) result }
     ensures carried { IfOk result IsCarriedOut }
     ensures placed { NoneUnread result }
 {
@@ -76,7 +77,7 @@ fn check_answer(alloc: Global) -> Result<Reply, Refusal>
 }
 
 fn audit_answer(alloc: Global, flows: &Source, schedule: &Schedule) -> Result<Reply, Refusal>
-    ensures due { IfAnswered result (Ends (DueFlows (DueVerdict schedule.now) (source_by flows.now))) }
+    ensures meets { MeetsReply (audit_of schedule.now (source_by flows.now)) result }
     ensures judged { IfOk result IsJudged }
     ensures carried { IfOk result IsCarriedOut }
     ensures placed { FlowsAlone (source_by flows.now) result }
@@ -85,7 +86,7 @@ fn audit_answer(alloc: Global, flows: &Source, schedule: &Schedule) -> Result<Re
 }
 
 fn emit_answer(alloc: Global, schedule: &Schedule) -> Result<Reply, Refusal>
-    ensures due { IfAnswered result (Ends (Is 0 (emit_text schedule.now))) }
+    ensures meets { MeetsReply (answer (0, emit_text schedule.now)) result }
     ensures carried { IfOk result IsCarriedOut }
     ensures placed { NoneUnread result }
 {
@@ -93,7 +94,7 @@ fn emit_answer(alloc: Global, schedule: &Schedule) -> Result<Reply, Refusal>
 }
 
 fn emit_xml_answer(alloc: Global, schedule: &Schedule) -> Result<Reply, Refusal>
-    ensures due { IfAnswered result (Ends (Is 0 (flows_text schedule.now))) }
+    ensures meets { MeetsReply (answer (0, flows_text schedule.now)) result }
     ensures carried { IfOk result IsCarriedOut }
     ensures placed { NoneUnread result }
 {
@@ -102,8 +103,8 @@ fn emit_xml_answer(alloc: Global, schedule: &Schedule) -> Result<Reply, Refusal>
 
 fn accrue_answer(alloc: Global, found: &Found<'_>, date: Day) -> Result<Reply, Refusal>
     requires { IsAccruing (accruing found.now.swap found.now.calendars.now found.now.fixings.now) found.now.schedule }
-    ensures due { let x = accruing found.now.swap found.now.calendars.now found.now.fixings.now in
-        IfAnswered result (Ends (λ status text. (status ≡ 0) × TellsAccrued date x found.now.schedule text)) }
+    ensures meets { let x = accruing found.now.swap found.now.calendars.now found.now.fixings.now in
+        MeetsReply (told_by (TellsAccrued date x found.now.schedule)) result }
     ensures carried { IfOk result IsCarriedOut }
     ensures placed { NoneUnread result }
 {

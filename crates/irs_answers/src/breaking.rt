@@ -1,9 +1,8 @@
 //! The text of `breaks`: each break between cash flows and a schedule. Its format is our rule.
 ghost use Rattle.std.specs.Prelude.{◌≡◌, IfOk};
-ghost use Rattle.irs_answers.specs.Tasks.{DueBreaks, DueFlows, IsStatusOf};
+ghost use Rattle.irs_answers.specs.Tasks.{IsStatusOf, breaks_of};
 ghost use Rattle.irs_answers.specs.Forms.{source_by};
-ghost use Rattle.irs_answers.specs.Due.{Ends};
-ghost use Rattle.irs_answers.specs.Private.Outcomes.{IfAnswered, IsCarriedOut, FlowsAlone, IsOfReadText};
+ghost use Rattle.irs_answers.specs.Private.Outcomes.{MeetsReply, IsCarriedOut, FlowsAlone, IsOfReadText};
 ghost use Rattle.irs_answers.specs.Messages.{reply_status, reply_text};
 
 use crate::flows::stated_flows;
@@ -22,7 +21,7 @@ pub(crate) fn breaks_answer(
     flows: &Source,
     schedule: &Schedule,
 ) -> Result<Reply, Refusal>
-    ensures due { IfAnswered result (Ends (DueFlows (DueBreaks from.now schedule.now) (source_by flows.now))) }
+    ensures meets { MeetsReply (breaks_of from.now schedule.now (source_by flows.now)) result }
     ensures carried { IfOk result IsCarriedOut }
     ensures placed { FlowsAlone (source_by flows.now) result }
 {

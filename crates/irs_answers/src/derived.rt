@@ -6,9 +6,8 @@ ghost use Rattle.irs_terms.specs.Lawful.{IsLawfulTenor};
 ghost use Rattle.irs_average.specs.Averages.{most_step};
 ghost use Rattle.irs_overnight.specs.Overnight.{no_floating_stream};
 ghost use Rattle.irs_overnight.specs.Texts.{file_text};
-ghost use Rattle.irs_answers.specs.Derived.{DueAverage, DueInterpolate, DueOvernight, FloatingStream, IsFloatingAt};
-ghost use Rattle.irs_answers.specs.Private.Outcomes.{IsUnfixedSchedule, IfAnswered, IsCarriedOut, NoneUnread};
-ghost use Rattle.irs_answers.specs.Due.{Ends};
+ghost use Rattle.irs_answers.specs.Derived.{FloatingStream, IsFloatingAt, average_of, interpolate_of, overnight_of};
+ghost use Rattle.irs_answers.specs.Private.Outcomes.{IsUnfixedSchedule, MeetsReply, IsCarriedOut, NoneUnread};
 
 use crate::due::Found;
 use crate::refusals::Refusal;
@@ -27,8 +26,8 @@ pub(crate) fn overnight_answer(
     found: &Found<'_>,
 ) -> Result<Reply, Refusal>
     requires { IsUnfixedSchedule found.now.swap found.now.calendars.now found.now.schedule }
-    ensures due { IfAnswered result
-        (Ends (DueOvernight number found.now.swap found.now.calendars.now found.now.fixings.now found.now.schedule)) }
+    ensures meets { MeetsReply
+        (overnight_of number found.now.swap found.now.calendars.now found.now.fixings.now found.now.schedule) result }
     ensures carried { IfOk result IsCarriedOut }
     ensures placed { NoneUnread result }
 {
@@ -51,8 +50,8 @@ pub(crate) fn average_answer(
     requires some { 1 ≤ step }
     requires few { step ≤ most_step }
     requires unfixed { IsUnfixedSchedule found.now.swap found.now.calendars.now found.now.schedule }
-    ensures due { IfAnswered result
-        (Ends (DueAverage number mean step found.now.swap found.now.calendars.now found.now.fixings.now found.now.schedule)) }
+    ensures meets { let f = found.now in
+        MeetsReply (average_of number mean step f.swap f.calendars.now f.fixings.now f.schedule) result }
     ensures carried { IfOk result IsCarriedOut }
     ensures placed { NoneUnread result }
 {
@@ -87,8 +86,8 @@ pub(crate) fn interpolate_answer(
     requires low { IsLawfulTenor low }
     requires high { IsLawfulTenor high }
     requires unfixed { IsUnfixedSchedule found.now.swap found.now.calendars.now found.now.schedule }
-    ensures due { IfAnswered result
-        (Ends (DueInterpolate number side low high found.now.swap found.now.fixings.now found.now.schedule)) }
+    ensures meets { MeetsReply
+        (interpolate_of number side low high found.now.swap found.now.fixings.now found.now.schedule) result }
     ensures carried { IfOk result IsCarriedOut }
     ensures placed { NoneUnread result }
 {

@@ -1,12 +1,13 @@
 //! What a task over its files comes to: the steps that the tasks share.
 ghost use Rattle.std.specs.Prelude.{◌≡◌, Some, IfOk, IfErr};
 ghost use Rattle.serde_json.specs.View.{view};
+ghost use Rattle.irs_base.specs.Outcomes.{MeetsExactly};
 ghost use Rattle.irs_base.specs.declared.places.Broken.{Broken as BrokenRule};
 ghost use Rattle.irs_read.specs.Documents.{DocumentFault};
 ghost use Rattle.irs_terms.specs.Lawful.{IsLawfulSwap};
 ghost use Rattle.irs_answers.specs.Messages.{IsCauseOf, IsJudged, cause_of, reply_status, reply_text};
-ghost use Rattle.irs_answers.specs.Due.{AreRead, BreaksSides, DueFor, HasSides, PassesEachStep, rates_for, facts_by};
-ghost use Rattle.irs_answers.specs.Due.{Ends, IfRefused, IsScheduled, IsUnscheduled, answer_of};
+ghost use Rattle.irs_answers.specs.Due.{AreRead, DueFor, PassesEachStep, found_of, one_schedule_of, rates_for};
+ghost use Rattle.irs_answers.specs.Due.{sides_of, facts_by, Ends, IfRefused, MeetsTask, RefusedBy, answer_of};
 ghost use Rattle.irs_answers.specs.Forms.{IsWithinLimits, files_given_by, given_with, source_by, IsOtherwise};
 ghost use Rattle.irs_answers.specs.Forms.{IsPlacedRefusal, IsPlacedReply};
 ghost use Rattle.irs_answers.specs.Notes.{IsNoteOf, IsRefusalNote};
@@ -143,8 +144,7 @@ pub fn find<'a>(
     requires { AreRead common.now }
     ensures passes { IfOk result (λ f. PassesEachStep task (given_with files.now common.now.files) (facts_by f)) }
     ensures lawful { IfOk result (λ f. IsLawfulSwap f.swap) }
-    ensures refused { IfErr result
-        (λ r. IfRefused r (Ends (DueFor task (given_with files.now common.now.files)))) }
+    ensures refused { IfErr result (λ r. RefusedBy (found_of task (given_with files.now common.now.files)) r) }
     ensures placed { IfErr result (λ r. IsPlacedRefusal (source_by files.now.document) (source_by files.now.flows) r) }
 {
     let document = read_document(alloc, &files.document)?;
@@ -165,8 +165,7 @@ pub fn find<'a>(
 // Which party pays each stream, for a task that needs it.
 fn sides_for(task: &Task, document: &Value) -> Result<Option<Sides>, Broken>
     requires { (f : BrokenRule) → DocumentFault (view document.now) f → ⊥ }
-    ensures sides { IfOk result (λ o. HasSides task.now (view document.now) o) }
-    ensures broken { IfErr result (λ b. BreaksSides task.now (view document.now) b) }
+    ensures { MeetsExactly (sides_of task.now (view document.now)) result }
 {
     if task.nets() {
         Ok(Some(read_sides(document)?))
@@ -184,9 +183,7 @@ fn schedule_for(
     fixings: &Fixings,
 ) -> Result<Schedule, Refusal>
     requires { IsLawfulSwap swap.now }
-    ensures schedule { IfOk result (λ s. IsScheduled swap.now calendars.now (rates_for task.now fixings.now) s) }
-    ensures refused { IfErr result
-        (λ r. IfRefused r (IsUnscheduled swap.now calendars.now (rates_for task.now fixings.now))) }
+    ensures meets { MeetsTask (one_schedule_of swap.now calendars.now (rates_for task.now fixings.now)) result }
     ensures placed { IfErr result (λ r. IsOtherwise r) }
 {
     if task.uses_rates() {
@@ -204,8 +201,7 @@ pub fn schedule_of(
     fixings: &Fixings,
 ) -> Result<Schedule, Refusal>
     requires { IsLawfulSwap swap.now }
-    ensures schedule { IfOk result (λ s. IsScheduled swap.now calendars.now fixings.now s) }
-    ensures refused { IfErr result (λ r. IfRefused r (IsUnscheduled swap.now calendars.now fixings.now)) }
+    ensures meets { MeetsTask (one_schedule_of swap.now calendars.now fixings.now) result }
     ensures placed { IfErr result (λ r. IsOtherwise r) }
 {
     match check_terms(swap, calendars) {

@@ -1,9 +1,9 @@
 //! The cash flows of a task, and the verdict on them.
 ghost use Rattle.std.specs.Prelude.{IfOk, IfErr};
-ghost use Rattle.irs_answers.specs.Tasks.{DueFlows, DueVerdict};
+ghost use Rattle.irs_answers.specs.Tasks.{audit_of};
 ghost use Rattle.irs_answers.specs.Forms.{source_by};
 ghost use Rattle.irs_answers.specs.Messages.{verdict_status, verdict_text};
-ghost use Rattle.irs_answers.specs.Due.{Ends, IfRefused};
+ghost use Rattle.irs_answers.specs.Due.{RefusedBy};
 ghost use Rattle.irs_answers.specs.Private.Outcomes.{FlowsRefused, SpellsFlows, IsOfFlows};
 
 use crate::forms::{ReadErr, Source, read_document};
@@ -19,10 +19,9 @@ pub(crate) fn verdict_on(
     schedule: &Schedule,
     source: &Source,
 ) -> Result<Verdict, Refusal>
-    ensures verdict { IfOk result
-        (λ w. Ends (DueFlows (DueVerdict schedule.now) (source_by source.now)) (verdict_status w) (verdict_text w)) }
-    ensures refused { IfErr result
-        (λ r. IfRefused r (Ends (DueFlows (DueVerdict schedule.now) (source_by source.now)))) }
+    ensures verdict { let due = audit_of schedule.now (source_by source.now) in
+        IfOk result (λ w. due.Answers (verdict_status w, verdict_text w)) }
+    ensures refused { IfErr result (λ r. RefusedBy (audit_of schedule.now (source_by source.now)) r) }
     ensures placed { IfErr result (λ r. IsOfFlows (source_by source.now) r) }
 {
     let flows = stated_flows(alloc, source)?;

@@ -1,12 +1,14 @@
-//! Laws: the audit of emitted cash flows is yes, and every list in the relations of a schedule has the
-//! text that `schedule` prints.
+//! Laws: the audit of emitted cash flows is yes, every list in the relations of a schedule has the text that
+//! `schedule` prints, and what is due is all that is due.
 ghost use Rattle.std.specs.Prelude.{◌≡◌, ℕ, List};
+ghost use Rattle.irs_base.specs.Outcomes.{Determined};
 ghost use Rattle.irs_schedule.specs.Parts.{IsWithin, Part};
 ghost use Rattle.irs_emit.specs.Emitted.{emit_text};
 ghost use Rattle.irs_emit_xml.specs.Flows.{flows_text};
 ghost use Rattle.irs_answers.specs.Tasks.{IsAuditedYes};
-ghost use Rattle.irs_answers.specs.Due.{DueFor, Facts, IsTextOfEach, PassesEachStep};
+ghost use Rattle.irs_answers.specs.Due.{DueFor, Facts, IsTextOfEach, PassesEachStep, due};
 ghost use Rattle.irs_answers.specs.Forms.{json_text, xml_text, Given};
+ghost use Rattle.irs_answers.specs.declared.tasks.Task.{Task};
 ghost use Rattle.irs_answers.specs.declared.tasks.Task.TheVariants.{Schedule};
 
 /// The audit of emitted cash flows against their schedule is yes, with the number of its rows and that of its
@@ -24,4 +26,11 @@ pub fn emitted_flows_are_audited()
 pub fn every_schedule_has_the_printed_text()
     ensures { (g : Given) (f : Facts) (status : ℕ) (text : List ℕ) → PassesEachStep Schedule g f
         → DueFor Schedule g status text → (status ≡ 0) × IsTextOfEach f text }
+{}
+
+/// Where a status and a text are due for a task and its files, nothing else is: there is one answer and no refusal, or
+/// one refusal and no answer. The function does nothing; its contract is the law.
+pub fn one_outcome_is_due()
+    ensures { (task : Task) (g : Given) (status : ℕ) (text : List ℕ) → DueFor task g status text
+        → Determined (due task g) }
 {}

@@ -40,7 +40,9 @@ pub use files::TaskFiles;
 pub use forms::{Form, ReadErr, Source, Unread, read_document};
 pub use fronts::Front;
 pub use irs_locate::{Leaf, Shape};
-pub use laws::{emitted_flows_are_audited, every_schedule_has_the_printed_text};
+pub use laws::{
+    emitted_flows_are_audited, every_schedule_has_the_printed_text, one_outcome_is_due,
+};
 pub use listed::Listed;
 pub use misfits::Misfit;
 pub use notes::{Note, NotedReply, Unfixed};

@@ -4,8 +4,8 @@ ghost use Rattle.std.specs.Prelude.{◌≡◌, Some, length, IfOk};
 ghost use Rattle.irs_base.specs.Lists.{Every};
 ghost use Rattle.irs_net.specs.Nets.{NetRowHasPlaces};
 ghost use Rattle.irs_answers.specs.Tasks.{TellsNet, TellsNetOf, net_page};
-ghost use Rattle.irs_answers.specs.Private.Outcomes.{IsSided, IfAnswered, IsCarriedOut, NoneUnread};
-ghost use Rattle.irs_answers.specs.Due.{Ends};
+ghost use Rattle.irs_answers.specs.Private.Outcomes.{IsSided, MeetsReply, IsCarriedOut, NoneUnread};
+ghost use Rattle.irs_answers.specs.Due.{told_by};
 
 use crate::due::Found;
 use crate::refusals::Refusal;
@@ -18,8 +18,7 @@ use std::alloc::Global;
 /// The net of a schedule, by the sides that were read.
 pub(crate) fn net_answer(alloc: Global, found: &Found<'_>) -> Result<Reply, Refusal>
     requires { IsSided found.now.sides found.now.schedule }
-    ensures due { IfAnswered result
-        (Ends (λ status text. (status ≡ 0) × TellsNet found.now.sides found.now.schedule text)) }
+    ensures meets { MeetsReply (told_by (TellsNet found.now.sides found.now.schedule)) result }
     ensures carried { IfOk result IsCarriedOut }
     ensures placed { NoneUnread result }
 {

@@ -5,10 +5,9 @@ ghost use Rattle.irs_periods.specs.Boundaries.{HasSpan};
 ghost use Rattle.irs_periods.specs.Spans.{Regular};
 ghost use Rattle.irs_terms.specs.Lawful.{IsLawfulStream};
 ghost use Rattle.irs_terms.specs.TermDates.{FrequencySuits, DatesInOrder};
-ghost use Rattle.irs_answers.specs.Tasks.{accruing, AreRowsIn, DailyStream, DueObservations, IsDailyAt};
+ghost use Rattle.irs_answers.specs.Tasks.{accruing, AreRowsIn, DailyStream, IsDailyAt, observations_of};
 ghost use Rattle.irs_answers.specs.Tasks.{no_daily_stream as no_daily_stream_of};
-ghost use Rattle.irs_answers.specs.Private.Outcomes.{IsAccruing, daily_stream, IfAnswered, IsCarriedOut, NoneUnread};
-ghost use Rattle.irs_answers.specs.Due.{Ends};
+ghost use Rattle.irs_answers.specs.Private.Outcomes.{IsAccruing, daily_stream, MeetsReply, IsCarriedOut, NoneUnread};
 
 use crate::due::Found;
 use crate::refusals::Refusal;
@@ -28,8 +27,8 @@ pub(crate) fn observations_answer(
     found: &Found<'_>,
 ) -> Result<Reply, Refusal>
     requires { IsAccruing (accruing found.now.swap found.now.calendars.now found.now.fixings.now) found.now.schedule }
-    ensures due { let x = accruing found.now.swap found.now.calendars.now found.now.fixings.now in
-        IfAnswered result (Ends (DueObservations number x found.now.schedule)) }
+    ensures meets { let x = accruing found.now.swap found.now.calendars.now found.now.fixings.now in
+        MeetsReply (observations_of number x found.now.schedule) result }
     ensures carried { IfOk result IsCarriedOut }
     ensures placed { NoneUnread result }
 {

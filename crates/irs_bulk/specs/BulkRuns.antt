@@ -1,12 +1,13 @@
 -- What `bulk N` comes to, with its calendar and its line.
 use Rattle.std.specs.Prelude.{ℕ, zero, suc, ◌+◌, List, [], ◌∷◌, ◌++◌, codes, ◌*◌, ◌^◌, ◌≤◌, decimal, pos, ◌+ℤ◌}
-use Rattle.std.specs.Prelude.{unsigned_abs, ◌≡◌, ◌⊎◌, ◌<◌, Bool, true, false, Option, Some, None, ℤ, length, sum_by}
+use Rattle.std.specs.Prelude.{unsigned_abs, ◌≡◌, Bool, true, false, Option, Some, None, ℤ, length, sum_by}
 use Rattle.std.specs.List.{flat_map}
 use Rattle.std.specs.Fmt.{signed_decimal}
 use Rattle.irs_base.specs.Texts.{date_text, dec_text}
 use Rattle.irs_base.specs.Limits.{rounded}
 use Rattle.irs_base.specs.declared.line.Dec.{Dec}
 use Rattle.irs_base.specs.declared.rounding.Direction.TheVariants.{Nearest}
+use Rattle.irs_base.specs.Outcomes.{Spec, ◌>>=◌, answer, given_by}
 use Rattle.irs_schedule.specs.Parts.{Part}
 use Rattle.irs_schedule.specs.declared.entries.PaymentEntry.{PaymentEntry}
 use Rattle.irs_schedule.specs.declared.entries.PeriodEntry.{PeriodEntry}
@@ -15,9 +16,9 @@ use Rattle.irs_audit.specs.Verdicts.{IsVerdict}
 use Rattle.irs_audit.specs.declared.departures.Verdict.{Verdict}
 use Rattle.irs_audit.specs.declared.departures.Verdict.TheVariants.{Yes, No}
 use Rattle.irs_answers.specs.declared.tasks.Task.TheVariants.{Schedule}
-use Rattle.irs_answers.specs.Due.{DueFor, Facts, PassesEachStep}
+use Rattle.irs_answers.specs.Due.{found_of}
 use Rattle.irs_answers.specs.Forms.{json_text, no_source_text, Given}
-use Rattle.irs_answers.specs.Messages.{Is, ReadStep}
+use Rattle.irs_answers.specs.Messages.{Answer, Gives}
 use Rattle.irs_bulk.specs.Documents.{most_bulk, bulk_document_text}
 use Rattle.irs_bulk.specs.declared.summing.Sums.{Sums}
 use Rattle.irs_bulk.specs.declared.totals.Totals.{Totals}
@@ -117,7 +118,8 @@ all_days_from t (p ∷ ps) = all_days_from (days_added_from t p.periods) ps
 abbrev pub sums_in : List Part → Sums
 sums_in s = record { rows = sum_by payment_row_count s; total = total_from (pos 0) s; days = all_days_from (pos 0) s }
 
--- ---- what `bulk N` comes to: the first of its documents that has no schedule, or the sums over the schedules of all
+-- ---- what `bulk N` comes to: the sums over the schedules of all its documents, or what `schedule` says of the first
+-- that has none
 
 -- ---- the schedules of a document
 
@@ -132,17 +134,11 @@ files_of plain k =
           calendar_text ∷ [];
     }
 
--- what is due for `schedule` on these files
-abbrev pub DueSchedule : Bool → ℕ → ℕ → List ℕ → Type 0
-DueSchedule plain k status text = DueFor Schedule (files_of plain k) status text
-
--- document k, or its plain form, breaks no rule, and this is its one schedule
-abbrev pub IsScheduleOf : Bool → ℕ → List Part → Type 0
-IsScheduleOf plain k s = (f : Facts) × PassesEachStep Schedule (files_of plain k) f × (f.parts ≡ s)
-
--- document k has a schedule, and its plain form has one
-abbrev pub HasBoth : ℕ → Type 0
-HasBoth k = ((s : List Part) × IsScheduleOf false k s) × ((p : List Part) × IsScheduleOf true k p)
+-- the schedule of document k, or of its plain form; or what is due for `schedule` where there is none
+abbrev pub schedule_at : Bool → ℕ → Spec (List Part) Answer
+schedule_at plain k = do
+  f ← found_of Schedule (files_of plain k)
+  answer f.parts
 
 -- ---- what is added up
 
@@ -168,45 +164,33 @@ one_total s v = let sums = sums_in s in record {
 }
 
 -- what document k adds: by its schedule, and by the verdict against it on the flows that state the schedule of its
--- plain form
-pub record AddsDocument (k : ℕ) (t : Totals) : Type 0 where
-  pub schedule : List Part
-  pub of_document : IsScheduleOf false k schedule
-  pub plain : List Part
-  pub of_plain : IsScheduleOf true k plain
-  pub verdict : Verdict
-  pub is_verdict : IsVerdict (stated_flows plain) schedule verdict
-  pub adds : t ≡ one_total schedule verdict
+-- plain form. The document is refused before its plain form
+abbrev pub total_at : ℕ → Spec Totals Answer
+total_at k = do
+  schedule ← schedule_at false k
+  plain ← schedule_at true k
+  verdict ← given_by (IsVerdict (stated_flows plain) schedule)
+  answer (one_total schedule verdict)
 
--- the sums over the documents 1 to n
-abbrev pub AreSums : ℕ → Totals → Type 0
-AreSums zero t = t ≡ no_totals
-AreSums (suc k) t =
-    (before : Totals) × AreSums k before × ((more : Totals) × AddsDocument (suc k) more × (t ≡ both_totals before more))
+-- the sums over the documents 1 to n, or what is due for the first that has no schedule
+unfoldable pub totals_to : ℕ → Spec Totals Answer
+totals_to zero = answer no_totals
+totals_to (suc k) = do
+  before ← totals_to k
+  more ← total_at (suc k)
+  answer (both_totals before more)
 
 -- ---- what is due
 
--- of the documents 1 to n, document k is the first that has no schedule, or whose plain form has none
-pub record IsStop (n k : ℕ) : Type 0 where
-  pub low : 0 < k
-  pub high : k ≤ n
-  pub before : (j : ℕ) → 0 < j → j < k → HasBoth j
-  pub none : ¬ (HasBoth k)
-
--- what is due at document k: what `schedule` prints for it where it has no schedule, otherwise for its plain
--- form
-abbrev pub DueAt : ℕ → ℕ → List ℕ → Type 0
-DueAt k status text =
-    ReadStep (IsScheduleOf false k) (DueSchedule false k status text) (λ s. DueSchedule true k status text)
+-- the line of the sums, or what is due for the first document that has no schedule
+abbrev pub bulk_of : ℕ → Spec Answer Answer
+bulk_of n = do
+  totals ← totals_to n
+  answer (0, line_text totals)
 
 -- what is due for `bulk n`
-pub record DueBulk (n : ℕ) (status : ℕ) (text : List ℕ) : Type 0 where
-  -- a document has no schedule, or its plain form has none: the first such document answers
-  pub stops : (k : ℕ) → IsStop n k → DueAt k status text
-  -- otherwise the sums are printed
-  pub sums : (t : Totals) → AreSums n t → Is 0 (line_text t) status text
-  -- one of these applies
-  pub case : ((k : ℕ) × IsStop n k) ⊎ ((t : Totals) × AreSums n t)
+abbrev pub DueBulk : ℕ → ℕ → List ℕ → Type 0
+DueBulk n status text = Gives (bulk_of n) status text
 
 -- one status and one text are due for a run
 abbrev pub IsOneBulk : ℕ → Type 0

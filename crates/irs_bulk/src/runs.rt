@@ -4,14 +4,13 @@
 //! those of the calendar, as `schedule` reports them. The memory of one document is freed before the next.
 ghost use Rattle.std.specs.Prelude.{◌≡◌, ◌<◌, ◌≤◌, ◌^◌, [], ◌∷◌, map, IfErr, IfOk, IfSome};
 ghost use Rattle.irs_terms.specs.Lawful.{IsLawfulSwap};
-ghost use Rattle.irs_answers.specs.Due.{SpellsTask, Ends, IfRefused, IsScheduled, IsUnscheduled};
+ghost use Rattle.irs_answers.specs.Due.{SpellsTask, found_of, one_schedule_of, Ends, MeetsTask, RefusedBy};
 ghost use Rattle.irs_answers.specs.Forms.{json_text};
 ghost use Rattle.irs_answers.specs.Private.Outcomes.{IfAnswered};
 ghost use Rattle.irs_answers.specs.Messages.{reply_status, reply_text};
 ghost use Rattle.irs_answers.specs.declared.tasks.Task.TheVariants.{Schedule as OfSchedule};
-ghost use Rattle.irs_bulk.specs.BulkRuns.{calendar_text, AreRunTotals, line_text, AddsDocument, AreSums, DueAt};
-ghost use Rattle.irs_bulk.specs.BulkRuns.{DueBulk, DueSchedule, IsOneBulk, IsScheduleOf, agree_of, first_departing_row};
-ghost use Rattle.irs_bulk.specs.BulkRuns.{one_total};
+ghost use Rattle.irs_bulk.specs.BulkRuns.{calendar_text, AreRunTotals, line_text, DueBulk, IsOneBulk, files_of};
+ghost use Rattle.irs_bulk.specs.BulkRuns.{schedule_at, total_at, totals_to, agree_of, first_departing_row, one_total};
 ghost use Rattle.irs_bulk.specs.Private.BulkRuns.{IsCalendar, IsTable};
 ghost use Rattle.irs_bulk.specs.Documents.{bulk_document_text, most_bulk};
 
@@ -76,9 +75,8 @@ fn totals(
 ) -> Result<Totals, Refusal>
     requires few { n ≤ most_bulk }
     requires calendar { IsTable days.now }
-    ensures sums { IfOk result (AreSums n) }
+    ensures meets { MeetsTask (totals_to n) result }
     ensures run { IfOk result AreRunTotals }
-    ensures refused { IfErr result (λ r. IfRefused r (Ends (DueBulk n))) }
 {
     let mut totals = Totals::none();
     for before in 0..n {
@@ -173,10 +171,9 @@ fn one_total(
     requires low { 0 < k }
     requires high { k ≤ most_bulk }
     requires calendar { IsTable days.now }
-    ensures adds { IfOk result (AddsDocument k) }
+    ensures meets { MeetsTask (total_at k) result }
     ensures run { IfOk result AreRunTotals }
     ensures one { IfOk result (λ t. t.documents ≡ 1) }
-    ensures refused { IfErr result (λ r. IfRefused r (Ends (DueAt k))) }
 {
     let schedule = schedule_at(alloc, k, false, days)?;
     let plain = schedule_at(alloc, k, true, days)?;
@@ -193,8 +190,7 @@ fn schedule_at(
     requires low { 0 < k }
     requires high { k ≤ most_bulk }
     requires calendar { IsTable days.now }
-    ensures schedule { IfOk result (IsScheduleOf plain k) }
-    ensures refused { IfErr result (λ r. IfRefused r (Ends (DueSchedule plain k))) }
+    ensures { MeetsTask (schedule_at plain k) result }
 {
     let swap = swap_at(alloc, k, plain)?;
     match days {
@@ -211,8 +207,7 @@ fn schedule_by(
     fixings: &Fixings,
 ) -> Result<Schedule, Refusal>
     requires { IsLawfulSwap swap.now }
-    ensures schedule { IfOk result (λ s. IsScheduled swap.now days.now.sections fixings.now s) }
-    ensures refused { IfErr result (λ r. IfRefused r (IsUnscheduled swap.now days.now.sections fixings.now)) }
+    ensures { MeetsTask (one_schedule_of swap.now days.now.sections fixings.now) result }
 {
     match check_terms(swap, days.calendars()) {
         Some(broken) => Err(Refusal::Rule(broken)),
@@ -226,7 +221,7 @@ fn swap_at(alloc: Global, k: u32, plain: bool) -> Result<Swap, Refusal>
     requires high { k ≤ most_bulk }
     ensures spells { IfOk result (λ swap. SpellsTask OfSchedule (json_text (bulk_document_text plain k)) swap None) }
     ensures lawful { IfOk result IsLawfulSwap }
-    ensures refused { IfErr result (λ r. IfRefused r (Ends (DueSchedule plain k))) }
+    ensures refused { IfErr result (λ r. RefusedBy (found_of OfSchedule (files_of plain k)) r) }
 {
     let bytes = bulk_doc(alloc, k, plain)?;
     let form = Form::Json;

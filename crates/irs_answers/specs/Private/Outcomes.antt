@@ -2,6 +2,7 @@
 -- Of private functions: what the tasks come to.
 use Rattle.std.specs.Prelude.{List, ℕ, Result, IfOk, [], ◌≡◌, length, Option, Some, Ok, Err}
 use Rattle.serde_json.specs.Data.{Data}
+use Rattle.irs_base.specs.Outcomes.{Spec}
 use Rattle.irs_terms.specs.Lawful.{IsLawfulSwap}
 use Rattle.irs_terms.specs.declared.stream_list.Swap.{Swap}
 use Rattle.irs_terms.specs.declared.amounts.FloatTerms.{FloatTerms}
@@ -19,11 +20,11 @@ use Rattle.irs_answers.specs.Tasks.{Accruing, DailyStream}
 use Rattle.irs_answers.specs.declared.refusals.Refusal.{Refusal}
 use Rattle.irs_answers.specs.declared.replies.Reply.{Reply}
 use Rattle.irs_answers.specs.declared.tasks.Task.{Task}
-use Rattle.irs_answers.specs.Messages.{IsJudged, reply_status, reply_text}
-use Rattle.irs_answers.specs.Forms.{Given, IsUnread, TextReads, SourceText, IsPlacedRefusal, IsPlacedReply}
-use Rattle.irs_answers.specs.Due.{DueFor, IfRefused}
+use Rattle.irs_answers.specs.Messages.{IsJudged, reply_status, reply_text, Answer}
+use Rattle.irs_answers.specs.Forms.{IsUnread, TextReads, SourceText, IsPlacedRefusal, IsPlacedReply}
 use Rattle.irs_answers.specs.declared.refusals.Refusal.TheVariants.{Rule, Calendars, Fixings, Flows, Memory, Unreadable}
 use Rattle.irs_answers.specs.declared.refusals.Refusal.TheVariants.{UnreadableFlows}
+use Rattle.irs_answers.specs.Due.{IfRefused, RefusedBy}
 use Rattle.irs_answers.specs.declared.replies.Reply.TheVariants.{Text, Rows, Breaks, Verdict, Refused}
 use Rattle.irs_answers.specs.declared.tasks.Task.TheVariants as task
 
@@ -70,14 +71,6 @@ pub record IsUnfixedSchedule (swap : Swap) (cal : List Section) (parts : List Pa
   pub dated : DatedKept swap cal []
   pub schedule : IsSchedule swap cal [] parts
 
--- ---- what is due for a task and its files: status and text, by the first step that applies
-
--- ---- the steps that the tasks share, the last first
-
--- one status and one text are due for a task and its files
-abbrev pub IsOneDue : Task → Given → Type 0
-IsOneDue t g = (s u : ℕ) (x y : List ℕ) → DueFor t g s x → DueFor t g u y → (s ≡ u) × (x ≡ y)
-
 -- ---- the text of `net`: what falls due between the two parties, a line for each date and currency
 
 -- the sides were read, one for each stream
@@ -91,6 +84,11 @@ abbrev pub daily_stream : Stream → FloatTerms → CalculationParameters → Da
 daily_stream s float parameters = record { stream = s; float = float; parameters = parameters }
 
 -- ---- what a task comes to: a reply, or a refusal
+
+-- a reply is a right answer, or a refusal is a right one, or memory ran out
+abbrev pub MeetsReply : Spec Answer Answer → Result Reply Refusal → Type 0
+MeetsReply spec (Ok o) = spec.Answers (reply_status o, reply_text o)
+MeetsReply spec (Err r) = RefusedBy spec r
 
 -- P holds of the answer, if there is one
 abbrev pub IfAnswered : Result Reply Refusal → (ℕ → List ℕ → Type 0) → Type 0

@@ -6,8 +6,7 @@ use Rattle.irs_outside.specs.Outside.{Rose}
 use Rattle.irs_answers.specs.Forms.{most_calendars, files_given_by, no_files, too_many}
 use Rattle.irs_answers.specs.declared.files.TaskFiles.{TaskFiles}
 use Rattle.irs_answers.specs.Tasks.{IsLawfulTask}
-use Rattle.irs_answers.specs.Due.{Answer}
-use Rattle.irs_answers.specs.Messages.{reply_status, reply_text}
+use Rattle.irs_answers.specs.Messages.{Answer, reply_status, reply_text}
 use Rattle.irs_answers.specs.declared.notes.NotedReply.{NotedReply}
 use Rattle.irs_bulk.specs.Documents.{most_bulk}
 use Rattle.irs_cli.specs.declared.commands.Kind.{Kind}

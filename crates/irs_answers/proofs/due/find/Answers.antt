@@ -1,11 +1,9 @@
-use Rattle.serde_json.specs.Data.{Data}
 use Rattle.serde_json.specs.View.{view}
-use Rattle.irs_calendar.specs.Grammar.{CalFiles}
 use Rattle.irs_answers.specs.declared.refusals.Refusal.TheVariants.{Rule, Calendars, Fixings}
-use Rattle.irs_answers.specs.Due.{DueFor, SpellsTask, facts, IfRefused, Ends, of_read, of_stopped}
+use Rattle.irs_answers.specs.Due.{found_of, RefusedBy, of_read, of_stopped}
 use Rattle.irs_answers.specs.Forms.{source_by, given_with, IsPlacedRefusal}
 use Rattle.irs_answers.proofs.DueLemmas.{passes_by, refuse_text, refuse_read, refuse_sides, refuse_calendars}
-use Rattle.irs_answers.proofs.DueLemmas.{refuse_fixings, refuse_rules}
+use Rattle.irs_answers.proofs.DueLemmas.{refuse_fixings, refuse_rules, spells_by}
 use Rattle.irs_answers.proofs.StepLemmas.{refused_by}
 use Rattle.irs_answers.proofs.UnreadLemmas.{read_placed, stopped_placed}
 use Rattle.irs_answers.proofs.due.find.Goals as goal
@@ -16,7 +14,7 @@ returns-in_err-document-clause-refused c =
     let made = c.from_residual in
     let t = c.args.task in
     let g = given_with c.args.files.now c.args.common.now.files in
-    refused_by made.result (of_read e) (λ r. IfRefused r (Ends (DueFor t g))) made.ensures.0 made.ensures.1
+    refused_by made.result (of_read e) (RefusedBy (found_of t g)) made.ensures.0 made.ensures.1
     (refuse_text t g e c.in_err-document.ensures.fails)
 
 pub returns-in_err-document-clause-placed : goal.returns-in_err-document-clause-placed
@@ -34,10 +32,8 @@ returns-in_err-swap-clause-refused c =
     let made = c.from_residual-in_err-swap in
     let t = c.args.task in
     let g = given_with c.args.files.now c.args.common.now.files in
-    let v : Data = view c.in_ok-document.document in
-    refused_by made.result (of_stopped e) (λ r. IfRefused r (Ends (DueFor t g))) made.ensures.0 made.ensures.1
-    (refuse_read t g v e c.in_ok-document.ensures.reads
-    c.in_err-swap.ensures.broken)
+    refused_by made.result (of_stopped e) (RefusedBy (found_of t g)) made.ensures.0 made.ensures.1
+    (refuse_read t g (view c.in_ok-document.document) e c.in_ok-document.ensures.reads c.in_err-swap.ensures.broken)
 
 pub returns-in_err-swap-clause-placed : goal.returns-in_err-swap-clause-placed
 returns-in_err-swap-clause-placed c =
@@ -54,11 +50,9 @@ returns-in_err-sides-clause-refused c =
     let made = c.from_residual-in_err-sides in
     let t = c.args.task in
     let g = given_with c.args.files.now c.args.common.now.files in
-    let v : Data = view c.in_ok-document.document in
-    refused_by made.result (Rule e) (λ r. IfRefused r (Ends (DueFor t g))) made.ensures.0 made.ensures.1
-    (refuse_sides t g v c.in_ok-swap.swap e
-    c.in_ok-document.ensures.reads
-    c.in_ok-swap.ensures.means c.in_err-sides.ensures.broken)
+    refused_by made.result (Rule e) (RefusedBy (found_of t g)) made.ensures.0 made.ensures.1
+    (refuse_sides t g (view c.in_ok-document.document) c.in_ok-swap.swap e c.in_ok-document.ensures.reads
+    c.in_ok-swap.ensures.means c.in_err-sides.ensures)
 
 pub returns-in_err-calendars-clause-refused : goal.returns-in_err-calendars-clause-refused
 returns-in_err-calendars-clause-refused c =
@@ -66,20 +60,12 @@ returns-in_err-calendars-clause-refused c =
     let made = c.from_residual-in_err-calendars in
     let t = c.args.task in
     let g = given_with c.args.files.now c.args.common.now.files in
-    let v : Data = view c.in_ok-document.document in
     let swap = c.in_ok-swap.swap in
     let sides = c.in_ok-sides.sides in
-    let spells : SpellsTask t g.document swap sides =
-    record {
-      value = v;
-      reads =
-          c.in_ok-document.ensures.reads;
-      means =
-          c.in_ok-swap.ensures.means;
-      has_sides = c.in_ok-sides.ensures.sides;
-    } in
-    refused_by made.result (Calendars e) (λ r. IfRefused r (Ends (DueFor t g))) made.ensures.0 made.ensures.1
-    (refuse_calendars t g swap sides e spells c.in_err-calendars.ensures.first)
+    let spells = spells_by t g.document (view c.in_ok-document.document) swap sides c.in_ok-document.ensures.reads
+    c.in_ok-swap.ensures.means c.in_ok-sides.ensures in
+    refused_by made.result (Calendars e) (RefusedBy (found_of t g)) made.ensures.0 made.ensures.1
+    (refuse_calendars t g swap sides spells e c.in_err-calendars.ensures.first)
 
 pub returns-in_err-fixings-clause-refused : goal.returns-in_err-fixings-clause-refused
 returns-in_err-fixings-clause-refused c =
@@ -87,22 +73,13 @@ returns-in_err-fixings-clause-refused c =
     let made = c.from_residual-in_err-fixings in
     let t = c.args.task in
     let g = given_with c.args.files.now c.args.common.now.files in
-    let v : Data = view c.in_ok-document.document in
     let swap = c.in_ok-swap.swap in
     let sides = c.in_ok-sides.sides in
-    let cal = c.in_ok-calendars.calendars.now in
-    let spells : SpellsTask t g.document swap sides =
-    record {
-      value = v;
-      reads =
-          c.in_ok-document.ensures.reads;
-      means =
-          c.in_ok-swap.ensures.means;
-      has_sides = c.in_ok-sides.ensures.sides;
-    } in
-    let files : CalFiles g.calendars cal = c.in_ok-calendars.ensures.spelt in
-    refused_by made.result (Fixings e) (λ r. IfRefused r (Ends (DueFor t g))) made.ensures.0 made.ensures.1
-    (refuse_fixings t g swap sides cal e spells files c.in_err-fixings.ensures.fault)
+    let spells = spells_by t g.document (view c.in_ok-document.document) swap sides c.in_ok-document.ensures.reads
+    c.in_ok-swap.ensures.means c.in_ok-sides.ensures in
+    refused_by made.result (Fixings e) (RefusedBy (found_of t g)) made.ensures.0 made.ensures.1
+    (refuse_fixings t g swap sides spells c.in_ok-calendars.calendars.now c.in_ok-calendars.ensures.spelt e
+    c.in_err-fixings.ensures.fault)
 
 pub returns-in_err-schedule-clause-refused : goal.returns-in_err-schedule-clause-refused
 returns-in_err-schedule-clause-refused c =
@@ -110,23 +87,13 @@ returns-in_err-schedule-clause-refused c =
     let made = c.from_residual-in_err-schedule in
     let t = c.args.task in
     let g = given_with c.args.files.now c.args.common.now.files in
-    let v : Data = view c.in_ok-document.document in
     let swap = c.in_ok-swap.swap in
     let sides = c.in_ok-sides.sides in
-    let cal = c.in_ok-calendars.calendars.now in
-    let spells : SpellsTask t g.document swap sides =
-    record {
-      value = v;
-      reads =
-          c.in_ok-document.ensures.reads;
-      means =
-          c.in_ok-swap.ensures.means;
-      has_sides = c.in_ok-sides.ensures.sides;
-    } in
-    let files : CalFiles g.calendars cal = c.in_ok-calendars.ensures.spelt in
-    refused_by made.result e (λ r. IfRefused r (Ends (DueFor t g))) made.ensures.0 made.ensures.1
-    (refuse_rules t g swap sides cal c.in_ok-fixings.fixings.now e spells files c.in_ok-fixings.ensures.fixings
-    c.in_err-schedule.ensures.refused)
+    let spells = spells_by t g.document (view c.in_ok-document.document) swap sides c.in_ok-document.ensures.reads
+    c.in_ok-swap.ensures.means c.in_ok-sides.ensures in
+    refused_by made.result e (RefusedBy (found_of t g)) made.ensures.0 made.ensures.1
+    (refuse_rules t g swap sides spells c.in_ok-calendars.calendars.now c.in_ok-calendars.ensures.spelt
+    c.in_ok-fixings.fixings.now e c.in_ok-fixings.ensures.fixings c.in_err-schedule.ensures.meets)
 
 pub returns-in_err-schedule-clause-placed : goal.returns-in_err-schedule-clause-placed
 returns-in_err-schedule-clause-placed c =
@@ -141,19 +108,9 @@ pub returns-clause-passes : goal.returns-clause-passes
 returns-clause-passes c =
     let t = c.args.task in
     let g = given_with c.args.files.now c.args.common.now.files in
-    let v : Data = view c.in_ok-document.document in
     let swap = c.in_ok-swap.swap in
     let sides = c.in_ok-sides.sides in
-    let cal = c.in_ok-calendars.calendars.now in
-    let spells : SpellsTask t g.document swap sides =
-    record {
-      value = v;
-      reads =
-          c.in_ok-document.ensures.reads;
-      means =
-          c.in_ok-swap.ensures.means;
-      has_sides = c.in_ok-sides.ensures.sides;
-    } in
-    let files : CalFiles g.calendars cal = c.in_ok-calendars.ensures.spelt in
-    passes_by t g (facts swap sides cal c.in_ok-fixings.fixings.now c.in_ok-schedule.schedule) spells files
-    c.in_ok-fixings.ensures.fixings c.in_ok-schedule.ensures.schedule
+    let spells = spells_by t g.document (view c.in_ok-document.document) swap sides c.in_ok-document.ensures.reads
+    c.in_ok-swap.ensures.means c.in_ok-sides.ensures in
+    passes_by t g swap sides spells c.in_ok-calendars.calendars.now c.in_ok-calendars.ensures.spelt
+    c.in_ok-fixings.fixings.now c.in_ok-schedule.schedule c.in_ok-fixings.ensures.fixings c.in_ok-schedule.ensures.meets

@@ -1,8 +1,10 @@
-use Rattle.irs_answers.specs.Tasks.{DueFlows, DueVerdict}
+use Rattle.std.proofs.Common.{inl, refl}
+use Rattle.std.proofs.lemmas.Option.{IfSome_then}
+use Rattle.irs_answers.specs.Tasks.{audit_of}
 use Rattle.irs_answers.specs.Forms.{source_by}
-use Rattle.irs_answers.specs.Due.{Ends, IfRefused}
+use Rattle.irs_answers.specs.Due.{RefusedBy, answer_of}
 use Rattle.irs_answers.specs.Private.Outcomes.{IsOfFlows}
-use Rattle.irs_answers.proofs.FlowLemmas.{due_verdict, flows_placed, refuse_flows}
+use Rattle.irs_answers.proofs.FlowLemmas.{flows_placed, refuse_flows}
 use Rattle.irs_answers.proofs.StepLemmas.{refused_by}
 use Rattle.irs_answers.proofs.flows.verdict_on.Goals as goal
 
@@ -10,9 +12,9 @@ pub returns-in_err-flows-clause-refused : goal.returns-in_err-flows-clause-refus
 returns-in_err-flows-clause-refused c =
     let e = c.in_err-flows.field-0.0 in
     let file = source_by c.args.source.now in
-    let Due = DueVerdict c.args.schedule.now in
-    refused_by c.from_residual.result e (λ x. IfRefused x (Ends (DueFlows Due file))) c.from_residual.ensures.0
-    c.from_residual.ensures.1 (refuse_flows Due file e c.in_err-flows.ensures.fault)
+    refused_by c.from_residual.result e (RefusedBy (audit_of c.args.schedule.now file)) c.from_residual.ensures.0
+    c.from_residual.ensures.1
+    (IfSome_then (answer_of e) (refuse_flows file e c.in_err-flows.ensures.fault) (λ a r. inl r))
 
 pub returns-in_err-flows-clause-placed : goal.returns-in_err-flows-clause-placed
 returns-in_err-flows-clause-placed c =
@@ -23,5 +25,5 @@ returns-in_err-flows-clause-placed c =
 
 pub returns-clause-verdict : goal.returns-clause-verdict
 returns-clause-verdict c =
-    due_verdict (source_by c.args.source.now) c.args.schedule.now _ c.audit.result c.in_ok-flows.ensures.spells
-    c.audit.ensures.verdict c.audit.ensures.only
+    let only = record { is = c.audit.ensures.verdict; only = c.audit.ensures.only } in
+    (_, c.in_ok-flows.ensures.spells, (c.audit.result, only, refl))

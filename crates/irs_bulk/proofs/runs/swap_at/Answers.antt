@@ -2,11 +2,11 @@ use Rattle.std.proofs.Common.{◌≡◌, ℕ, List, refl, subst}
 use Rattle.serde_json.specs.Data.{Data}
 use Rattle.serde_json.specs.View.{view}
 use Rattle.irs_answers.specs.declared.tasks.Task.TheVariants.{Schedule}
+use Rattle.irs_answers.specs.Due.{found_of, ReadFails, RefusedBy, of_read, of_stopped}
 use Rattle.irs_answers.specs.Forms.{TextReads, json_text}
-use Rattle.irs_answers.specs.Due.{Ends, IfRefused, ReadFails, of_read, of_stopped}
 use Rattle.irs_answers.proofs.DueLemmas.{refuse_read, refuse_text}
 use Rattle.irs_answers.proofs.StepLemmas.{refused_by}
-use Rattle.irs_bulk.specs.BulkRuns.{DueSchedule, files_of}
+use Rattle.irs_bulk.specs.BulkRuns.{files_of}
 use Rattle.irs_bulk.specs.Documents.{bulk_document_text}
 use Rattle.irs_bulk.proofs.runs.swap_at.Goals as goal
 
@@ -17,7 +17,7 @@ returns-in_err-document-clause-refused c =
     let plain = c.args.plain in
     let k = c.args.k in
     let text : c.in_ok-bytes.bytes.items ≡ bulk_document_text plain k = c.in_ok-bytes.ensures in
-    refused_by made.result (of_read e) (λ r. IfRefused r (Ends (DueSchedule plain k))) made.ensures.0 made.ensures.1
+    refused_by made.result (of_read e) (RefusedBy (found_of Schedule (files_of plain k))) made.ensures.0 made.ensures.1
     (refuse_text Schedule (files_of plain k) e
     (subst (λ (l : List ℕ). ReadFails (json_text l) e) text c.in_err-document.ensures.fails))
 
@@ -29,7 +29,7 @@ returns-in_err-read_swap-clause-refused c =
     let k = c.args.k in
     let text : c.in_ok-bytes.bytes.items ≡ bulk_document_text plain k = c.in_ok-bytes.ensures in
     let v : Data = view c.in_ok-document.document in
-    refused_by made.result (of_stopped e) (λ r. IfRefused r (Ends (DueSchedule plain k))) made.ensures.0 made.ensures.1
+    refused_by made.result (of_stopped e) (RefusedBy (found_of Schedule (files_of plain k))) made.ensures.0 made.ensures.1
     (refuse_read Schedule (files_of plain k) v e
     (subst (λ (l : List ℕ). TextReads (json_text l) v) text c.in_ok-document.ensures.reads)
     c.in_err-read_swap.ensures.broken)
