@@ -18,9 +18,9 @@ use Rattle.irs_xml.specs.Document.{XmlReads, PlaceIn, ReadsNone}
 use Rattle.irs_xml.specs.declared.reading.XmlErr.{XmlErr}
 use Rattle.irs_xml.specs.declared.reading.XmlErr.TheVariants as xml
 use Rattle.irs_answers.specs.Tasks.{DueCarrier, ReadsBack, carrier_text}
-use Rattle.irs_answers.specs.Private.Outcomes.{MeansXml}
+use Rattle.irs_answers.specs.Private.Outcomes.{IfRefused, MeansXml}
 use Rattle.irs_answers.specs.Forms.{json_text, xml_text}
-use Rattle.irs_answers.specs.Due.{Ends, IfRefused, ReadFails, answer_of, of_json, of_read, of_xml}
+use Rattle.irs_answers.specs.Due.{Ends, ReadFails, answer_of, of_json, of_read, of_xml}
 use Rattle.irs_answers.specs.declared.forms.ReadErr.{ReadErr}
 use Rattle.irs_answers.specs.declared.forms.ReadErr.TheVariants as reading
 use Rattle.irs_answers.specs.Messages.{reply_status, reply_text}

@@ -47,8 +47,8 @@ use Rattle.irs_answers.specs.Messages.{reply_status, reply_text, Answer, Gives, 
 use Rattle.irs_answers.specs.Due.{SpellsTask, AreGivenFixings, BreaksSides, BreaksSidesIf, HasSides, KeepsTerms}
 use Rattle.irs_answers.specs.Due.{SidesIf, Facts, facts, DueFor, PassesEachStep, answer_for, rates_for, found_of, due}
 use Rattle.irs_answers.specs.Due.{one_schedule_of, rates_of, sections_of, sides_of, faulty_calendar, answer_of, of_read}
-use Rattle.irs_answers.specs.Due.{of_stopped, Ends, FixingsFail, IfRefused, RefusedBy, ReadFails}
-use Rattle.irs_answers.specs.Private.Outcomes.{IsCarriedOut}
+use Rattle.irs_answers.specs.Due.{of_stopped, Ends, FixingsFail, RefusedBy, ReadFails}
+use Rattle.irs_answers.specs.Private.Outcomes.{IfRefused, IsCarriedOut}
 use Rattle.irs_answers.proofs.AccrueSame.{accrued_same}
 use Rattle.irs_answers.proofs.Agreement.{Agree, IsOne, Within, answer_agree, given_agree, given_within, refused_as_agree}
 use Rattle.irs_answers.proofs.Agreement.{same_within, then_agree, then_one}

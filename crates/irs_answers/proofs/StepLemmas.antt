@@ -13,11 +13,11 @@ use Rattle.irs_answers.specs.declared.refusals.Refusal.TheVariants.{Unreadable, 
 use Rattle.irs_answers.specs.declared.replies.Reply.{Reply}
 use Rattle.irs_answers.specs.declared.replies.Reply.TheVariants.{Text, Rows, Breaks, Verdict, Refused}
 use Rattle.irs_audit.specs.declared.departures.Verdict.TheVariants.{Yes, No}
-use Rattle.irs_answers.specs.Due.{faulty_calendar, answer_of, fixings_answer, flows_answer, IfRefused, Ends, MeetsTask}
+use Rattle.irs_answers.specs.Due.{faulty_calendar, answer_of, fixings_answer, flows_answer, Ends, MeetsTask}
 use Rattle.irs_answers.specs.Due.{RefusedBy}
 use Rattle.irs_answers.specs.Messages.{Answer, reply_status, reply_text}
 use Rattle.irs_base.specs.Outcomes.{Spec}
-use Rattle.irs_answers.specs.Private.Outcomes.{IfAnswered, MeetsReply, IsCarriedOut}
+use Rattle.irs_answers.specs.Private.Outcomes.{IfRefused, IfAnswered, MeetsReply, IsCarriedOut}
 
 -- ---- the status of a reply and of a refusal
 

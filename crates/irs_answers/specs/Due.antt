@@ -262,10 +262,6 @@ abbrev pub MeetsTask : {A : Type 0} → Spec A Answer → Result A Refusal → T
 MeetsTask spec (Ok a) = spec.Answers a
 MeetsTask spec (Err r) = RefusedBy spec r
 
--- P holds of the refusal's answer, if it has one
-abbrev pub IfRefused : Refusal → (ℕ → List ℕ → Type 0) → Type 0
-IfRefused r P = IfSome (answer_of r) (λ a. P a.0 a.1)
-
 -- P holds of the status and the text, and the status is none of those of bad words, a fetch or a write
 pub record Ends (P : ℕ → List ℕ → Type 0) (status : ℕ) (text : List ℕ) : Type 0 where
   pub due : P status text

@@ -1,6 +1,6 @@
 -- Private: no public contract rests on this file.
 -- Of private functions: what the tasks come to.
-use Rattle.std.specs.Prelude.{List, ℕ, Result, IfOk, [], ◌≡◌, length, Option, Some, Ok, Err}
+use Rattle.std.specs.Prelude.{List, ℕ, Result, IfOk, IfSome, [], ◌≡◌, length, Option, Some, Ok, Err}
 use Rattle.serde_json.specs.Data.{Data}
 use Rattle.irs_base.specs.Outcomes.{Spec}
 use Rattle.irs_terms.specs.Lawful.{IsLawfulSwap}
@@ -24,7 +24,7 @@ use Rattle.irs_answers.specs.Messages.{IsJudged, reply_status, reply_text, Answe
 use Rattle.irs_answers.specs.Forms.{IsUnread, TextReads, SourceText, IsPlacedRefusal, IsPlacedReply}
 use Rattle.irs_answers.specs.declared.refusals.Refusal.TheVariants.{Rule, Calendars, Fixings, Flows, Memory, Unreadable}
 use Rattle.irs_answers.specs.declared.refusals.Refusal.TheVariants.{UnreadableFlows}
-use Rattle.irs_answers.specs.Due.{IfRefused, RefusedBy}
+use Rattle.irs_answers.specs.Due.{RefusedBy, answer_of}
 use Rattle.irs_answers.specs.declared.replies.Reply.TheVariants.{Text, Rows, Breaks, Verdict, Refused}
 use Rattle.irs_answers.specs.declared.tasks.Task.TheVariants as task
 
@@ -89,6 +89,10 @@ daily_stream s float parameters = record { stream = s; float = float; parameters
 abbrev pub MeetsReply : Spec Answer Answer → Result Reply Refusal → Type 0
 MeetsReply spec (Ok o) = spec.Answers (reply_status o, reply_text o)
 MeetsReply spec (Err r) = RefusedBy spec r
+
+-- P holds of the refusal's answer, if it has one
+abbrev pub IfRefused : Refusal → (ℕ → List ℕ → Type 0) → Type 0
+IfRefused r P = IfSome (answer_of r) (λ a. P a.0 a.1)
 
 -- P holds of the answer, if there is one
 abbrev pub IfAnswered : Result Reply Refusal → (ℕ → List ℕ → Type 0) → Type 0

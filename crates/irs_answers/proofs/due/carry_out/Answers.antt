@@ -1,6 +1,7 @@
 use Rattle.std.proofs.Common.{Ok}
 use Rattle.irs_answers.specs.declared.refusals.Refusal.TheVariants.{Memory}
-use Rattle.irs_answers.specs.Due.{DueFor, facts_by, Ends, IfRefused}
+use Rattle.irs_answers.specs.Due.{DueFor, facts_by, Ends}
+use Rattle.irs_answers.specs.Private.Outcomes.{IfRefused}
 use Rattle.irs_answers.specs.Forms.{source_by, given_with, IsPlacedRefusal}
 use Rattle.irs_answers.proofs.CauseLemmas.{caused_by}
 use Rattle.irs_answers.proofs.DueLemmas.{passed_refusal, passed_reply, refused_due}

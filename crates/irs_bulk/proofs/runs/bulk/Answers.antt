@@ -2,7 +2,8 @@ use Rattle.std.proofs.Common.{◌≡◌, ℕ, List, Some, Result, Ok, Err}
 use Rattle.std.specs.Prelude.{IfOk}
 use Rattle.irs_answers.specs.declared.refusals.Refusal.{Refusal}
 use Rattle.irs_answers.specs.declared.replies.Reply.{Reply}
-use Rattle.irs_answers.specs.Due.{Ends, IfRefused, answer_of}
+use Rattle.irs_answers.specs.Due.{Ends, answer_of}
+use Rattle.irs_answers.specs.Private.Outcomes.{IfRefused}
 use Rattle.irs_answers.specs.Messages.{reply_status, reply_text}
 use Rattle.irs_answers.proofs.DueLemmas.{ends_by}
 use Rattle.irs_bulk.specs.BulkRuns.{DueBulk}
