@@ -6,21 +6,25 @@ use Rattle.irs_answers.specs.Messages.{Answer, Gives, keeping}
 
 -- whatever the two answer is the same in this sense, and whatever they refuse is the same; where one answers, the other
 -- doesn't refuse
-pub record Agree {A R : Type 0} (Same : A → A → Type 0) (s t : Spec A R) : Type 0 where
-  pub answers : (a b : A) → s.Answers a → t.Answers b → Same a b
+pub record Agree {A R : Type 0} (Near : A → A → Type 0) (s t : Spec A R) : Type 0 where
+  pub answers : (a b : A) → s.Answers a → t.Answers b → Near a b
   pub refuses : (r q : R) → s.Refuses r → t.Refuses q → r ≡ q
   pub apart : (a : A) (r : R) → s.Answers a → t.Refuses r → ⊥
   pub back : (a : A) (r : R) → s.Refuses r → t.Answers a → ⊥
 
--- the same: at most one outcome
+-- the same value
+abbrev pub Same : {X : Type 0} → X → X → Type 0
+Same x y = x ≡ y
+
+-- at most one outcome
 abbrev pub IsOne : {A R : Type 0} → Spec A R → Type 0
-IsOne spec = Agree (λ a b. a ≡ b) spec spec
+IsOne spec = Agree Same spec spec
 
 -- chains agree where their parts do
-pub then_agree : {A B R : Type 0} (Same : A → A → Type 0) (Alike : B → B → Type 0) (s t : Spec A R) (n m : A → Spec B R)
-    → Agree Same s t → ((a b : A) → s.Answers a → t.Answers b → Same a b → Agree Alike (n a) (m b))
+pub then_agree : {A B R : Type 0} (Near : A → A → Type 0) (Alike : B → B → Type 0) (s t : Spec A R) (n m : A → Spec B R)
+    → Agree Near s t → ((a b : A) → s.Answers a → t.Answers b → Near a b → Agree Alike (n a) (m b))
     → Agree Alike (s >>= n) (t >>= m)
-then_agree Same Alike s t n m h over = record {
+then_agree Near Alike s t n m h over = record {
   answers = λ x y p q. (over p.0 q.0 p.1 q.1 (h.answers p.0 q.0 p.1 q.1)).answers x y p.2 q.2;
   refuses = λ r q x y. elim x [
     | inl first ↦ elim y [
@@ -46,12 +50,12 @@ then_agree Same Alike s t n m h over = record {
 pub then_one : {A B R : Type 0} (Alike : B → B → Type 0) (s : Spec A R) (n : A → Spec B R) → IsOne s
     → ((a : A) → s.Answers a → Agree Alike (n a) (n a)) → Agree Alike (s >>= n) (s >>= n)
 then_one Alike s n h over =
-    then_agree (λ a b. a ≡ b) Alike s s n n h (λ a b is _ e. subst (λ x. Agree Alike (n a) (n x)) e (over a is))
+    then_agree Same Alike s s n n h (λ a b is _ e. subst (λ x. Agree Alike (n a) (n x)) e (over a is))
 
 -- reasons said in another way agree
-pub refused_as_agree : {A R S : Type 0} (Same : A → A → Type 0) (say : R → S) (s t : Spec A R) → Agree Same s t
-    → Agree Same (refused_as say s) (refused_as say t)
-refused_as_agree Same say s t h = record {
+pub refused_as_agree : {A R S : Type 0} (Near : A → A → Type 0) (say : R → S) (s t : Spec A R) → Agree Near s t
+    → Agree Near (refused_as say s) (refused_as say t)
+refused_as_agree Near say s t h = record {
   answers = h.answers;
   refuses = λ r q x y. x.2 ∙ (λ i. say (h.refuses x.0 y.0 x.1 y.1 i)) ∙ sym y.2;
   apart = λ a r p y. h.apart a y.0 p y.1;
@@ -59,9 +63,9 @@ refused_as_agree Same say s t h = record {
 }
 
 -- values given agree where they are the same
-pub given_agree : {A R : Type 0} (Same : A → A → Type 0) (P Q : A → Type 0) → ((a b : A) → P a → Q b → Same a b)
-    → Agree {A = A} {R = R} Same (given_by P) (given_by Q)
-given_agree Same P Q same = record {
+pub given_agree : {A R : Type 0} (Near : A → A → Type 0) (P Q : A → Type 0) → ((a b : A) → P a → Q b → Near a b)
+    → Agree {A = A} {R = R} Near (given_by P) (given_by Q)
+given_agree Near P Q same = record {
   answers = same;
   refuses = λ r q x y. absurd x;
   apart = λ a r p y. y;
@@ -69,10 +73,10 @@ given_agree Same P Q same = record {
 }
 
 -- so are two answers
-pub answer_agree : {A R : Type 0} (Same : A → A → Type 0) (x y : A) → Same x y
-    → Agree {A = A} {R = R} Same (answer x) (answer y)
-answer_agree Same x y h =
-    given_agree Same (λ a. a ≡ x) (λ a. a ≡ y) (λ a b p q. subst (λ z. Same z b) (sym p) (subst (Same x) (sym q) h))
+pub answer_agree : {A R : Type 0} (Near : A → A → Type 0) (x y : A) → Near x y
+    → Agree {A = A} {R = R} Near (answer x) (answer y)
+answer_agree Near x y h =
+    given_agree Near (λ a. a ≡ x) (λ a. a ≡ y) (λ a b p q. subst (λ z. Near z b) (sym p) (subst (Near x) (sym q) h))
 
 two_given : {A : Type 0} (spec : Spec A A) → IsOne spec → (a b : A) → spec.Answers a ⊎ spec.Refuses a
     → spec.Answers b ⊎ spec.Refuses b → a ≡ b
@@ -97,7 +101,7 @@ determined_by spec one a (inr is) =
 
 -- the only value is one
 pub only_one : {A R : Type 0} (P : A → Type 0) → IsOne {A = A} {R = R} (given_by (Only P))
-only_one P = given_agree (λ a b. a ≡ b) (Only P) (Only P) (λ a b h k. sym (h.only b k.is))
+only_one P = given_agree Same (Only P) (Only P) (λ a b h k. sym (h.only b k.is))
 
 -- rules that are kept aren't broken, and one comes first
 pub keeping_one : (K : Type 0) (P : Broken → Type 0) → (K → (b : Broken) → P b → ⊥)
@@ -148,7 +152,7 @@ only_within P Q there back =
     given_within (Only P) (Only Q) (λ a h. record { is = there a h.is; only = λ b k. h.only b (back b k) })
 
 -- outcomes agree with those of a specification that allows no less and has one outcome
-pub within_agree : {A R : Type 0} (s t : Spec A R) → Within s t → IsOne t → Agree (λ a b. a ≡ b) s t
+pub within_agree : {A R : Type 0} (s t : Spec A R) → Within s t → IsOne t → Agree Same s t
 within_agree s t h one = record {
   answers = λ a b x y. one.answers a b (h.answers a x) y;
   refuses = λ r q x y. one.refuses r q (h.refuses r x) y;

@@ -50,7 +50,7 @@ use Rattle.irs_answers.specs.Due.{one_schedule_of, rates_of, sections_of, sides_
 use Rattle.irs_answers.specs.Due.{of_stopped, Ends, FixingsFail, RefusedBy, ReadFails}
 use Rattle.irs_answers.specs.Private.Outcomes.{IfRefused, IsCarriedOut}
 use Rattle.irs_answers.proofs.AccrueSame.{accrued_same}
-use Rattle.irs_answers.proofs.Agreement.{Agree, IsOne, Within, answer_agree, given_agree, given_within, refused_as_agree}
+use Rattle.irs_answers.proofs.Agreement.{Agree, IsOne, Same, Within, answer_agree, given_agree, given_within, refused_as_agree}
 use Rattle.irs_answers.proofs.Agreement.{same_within, then_agree, then_one}
 use Rattle.irs_answers.proofs.FirstLemmas.{one_first, one_fixings_fault, no_fixings}
 use Rattle.irs_answers.proofs.SameRates.{SameRates, same_back, same_file, schedule_same, first_same_table}
@@ -146,9 +146,6 @@ tables_within (Interpolate stream side low high) g swap sides cal r q s e =
     interpolate_within r q e swap s stream side low high
 
 -- ---- each step has one outcome
-
-abbrev Same : {X : Type 0} → X → X → Type 0
-Same x y = x ≡ y
 
 -- a text has one reading, or none
 pub one_value : (w : SourceText) → IsOne (value_of w)

@@ -13,7 +13,7 @@ use Rattle.irs_answers.specs.Tasks.{flows_in}
 use Rattle.irs_answers.specs.Messages.{bad_flows}
 use Rattle.irs_answers.specs.Due.{RefusedBy}
 use Rattle.irs_answers.specs.Private.Outcomes.{FlowsRefused}
-use Rattle.irs_answers.proofs.Agreement.{IsOne, refused_as_agree, then_one}
+use Rattle.irs_answers.proofs.Agreement.{IsOne, Same, refused_as_agree, then_one}
 use Rattle.irs_answers.proofs.DueLemmas.{one_value}
 use Rattle.irs_answers.proofs.FirstLemmas.{one_first}
 
@@ -60,8 +60,8 @@ one_statement v = record {
 -- a text states one list of flows, or has one first fault
 pub one_flows : (w : SourceText) → IsOne (flows_in w)
 one_flows w =
-    then_one (λ a b. a ≡ b) _ _ (refused_as_agree (λ a b. a ≡ b) _ _ _ (one_value w)) (λ v _.
-    refused_as_agree (λ a b. a ≡ b) _ _ _ (one_statement v))
+    then_one Same _ _ (refused_as_agree Same _ _ _ (one_value w)) (λ v _.
+    refused_as_agree Same _ _ _ (one_statement v))
 
 -- a test that failed doesn't hold
 pub not_true : (b : Bool) → b ≡ false → IsTrue b → ⊥

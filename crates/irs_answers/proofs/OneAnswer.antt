@@ -35,16 +35,13 @@ use Rattle.irs_answers.specs.declared.tasks.Task.{Task}
 use Rattle.irs_answers.specs.declared.tasks.Task.TheVariants.{Check, Schedule, Audit, Emit, Accrue, Net as OfNet}
 use Rattle.irs_answers.specs.declared.tasks.Task.TheVariants.{Overnight, Average, Breaks, EmitXml, Interpolate, Observations}
 use Rattle.irs_answers.proofs.AccrueLemmas.{one_page}
-use Rattle.irs_answers.proofs.Agreement.{IsOne, answer_agree, determined_by, given_agree, keeping_one, one_given, only_one}
+use Rattle.irs_answers.proofs.Agreement.{IsOne, Same, answer_agree, determined_by, given_agree, keeping_one, one_given, only_one}
 use Rattle.irs_answers.proofs.Agreement.{refused_as_agree, then_agree, then_one, within_agree}
 use Rattle.irs_answers.proofs.DerivedLemmas.{one_stream}
 use Rattle.irs_answers.proofs.DueLemmas.{AreSameFacts, answers_within, found_agree, one_value}
 use Rattle.irs_answers.proofs.FlowLemmas.{one_flows}
 use Rattle.irs_answers.proofs.ObservedLemmas.{one_observed}
 use Rattle.irs_answers.proofs.StubLemmas.{one_index}
-
-abbrev Same : {X : Type 0} → X → X → Type 0
-Same x y = x ≡ y
 
 -- ---- the last step of each task
 

@@ -1,12 +1,12 @@
 //! Laws: the audit of emitted cash flows is yes, every list in the relations of a schedule has the text that
 //! `schedule` prints, and what is due is all that is due.
-ghost use Rattle.std.specs.Prelude.{◌≡◌, ℕ, List};
+ghost use Rattle.std.specs.Prelude.{◌≡◌, ◌↔◌, ℕ, List};
 ghost use Rattle.irs_base.specs.Outcomes.{Determined};
 ghost use Rattle.irs_schedule.specs.Parts.{IsWithin, Part};
 ghost use Rattle.irs_emit.specs.Emitted.{emit_text};
 ghost use Rattle.irs_emit_xml.specs.Flows.{flows_text};
 ghost use Rattle.irs_answers.specs.Tasks.{IsAuditedYes};
-ghost use Rattle.irs_answers.specs.Due.{DueFor, Facts, IsTextOfEach, PassesEachStep, due};
+ghost use Rattle.irs_answers.specs.Due.{DueFor, Facts, IsTextOfEach, PassesEachStep, due, found_of};
 ghost use Rattle.irs_answers.specs.Forms.{json_text, xml_text, Given};
 ghost use Rattle.irs_answers.specs.declared.tasks.Task.{Task};
 ghost use Rattle.irs_answers.specs.declared.tasks.Task.TheVariants.{Schedule};
@@ -29,8 +29,10 @@ pub fn every_schedule_has_the_printed_text()
 {}
 
 /// Where a status and a text are due for a task and its files, nothing else is: there is one answer and no refusal, or
-/// one refusal and no answer. The function does nothing; its contract is the law.
+/// one refusal and no answer. What the files say, step by step, is what they say where every step passes. The function
+/// does nothing; its contract is the law.
 pub fn one_outcome_is_due()
-    ensures { (task : Task) (g : Given) (status : ℕ) (text : List ℕ) → DueFor task g status text
+    ensures outcome { (task : Task) (g : Given) (status : ℕ) (text : List ℕ) → DueFor task g status text
         → Determined (due task g) }
+    ensures passes { (task : Task) (g : Given) (f : Facts) → PassesEachStep task g f ↔ (found_of task g).Answers f }
 {}

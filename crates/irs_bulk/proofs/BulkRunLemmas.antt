@@ -15,7 +15,7 @@ use Rattle.irs_answers.specs.declared.refusals.Refusal.{Refusal}
 use Rattle.irs_answers.specs.Forms.{json_text}
 use Rattle.irs_answers.specs.Due.{SpellsTask, facts, found_of, one_schedule_of, MeetsTask, RefusedBy, answer_of}
 use Rattle.irs_answers.specs.Messages.{Answer}
-use Rattle.irs_answers.proofs.Agreement.{IsOne, answer_agree, given_agree, one_given, then_agree, then_one}
+use Rattle.irs_answers.proofs.Agreement.{IsOne, Same, answer_agree, given_agree, one_given, then_agree, then_one}
 use Rattle.irs_answers.proofs.DueLemmas.{AreSameFacts, found_agree, passes_by, passes_found, refuse_rules}
 use Rattle.irs_bulk.specs.BulkRuns.{calendar_text, both_totals, line_text, no_totals, DueBulk, bulk_of, files_of}
 use Rattle.irs_bulk.specs.BulkRuns.{schedule_at, total_at, totals_to}
@@ -71,9 +71,6 @@ unfolding totals_to
 sums_more k t u h a = (t, h, (u, a, refl))
 
 -- ---- one outcome
-
-abbrev Same : {X : Type 0} → X → X → Type 0
-Same x y = x ≡ y
 
 one_schedule_at : (plain : Bool) (k : ℕ) → IsOne (schedule_at plain k)
 one_schedule_at plain k =
