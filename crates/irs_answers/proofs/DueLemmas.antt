@@ -4,7 +4,7 @@ use Rattle.std.proofs.Common.{◌∙◌, ap, subst}
 use Rattle.std.specs.Prelude.{IfSome, if◌then◌else◌, option_map, slice_get}
 use Rattle.std.proofs.lemmas.Option.{IfSome_then, same_Some}
 use Rattle.serde_json.specs.Data.{Data}
-use Rattle.irs_base.specs.Outcomes.{IfStopped, First, Only, is_before}
+use Rattle.irs_base.specs.Outcomes.{IfStopped, First, is_before}
 use Rattle.irs_base.proofs.Outcomes.{answered_free}
 use Rattle.irs_base.specs.declared.places.Broken.{Broken}
 use Rattle.irs_base.specs.declared.stopped.Stopped.{Stopped}
@@ -410,9 +410,18 @@ pub made_schedule : (swap : Swap) (cal : List Section) (table : RateTable) → I
     → (parts : List Part) → (schedule_of swap cal table).Answers parts → IsSchedule swap cal table parts
     → (one_schedule_of swap cal table).Answers parts
 made_schedule swap cal table lawful keeps parts made is =
-    let dated = answered_free (schedule_determined swap cal table lawful keeps) parts made in
-    let only = λ t h. one_schedule swap cal table lawful keeps dated t parts h is in
-    (tt, keeps, (tt, dated, record { is = is; only = only }))
+    let dated = answered_free (schedule_determined swap cal table lawful keeps) parts made in (
+      tt,
+      keeps,
+      (
+        tt,
+        dated,
+        record {
+          is = is;
+          only = λ t h. one_schedule swap cal table lawful keeps dated t parts h is;
+        },
+      ),
+    )
 
 -- a schedule that cannot be made is refused
 pub refuse_making : (swap : Swap) (cal : List Section) (table : RateTable) (e : Stopped Broken) → KeepsTerms swap cal

@@ -1,15 +1,14 @@
 -- What `overnight`, `average` and `interpolate` print is used by `schedule`.
-use Rattle.std.proofs.Common.{◌≡◌, inl, inr, ℕ, ◌+◌, ◌-◌, ◌^◌, ◌<◌, ◌≤◌, List, [], ◌∷◌, length, Option, Some, None, IfSome}
+use Rattle.std.proofs.Common.{◌≡◌, inl, inr, ℕ, ◌-◌, ◌^◌, ◌<◌, List, [], ◌∷◌, length, Option, Some, None, IfSome}
 use Rattle.std.proofs.Common.{ℤ, refl, sym, ap, subst, ◌∙◌, arith}
-use Rattle.std.specs.Prelude.{slice_get}
 use Rattle.std.proofs.lemmas.Option.{same_Some}
 use Rattle.irs_base.specs.Days.{IsDay}
-use Rattle.irs_base.specs.Lists.{HoldsOf}
 use Rattle.irs_base.specs.Outcomes.{Only, Spec, ◌>>=◌, given_by, refused_as}
 use Rattle.irs_base.specs.declared.places.Broken.{Broken}
 use Rattle.irs_base.specs.declared.places.Fault.{Fault}
 use Rattle.serde_json.specs.Data.{Data}
 use Rattle.irs_terms.specs.Lawful.{IsLawfulSwap, IsLawfulFloat, IsLawfulLeg, IsLawfulStubRate, IsLawfulStubs, IsRate}
+use Rattle.irs_terms.specs.declared.amounts.FloatTerms.{FloatTerms}
 use Rattle.irs_terms.specs.declared.amounts.StubRate.{StubRate}
 use Rattle.irs_terms.specs.declared.amounts.StubRate.TheVariants.{Index}
 use Rattle.irs_terms.specs.declared.amounts.StubTerms.{StubTerms}
@@ -18,12 +17,10 @@ use Rattle.irs_terms.specs.declared.stream.Stream.{Stream}
 use Rattle.irs_terms.specs.declared.stream_list.Swap.{Swap}
 use Rattle.irs_calendar.specs.declared.sections.Section.{Section}
 use Rattle.irs_read.specs.Documents.{Means}
-use Rattle.irs_read.proofs.LawfulSwaps.{document_lawful, means_read}
 use Rattle.irs_resets.specs.FixingFiles.{IsFixingFile}
 use Rattle.irs_resets.specs.Rates.{AreSmall, RateTable, rate_at}
 use Rattle.irs_resets.specs.Resets.{IsPeriod}
 use Rattle.irs_rules.proofs.Kept.{lawful_stream}
-use Rattle.irs_schedule.specs.Parts.{Part}
 use Rattle.irs_schedule.specs.Schedules.{IsSchedule}
 use Rattle.irs_overnight.specs.Overnight.{DerivedSource, derived_source, fixing_at, AreDerived, BreaksDerived}
 use Rattle.irs_overnight.specs.Overnight.{OvernightAsked, HasSource, IsFirstDerived, IsOvernight, OvernightKept}
@@ -38,8 +35,8 @@ use Rattle.irs_average.specs.declared.means.Mean.{Mean}
 use Rattle.irs_average.specs.declared.stubs.Side.{Side}
 use Rattle.irs_average.specs.declared.stubs.Side.TheVariants.{Initial, Last}
 use Rattle.irs_answers.specs.Derived.{FloatingStream, IsFloatingAt, PrintsStub, averaged_of, compounded_of, floating_of}
-use Rattle.irs_answers.specs.Derived.{printed, stub_of, HasRateOf, HasRowRates, IsMadeWith}
-use Rattle.irs_answers.specs.Due.{AreGivenFixings as FixingsGive, DueFor, Facts, PassesEachStep, SpellsTask, facts}
+use Rattle.irs_answers.specs.Derived.{printed, stub_of, IsMadeWith}
+use Rattle.irs_answers.specs.Due.{AreGivenFixings as FixingsGive, Facts, PassesEachStep, SpellsTask}
 use Rattle.irs_answers.specs.Forms.{Given}
 use Rattle.irs_answers.specs.PrintedRates.{IsKeptSchedule, AveragePrints, InterpolatePrints, OvernightPrints, asked_of}
 use Rattle.irs_answers.specs.PrintedRates.{with_fixings}
@@ -271,8 +268,8 @@ interpolate_prints number side low high g f text p due =
     let x = floated f.swap number (λ y. stub_of a) text (passes_due t g f p 0 text due) in
     let told = kept_next (StubKept a) (IsStubBroken a) (given_by (Only (IsInterpolated a)) >>= λ r. given_by (PrintsStub a r)) text
     (λ b none. elim none [
-      | inl no ↦ no
-      | inr no ↦ no.2
+      | inl refused ↦ refused
+      | inr then ↦ then.2
     ]) x.2 in
     let row = told.1 in
     let is : IsInterpolated a row.0 = row.1.is in

@@ -15,7 +15,7 @@ use Rattle.irs_answers.specs.declared.replies.Reply.TheVariants.{Text, Rows, Bre
 use Rattle.irs_audit.specs.declared.departures.Verdict.TheVariants.{Yes, No}
 use Rattle.irs_answers.specs.Due.{faulty_calendar, answer_of, fixings_answer, flows_answer, Ends, MeetsTask}
 use Rattle.irs_answers.specs.Due.{RefusedBy}
-use Rattle.irs_answers.specs.Messages.{Answer, reply_status, reply_text}
+use Rattle.irs_answers.specs.Messages.{Answer, reply_status}
 use Rattle.irs_base.specs.Outcomes.{Spec}
 use Rattle.irs_answers.specs.Private.Outcomes.{IfRefused, IfAnswered, MeetsReply, IsCarriedOut}
 
@@ -40,7 +40,7 @@ fixings_low (fixing.Repeat line) = omega arith
 fixings_low fixing.Memory = tt
 
 flows_low : (e : FlowErr) → IfSome (flows_answer e) (λ a. a.0 < 4)
-flows_low (flowing.Shape kind place) = omega arith
+flows_low (flowing.Shape how place) = omega arith
 flows_low flowing.Memory = tt
 
 -- the status of a refusal is below 4

@@ -37,7 +37,6 @@ use Rattle.irs_net.specs.Nets.{Net, net_text}
 use Rattle.irs_net.specs.declared.sides.Sides.{Sides}
 use Rattle.irs_net.specs.declared.table.NetRow.{NetRow}
 use Rattle.irs_audit.specs.Verdicts.{IsVerdict, row_count, unfixed_count}
-use Rattle.irs_audit.specs.declared.departures.Verdict.{Verdict}
 use Rattle.irs_audit.specs.declared.departures.Verdict.TheVariants.{Yes}
 use Rattle.irs_breaks.specs.BreakLists.{HasBreak, IsBreakList}
 use Rattle.irs_breaks.specs.BreakTexts.{breaks_text}

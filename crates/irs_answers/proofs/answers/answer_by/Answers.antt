@@ -1,13 +1,28 @@
-use Rattle.std.proofs.Common.{subst}
+use Rattle.std.proofs.Common.{subst, sym}
 use Rattle.irs_answers.specs.declared.tasks.Task.{Task}
-use Rattle.irs_answers.specs.Due.{PassesEachStep, facts_by}
+use Rattle.irs_answers.specs.Due.{PassesEachStep, facts_by, answer_for}
 use Rattle.irs_answers.specs.Forms.{source_by, given_with}
+use Rattle.irs_answers.specs.Private.Outcomes.{MeetsReply}
 use Rattle.irs_answers.proofs.NetLemmas.{sided_by}
 use Rattle.irs_answers.proofs.answers.answer_by.Goals as goal
 
 pub net_answer-requires : goal.net_answer-requires
 net_answer-requires c = let g = given_with c.args.files.now c.args.common.now.files in let f = facts_by c.args.found in
     sided_by g f (subst (λ (t : Task). PassesEachStep t g f) c.in-Net.is c.requires.passes)
+
+pub returns-in-Average-clause-meets : goal.returns-in-Average-clause-meets
+returns-in-Average-clause-meets c =
+    let g = given_with c.args.files.now c.args.common.now.files in
+    let f = facts_by c.args.found in
+    subst (λ (t : Task). MeetsReply (answer_for t g f) c.average_answer.result) (sym c.in-Average.is)
+    c.average_answer.ensures.meets
+
+pub returns-in-Interpolate-clause-meets : goal.returns-in-Interpolate-clause-meets
+returns-in-Interpolate-clause-meets c =
+    let g = given_with c.args.files.now c.args.common.now.files in
+    let f = facts_by c.args.found in
+    subst (λ (t : Task). MeetsReply (answer_for t g f) c.interpolate_answer.result) (sym c.in-Interpolate.is)
+    c.interpolate_answer.ensures.meets
 
 pub returns-in-Check-clause-placed : goal.returns-in-Check-clause-placed
 returns-in-Check-clause-placed c =

@@ -36,7 +36,16 @@ returns-clause-meets c =
     let f = c.args.found.now in
     let a = stub_asked f.swap c.args.number c.args.side c.args.low c.args.high f.schedule f.fixings.now in
     let row = c.in_ok-row.row in
-    let made = c.in_ok-row.ensures in
-    let only = record { is = made.ok; only = λ y other. one_interpolated a y row other made.ok } in
-    let text = (c.in-Some.index.now, (c.in-Some.tenor, c.in-Some.ensures.some, (λ i. (0, c.in_ok-fixings_page.ensures i)))) in
-    (_, c.in_ok-floating.ensures.floats, (tt, made.kept, (row, only, text)))
+    let made = c.in_ok-row.ensures in (
+      _,
+      c.in_ok-floating.ensures.floats,
+      (
+        tt,
+        made.kept,
+        (
+          row,
+          record { is = made.ok; only = λ y other. one_interpolated a y row other made.ok },
+          (c.in-Some.index.now, (c.in-Some.tenor, c.in-Some.ensures.some, (λ i. (0, c.in_ok-fixings_page.ensures i)))),
+        ),
+      ),
+    )

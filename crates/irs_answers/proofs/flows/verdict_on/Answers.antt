@@ -24,6 +24,8 @@ returns-in_err-flows-clause-placed c =
     (flows_placed file e c.in_err-flows.ensures.fault)
 
 pub returns-clause-verdict : goal.returns-clause-verdict
-returns-clause-verdict c =
-    let only = record { is = c.audit.ensures.verdict; only = c.audit.ensures.only } in
-    (_, c.in_ok-flows.ensures.spells, (c.audit.result, only, refl))
+returns-clause-verdict c = (
+  _,
+  c.in_ok-flows.ensures.spells,
+  (c.audit.result, record { is = c.audit.ensures.verdict; only = c.audit.ensures.only }, refl),
+)
