@@ -20,6 +20,7 @@ use Rattle.irs_base.specs.declared.places.Rule.{Rule}
 use Rattle.irs_base.specs.declared.places.Rule.TheVariants.{K1}
 use Rattle.irs_calendar.specs.declared.calendars.CalErr.{CalErr}
 use Rattle.irs_calendar.specs.declared.calendars.CalErr.TheVariants as calendar
+use Rattle.irs_cli.specs.Commands.{word_texts}
 use Rattle.irs_cli.specs.Given.{file_name}
 use Rattle.irs_cli.specs.declared.causes.RunCause.{RunCause}
 use Rattle.irs_cli.specs.declared.causes.RunCause.TheVariants as cause
@@ -32,9 +33,10 @@ use Rattle.irs_main.specs.Notes.{is_silent_reply, note_of}
 use Rattle.irs_main.specs.Shown.{joined_texts}
 use Rattle.irs_main.specs.WrongWords.{word_at, is_help, unlisted}
 use Rattle.std.specs.Prelude.{ℕ, ◌-◌, ◌==◌, ◌||◌, ◌&&◌, nat_eq, Bool, false, not, List, [], ◌∷◌, ◌++◌, Option, Some, None, codes}
-use Rattle.std.specs.Prelude.{decimal, if◌then◌else◌}
+use Rattle.std.specs.Prelude.{String, decimal, if◌then◌else◌}
 use Rattle.std.specs.List.{ends_with}
 use Rattle.std.specs.Str.{bytes_eq}
+use Rattle.std.specs.declared.alloc.Global.{Global}
 
 -- ---- a broken rule
 
@@ -270,3 +272,7 @@ told_texts words (cause.NotText place) = no_text_sentence place
 -- the sentence with its note; empty where there is nothing to say
 abbrev pub sentence_of : List (List ℕ) → RunCause → List ℕ
 sentence_of words c = joined_texts (told_texts words c) ++ joined_texts (note_of c)
+
+-- the same for the words of the code
+abbrev pub run_sentence : List (String Global) → RunCause → List ℕ
+run_sentence words c = sentence_of (word_texts words) c

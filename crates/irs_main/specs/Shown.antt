@@ -117,11 +117,18 @@ count_text more = joined_texts (codes " and " ∷ decimal more ∷ codes " more"
 abbrev pub more_text : ℕ → List ℕ
 more_text more = if more == 0 then [] else count_text more
 
+-- the names after the first, and how many more there are
+abbrev pub later_names : List (List ℕ) → ℕ → List ℕ
+later_names names more = names_after_first names ++ more_text more
+
+-- a first name, the names after it, and how many more there are
+abbrev pub names_from : List ℕ → List (List ℕ) → ℕ → List ℕ
+names_from name names more = name_after (codes "; the calendar files have ") name ++ later_names names more
+
 -- these names, and how many more there are
 abbrev pub names_text : List (List ℕ) → ℕ → List ℕ
 names_text [] more = codes "; the calendar files have no centre"
-names_text (name ∷ names) more =
-    name_after (codes "; the calendar files have ") name ++ (names_after_first names ++ more_text more)
+names_text (name ∷ names) more = names_from name names more
 
 -- the centres that the calendar files have
 abbrev pub listed_centers_text : Listed → List ℕ

@@ -2,9 +2,9 @@
 ghost use Rattle.irs_base.specs.Lists.{Every};
 ghost use Rattle.irs_outside.specs.Outside.{Grew, GrewByFront, Rose};
 ghost use Rattle.irs_main.specs.Shown.{centers_text, count_text, listed_centers_text, more_text, name_after};
-ghost use Rattle.irs_main.specs.Shown.{names_text, other_name, names_after_first, IsVisible};
+ghost use Rattle.irs_main.specs.Shown.{later_names, names_from, names_text, other_name, names_after_first, IsVisible};
 ghost use Rattle.irs_main.specs.Private.Parts.{said_by};
-ghost use Rattle.std.specs.Prelude.{◌≡◌, ℕ, ◌<◌, ◌^◌, List, ◌∷◌, ◌++◌, OnOk, OnErr};
+ghost use Rattle.std.specs.Prelude.{◌≡◌, ℕ, ◌<◌, ◌^◌, List, OnOk, OnErr};
 
 use crate::parts::{Part, put_parts};
 use crate::visible::dots;
@@ -63,10 +63,9 @@ fn put_from<S: Sink>(
     others: &[Text],
     more: usize,
 ) -> Result<(), PutFailed>
-    ensures ok { OnOk result (Grew (S.written out.old) (S.written out.new) (names_text (name.now ∷ others.now) more)) }
+    ensures ok { OnOk result (Grew (S.written out.old) (S.written out.new) (names_from name.now others.now more)) }
     ensures quiet { OnOk result (S.faults out.new ≡ S.faults out.old) }
-    ensures err { OnErr result
-        (GrewByFront (S.written out.old) (S.written out.new) (names_text (name.now ∷ others.now) more)) }
+    ensures err { OnErr result (GrewByFront (S.written out.old) (S.written out.new) (names_from name.now others.now more)) }
     ensures rose { OnErr result (Rose (S.faults out.old) (S.faults out.new)) }
 {
     put_name(out, b"; the calendar files have ", name)?;
@@ -75,10 +74,9 @@ fn put_from<S: Sink>(
 
 // Writes the other names, and how many more there are.
 fn put_rest<S: Sink>(out: &mut S, others: &[Text], more: usize) -> Result<(), PutFailed>
-    ensures ok { OnOk result (Grew (S.written out.old) (S.written out.new) (names_after_first others.now ++ more_text more)) }
+    ensures ok { OnOk result (Grew (S.written out.old) (S.written out.new) (later_names others.now more)) }
     ensures quiet { OnOk result (S.faults out.new ≡ S.faults out.old) }
-    ensures err { OnErr result
-        (GrewByFront (S.written out.old) (S.written out.new) (names_after_first others.now ++ more_text more)) }
+    ensures err { OnErr result (GrewByFront (S.written out.old) (S.written out.new) (later_names others.now more)) }
     ensures rose { OnErr result (Rose (S.faults out.old) (S.faults out.new)) }
 {
     put_others(out, others)?;

@@ -1,6 +1,5 @@
 //! What a sentence adds to what a reply says. It is how many payments have no amount, with the fixing that the
 //! first of them lacks. Or it is where in its text a document breaks a rule, or how a text begins that isn't JSON.
-ghost use Rattle.irs_base.specs.Texts.{day_text};
 ghost use Rattle.irs_outside.specs.Outside.{Grew, GrewByFront, Rose};
 ghost use Rattle.irs_main.specs.Notes.{added as added_of, note_alone as alone_of, center_words as center_words_of};
 ghost use Rattle.irs_main.specs.Notes.{day_intro as day_intro_of};
@@ -13,11 +12,11 @@ ghost use Rattle.irs_main.specs.Notes.{roll_code as roll_code_of, roll_in as rol
 ghost use Rattle.irs_main.specs.Notes.{shape_of as shape_of_value, shape_words as shape_words_of, spot_added};
 ghost use Rattle.irs_main.specs.Notes.{spot_on, spot_texts, tenor_count as tenor_count_of, tenor_gap as tenor_gap_of};
 ghost use Rattle.irs_main.specs.Notes.{tenor_letter as tenor_letter_of, text_words as text_words_of};
-ghost use Rattle.irs_main.specs.Notes.{unfixed_on, unfixed_texts, unit_letter as unit_letter_of};
+ghost use Rattle.irs_main.specs.Notes.{unfixed_on, unit_letter as unit_letter_of};
 ghost use Rattle.irs_main.specs.Notes.{value_in as value_in_of, value_intro as value_intro_of};
 ghost use Rattle.irs_main.specs.Notes.{weekday_name as weekday_name_of};
 ghost use Rattle.irs_main.specs.Shown.{joined_texts};
-ghost use Rattle.irs_main.specs.Private.Parts.{part_text, said_by};
+ghost use Rattle.irs_main.specs.Private.Parts.{dated_spot, part_text, said_by, unfixed_after};
 ghost use Rattle.std.specs.Prelude.{◌≡◌, ◌∷◌, OnOk, OnErr};
 
 use crate::centers::put_centers;
@@ -105,11 +104,9 @@ fn unfixed_parts<'a>(joint: &'a [u8], unfixed: &'a Unfixed, day: &'a [u8]) -> [P
 
 // Writes that, after `joint`.
 fn put_unfixed<S: Sink>(out: &mut S, joint: &[u8], unfixed: &Unfixed) -> Result<(), PutFailed>
-    ensures ok { OnOk result
-        (Grew (S.written out.old) (S.written out.new) (joined_texts (joint.now ∷ unfixed_texts unfixed.now))) }
+    ensures ok { OnOk result (Grew (S.written out.old) (S.written out.new) (unfixed_after joint.now unfixed.now)) }
     ensures quiet { OnOk result (S.faults out.new ≡ S.faults out.old) }
-    ensures err { OnErr result
-        (GrewByFront (S.written out.old) (S.written out.new) (joined_texts (joint.now ∷ unfixed_texts unfixed.now))) }
+    ensures err { OnErr result (GrewByFront (S.written out.old) (S.written out.new) (unfixed_after joint.now unfixed.now)) }
     ensures rose { OnErr result (Rose (S.faults out.old) (S.faults out.new)) }
 {
     let day = day_digits(unfixed.day);
@@ -344,11 +341,9 @@ fn put_where<S: Sink>(out: &mut S, spot: &Spot) -> Result<(), PutFailed>
 
 // The same with a day.
 fn put_dated<S: Sink>(out: &mut S, spot: &Spot, day: Day) -> Result<(), PutFailed>
-    ensures ok { OnOk result
-        (Grew (S.written out.old) (S.written out.new) (joined_texts (spot_on spot.now (day_text day)))) }
+    ensures ok { OnOk result (Grew (S.written out.old) (S.written out.new) (dated_spot spot.now day)) }
     ensures quiet { OnOk result (S.faults out.new ≡ S.faults out.old) }
-    ensures err { OnErr result
-        (GrewByFront (S.written out.old) (S.written out.new) (joined_texts (spot_on spot.now (day_text day)))) }
+    ensures err { OnErr result (GrewByFront (S.written out.old) (S.written out.new) (dated_spot spot.now day)) }
     ensures rose { OnErr result (Rose (S.faults out.old) (S.faults out.new)) }
 {
     let day = day_digits(day);

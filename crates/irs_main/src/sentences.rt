@@ -4,7 +4,7 @@ ghost use Rattle.irs_audit.specs.Verdicts.{field_name, row_name};
 ghost use Rattle.irs_base.specs.Paths.{path_of};
 ghost use Rattle.irs_cli.specs.declared.causes.RunCause.{RunCause as RunCauseSpec};
 ghost use Rattle.irs_main.specs.Shown.{joined_texts};
-ghost use Rattle.irs_main.specs.Private.Parts.{part_text, said};
+ghost use Rattle.irs_main.specs.Private.Parts.{part_text, said, told_text};
 ghost use Rattle.irs_main.specs.Sentences.{about as about_of, after_in as after_in_of};
 ghost use Rattle.irs_main.specs.Sentences.{calendar_sentence as bad_calendar_of, bad_calendars as bad_calendars_of};
 ghost use Rattle.irs_main.specs.Sentences.{bad_fixing as bad_fixing_of, fixings_sentence as bad_fixings_of};
@@ -20,7 +20,7 @@ ghost use Rattle.irs_main.specs.Sentences.{of_field as of_field_of};
 ghost use Rattle.irs_main.specs.Sentences.{index_told as index_told_of, not_agreed as not_agreed_of};
 ghost use Rattle.irs_main.specs.Sentences.{number_unless_stream as number_unless_stream_of};
 ghost use Rattle.irs_main.specs.Sentences.{number_unless_zero as number_unless_zero_of, rule_sentence as refused_of};
-ghost use Rattle.irs_main.specs.Sentences.{refused_by as refused_by_of, replied as replied_of, sentence_of};
+ghost use Rattle.irs_main.specs.Sentences.{refused_by as refused_by_of, replied as replied_of, run_sentence, sentence_of};
 ghost use Rattle.irs_main.specs.Sentences.{stream_words as stream_words_of, told_texts, uncompared as uncompared_of};
 ghost use Rattle.irs_main.specs.Sentences.{unless_stream as unless_stream_of, unless_zero as unless_zero_of};
 ghost use Rattle.irs_main.specs.Sentences.{unreadable_sentence as unreadable_of, verb as verb_of};
@@ -583,10 +583,9 @@ pub fn put_sentence<S: Sink>(
     words: &[String],
     cause: &RunCause,
 ) -> Result<(), PutFailed>
-    ensures ok { OnOk result (Grew (S.written out.old) (S.written out.new) (sentence_of (word_texts words.now) cause.now)) }
+    ensures ok { OnOk result (Grew (S.written out.old) (S.written out.new) (run_sentence words.now cause.now)) }
     ensures quiet { OnOk result (S.faults out.new ≡ S.faults out.old) }
-    ensures err { OnErr result
-        (GrewByFront (S.written out.old) (S.written out.new) (sentence_of (word_texts words.now) cause.now)) }
+    ensures err { OnErr result (GrewByFront (S.written out.old) (S.written out.new) (run_sentence words.now cause.now)) }
     ensures rose { OnErr result (Rose (S.faults out.old) (S.faults out.new)) }
 {
     put_told(out, words, cause)?;
@@ -601,11 +600,9 @@ pub fn silence_is_empty()
 
 // Writes the sentence without its note.
 fn put_told<S: Sink>(out: &mut S, words: &[String], cause: &RunCause) -> Result<(), PutFailed>
-    ensures ok { OnOk result
-        (Grew (S.written out.old) (S.written out.new) (joined_texts (told_texts (word_texts words.now) cause.now))) }
+    ensures ok { OnOk result (Grew (S.written out.old) (S.written out.new) (told_text words.now cause.now)) }
     ensures quiet { OnOk result (S.faults out.new ≡ S.faults out.old) }
-    ensures err { OnErr result
-        (GrewByFront (S.written out.old) (S.written out.new) (joined_texts (told_texts (word_texts words.now) cause.now))) }
+    ensures err { OnErr result (GrewByFront (S.written out.old) (S.written out.new) (told_text words.now cause.now)) }
     ensures rose { OnErr result (Rose (S.faults out.old) (S.faults out.new)) }
 {
     let sentence = say(words, cause);
