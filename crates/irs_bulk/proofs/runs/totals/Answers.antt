@@ -1,4 +1,4 @@
-use Rattle.std.proofs.Common.{◌≡◌, ℕ, suc, ◌+◌, sym, subst, arith}
+use Rattle.std.proofs.Common.{◌≡◌, ℕ, suc, ◌+◌, sym, ap, subst, arith}
 use Rattle.std.proofs.lemmas.Option.{IfSome_then}
 use Rattle.irs_answers.specs.Due.{RefusedBy, answer_of}
 use Rattle.irs_bulk.specs.BulkRuns.{both_totals, total_at, totals_to}
@@ -17,6 +17,15 @@ returns-in-Err-clause-meets c =
     subst (λ (i : ℕ). RefusedBy (total_at i) e) (next_is k) c.in-Err.ensures.meets in
     IfSome_then (answer_of e) here (λ a stop.
     stops_at c.args.n k c.loop-before.totals a c.loop-before-test.true c.loop-before.invariant.sums stop)
+
+pub loop-before-init : goal.loop-before-init
+loop-before-init c =
+    let value = c.none-totals.ensures.value in
+    record {
+      sums = subst (λ (t : Totals). (totals_to 0).Answers t) (sym value) no_sums;
+      run = c.none-totals.ensures.run;
+      documents = ap (λ (t : Totals). t.documents) value;
+    }
 
 pub loop-before-preserved : goal.loop-before-preserved
 loop-before-preserved c =
