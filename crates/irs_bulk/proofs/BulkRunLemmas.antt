@@ -17,7 +17,7 @@ use Rattle.irs_answers.specs.Due.{SpellsTask, facts, found_of, one_schedule_of, 
 use Rattle.irs_answers.specs.Messages.{Answer}
 use Rattle.irs_answers.proofs.Agreement.{IsOne, Same, answer_agree, given_agree, one_given, then_agree, then_one}
 use Rattle.irs_answers.proofs.DueLemmas.{AreSameFacts, found_agree, passes_by, passes_found, refuse_rules}
-use Rattle.irs_bulk.specs.BulkRuns.{calendar_text, both_totals, line_text, no_totals, DueBulk, bulk_of, files_of}
+use Rattle.irs_bulk.specs.BulkRuns.{calendar_text, both_totals, no_totals, DueBulk, bulk_of, files_of}
 use Rattle.irs_bulk.specs.BulkRuns.{schedule_at, total_at, totals_to}
 use Rattle.irs_bulk.specs.Documents.{bulk_document_text}
 use Rattle.irs_bulk.specs.declared.totals.Totals.{Totals}

@@ -1,4 +1,4 @@
-use Rattle.std.proofs.Common.{◌≡◌, ℕ, List, inl, inr, arith}
+use Rattle.std.proofs.Common.{inl, inr, arith}
 use Rattle.irs_answers.specs.Due.{Ends}
 use Rattle.irs_answers.proofs.StepLemmas.{answered_by, refusal_ends}
 use Rattle.irs_bulk.specs.BulkRuns.{DueBulk, totals_to}

@@ -1,7 +1,7 @@
 use Rattle.std.proofs.Common.{◌≡◌, ℕ, suc, ◌+◌, sym, ap, subst, arith}
 use Rattle.std.proofs.lemmas.Option.{IfSome_then}
 use Rattle.irs_answers.specs.Due.{RefusedBy, answer_of}
-use Rattle.irs_bulk.specs.BulkRuns.{both_totals, total_at, totals_to}
+use Rattle.irs_bulk.specs.BulkRuns.{total_at, totals_to}
 use Rattle.irs_bulk.specs.declared.totals.Totals.{Totals}
 use Rattle.irs_bulk.proofs.BulkRunLemmas.{no_sums, stops_at, sums_more}
 use Rattle.irs_bulk.proofs.runs.totals.Goals as goal
