@@ -1,6 +1,6 @@
 -- What is said of what the words came to, written piece by piece: the sentence, its end, and the listed commands.
 use Rattle.std.proofs.Common.{◌≡◌, ℕ, List, [], ◌++◌, codes, Option, inl, inr, refl, sym, ◌∙◌, ap, subst, append_assoc}
-use Rattle.std.proofs.Common.{◌==◌, if◌then◌else◌, arith, Bool, true, false}
+use Rattle.std.proofs.Common.{◌==◌, if◌then◌else◌, arith, map, Bool, true, false}
 use Rattle.irs_outside.specs.Outside.{Grew, GrewByFront}
 use Rattle.irs_main.specs.Sentences.{is_silent, sentence_of}
 use Rattle.irs_main.proofs.PieceLemmas.{grew_nothing, through_all}
@@ -11,7 +11,6 @@ use Rattle.irs_main.specs.Answering.{Explained, explanation_of, ended_lines, lis
 use Rattle.irs_main.specs.Private.Answering.{SaysNoWord}
 use Rattle.irs_main.specs.WrongWords.{commands}
 use Rattle.irs_main.specs.declared.help.TheConstants.{COMMANDS}
-use Rattle.irs_main.proofs.LineLemmas.{lines_in}
 use Rattle.irs_main.proofs.TableLaws.{commands_are}
 
 -- where there is nothing to say, the explanation is empty
@@ -50,7 +49,7 @@ pub said_of_same : (words others : List (List ℕ)) (c : RunCause) → words ≡
 said_of_same words others c same = ap (λ (ws : List (List ℕ)). explanation_of ws c) same
 
 -- a list of lines for status 4 alone
-listing_at : (n : ℕ) → n ≡ 4 → lines_in COMMANDS ≡ (if n == 4 then ended_lines commands else [])
+listing_at : (n : ℕ) → n ≡ 4 → ended_lines (map (λ n. n.now) COMMANDS) ≡ (if n == 4 then ended_lines commands else [])
 listing_at n is = ap ended_lines commands_are ∙ sym (ap (λ (k : ℕ). if k == 4 then ended_lines commands else []) is)
 
 no_listing_at : (n : ℕ) → ¬ (n ≡ 4) → (if n == 4 then ended_lines commands else []) ≡ []
@@ -98,7 +97,7 @@ module _ (words : List (List ℕ)) (c : RunCause) where
 
     -- the listed commands weren't written whole
     pub listing_failed : (a b d e : Option (List ℕ)) → Grew a b sentence → Grew b d (codes "\n") → run_status c ≡ 4
-        → GrewByFront d e (lines_in COMMANDS) → GrewByFront a e text
+        → GrewByFront d e (ended_lines (map (λ n. n.now) COMMANDS)) → GrewByFront a e text
     listing_failed a b d e h k bad m =
         let G : List ℕ → Type 0 = λ t. GrewByFront d e t in
         through_last_part a d e listing text (end_put a b d h k)
@@ -106,7 +105,7 @@ module _ (words : List (List ℕ)) (c : RunCause) where
 
     -- the listed commands were written
     pub listing_put : (a b d e : Option (List ℕ)) → Grew a b sentence → Grew b d (codes "\n") → run_status c ≡ 4
-        → Grew d e (lines_in COMMANDS) → Grew a e text
+        → Grew d e (ended_lines (map (λ n. n.now) COMMANDS)) → Grew a e text
     listing_put a b d e h k bad m =
         let G : List ℕ → Type 0 = λ t. Grew d e t in
         through_last a d e listing text (end_put a b d h k) (subst G (listing_at (run_status c) bad) m)
