@@ -27,7 +27,7 @@ mod wrong_words;
 pub use answering::answer;
 pub use centers::lists_are_visible;
 pub use day_rolls::day_rolls_are_numbers;
-pub use help::VERSION;
+pub use help::{HELP, VERSION};
 pub use sentences::{put_sentence, silence_is_empty};
 pub use shown::{shown_words, what_is_shown_is_one_line};
 pub use slips::slips_are_found;
