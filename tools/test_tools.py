@@ -632,7 +632,7 @@ kept n = IsSet n
 class Rows(InRoom):
     """The numbers of the tables of elements."""
 
-    LIST = "crates/irs_base/specs/PathList.antt"
+    LIST = "crates/irs_base/specs/Paths.antt"
     TABLE = "crates/irs_read/src/table.rt"
     FILES = [LIST, TABLE, "crates/irs_base/src/elements.rt", "crates/irs_base/specs/Elements.antt",
              "crates/irs_flows/src/flow_table.rt"]
