@@ -1129,7 +1129,8 @@ fact = refl
 
     def setUp(self) -> None:
         super().setUp()
-        self.top = self.copy("tools/reading", "tools/move_private", "tools/rename_definitions", "tools/merge_definitions")
+        tools = ("reading", "move_private", "rename_definitions", "merge_definitions", "proved.py", "tree.py")
+        self.top = self.copy(*[f"tools/{name}" for name in tools])
         for name, text in self.FILES.items():
             self.write(f"crates/{name}", text)
         self.write("crates.txt", "irs_low:\nirs_high: irs_low\n")
