@@ -4,7 +4,8 @@ use Rattle.irs_terms.specs.declared.codes.ConvCode.{ConvCode}
 use Rattle.irs_terms.specs.declared.codes.ConvCode.TheVariants.{Following, ModFollowing, Preceding, ModPreceding}
 use Rattle.irs_terms.specs.declared.codes.ConvCode.TheVariants.{Nearest, Unadjusted}
 use Rattle.irs_calendar.specs.GoodDays.{DaySet}
-use Rattle.irs_adjust.specs.ConventionLaws.{one_same, one_next, one_prev, one_modfollows, one_modprecedes, one_nearest}
+use Rattle.irs_adjust.specs.Private.ConventionLaws.{one_same, one_next, one_prev, one_modfollows, one_modprecedes}
+use Rattle.irs_adjust.specs.Private.ConventionLaws.{one_nearest}
 use Rattle.irs_adjust.specs.MovedDays.{Adjusts}
 
 -- a convention gives at most one day

@@ -11,7 +11,7 @@ use Rattle.irs_terms.specs.declared.codes.ConvCode.TheVariants.{Following, ModFo
 use Rattle.irs_terms.specs.declared.codes.ConvCode.TheVariants.{Nearest, Unadjusted}
 use Rattle.irs_calendar.specs.GoodDays.{DaySet, InCover, IsGood, Next, Prev}
 use Rattle.irs_adjust.specs.MovedDays.{SameMonth, ModFollows, ModPrecedes, IsSundayOrMonday, GoesNearest, Adjusts}
-use Rattle.irs_adjust.specs.ConventionLaws.{one_next, one_prev, next_stays, prev_stays}
+use Rattle.irs_adjust.specs.Private.ConventionLaws.{one_next, one_prev, next_stays, prev_stays}
 use Rattle.irs_base.specs.Private.Order.{IsDecided}
 use Rattle.irs_base.proofs.Decided.{order_of, decides_same}
 

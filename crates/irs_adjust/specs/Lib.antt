@@ -1,3 +1,2 @@
 pub mod MovedDays
-pub mod ConventionLaws
 pub mod Private

@@ -1,1 +1,2 @@
 pub mod MovedDays
+pub mod ConventionLaws

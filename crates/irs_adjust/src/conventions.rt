@@ -6,9 +6,9 @@
 ghost use Rattle.std.specs.Prelude.{◌≡◌, refl};
 ghost use Rattle.irs_calendar.specs.GoodDays.{Next, Prev};
 ghost use Rattle.irs_adjust.specs.MovedDays.{ModFollows, ModPrecedes, GoesNearest};
-ghost use Rattle.irs_adjust.specs.ConventionLaws.{one_next, next_stays, one_prev, prev_stays, one_modfollows};
-ghost use Rattle.irs_adjust.specs.ConventionLaws.{modfollows_stays, one_modprecedes, modprecedes_stays, one_nearest};
-ghost use Rattle.irs_adjust.specs.ConventionLaws.{nearest_stays, one_same};
+ghost use Rattle.irs_adjust.specs.Private.ConventionLaws.{one_next, next_stays, one_prev, prev_stays, one_modfollows};
+ghost use Rattle.irs_adjust.specs.Private.ConventionLaws.{modfollows_stays, one_modprecedes, modprecedes_stays};
+ghost use Rattle.irs_adjust.specs.Private.ConventionLaws.{one_nearest, nearest_stays, one_same};
 
 use crate::Convention;
 use crate::months::in_same_month;

@@ -10,7 +10,7 @@ use Rattle.jiff_core.proofs.SignedLemmas.{signed_arith}
 use Rattle.irs_base.specs.Lists.{EachNumbered}
 use Rattle.irs_base.proofs.MemberLemmas.{numbered_push, numbered_there, one_numbered}
 use Rattle.irs_calendar.specs.GoodDays.{DaySet}
-use Rattle.irs_adjust.specs.ConventionLaws.{one_prev}
+use Rattle.irs_adjust.specs.Private.ConventionLaws.{one_prev}
 use Rattle.irs_adjust.proofs.FoundDays.{decides_prev}
 use Rattle.irs_overnight.specs.Private.Bounds.{IsSmall}
 use Rattle.irs_overnight.specs.Observations.{RateLines, rate_by}

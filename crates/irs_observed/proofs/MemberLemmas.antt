@@ -7,7 +7,7 @@ use Rattle.irs_base.specs.Lists.{Lists, Member}
 use Rattle.irs_base.proofs.Decided.{order_of}
 use Rattle.irs_base.proofs.Rising.{member_cases, member_new, member_old, one_rising, rising_push}
 use Rattle.irs_calendar.specs.GoodDays.{DaySet, InCover, IsGood, Next}
-use Rattle.irs_adjust.specs.ConventionLaws.{next_stays}
+use Rattle.irs_adjust.specs.Private.ConventionLaws.{next_stays}
 use Rattle.irs_adjust.proofs.FoundDays.{decides_good, decides_in_cover}
 use Rattle.irs_observed.specs.Observations.{AreMembers, IsPeriodMember, LeavesCover}
 

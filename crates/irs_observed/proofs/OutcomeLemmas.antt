@@ -11,7 +11,7 @@ use Rattle.irs_base.proofs.Decided.{order_of}
 use Rattle.irs_base.proofs.MemberLemmas.{numbered_there, one_numbered}
 use Rattle.irs_base.proofs.Outcomes.{unless_broken_determined}
 use Rattle.irs_calendar.specs.GoodDays.{DaySet, IsGood, Prev}
-use Rattle.irs_adjust.specs.ConventionLaws.{one_prev}
+use Rattle.irs_adjust.specs.Private.ConventionLaws.{one_prev}
 use Rattle.irs_adjust.proofs.FoundDays.{IsFound, decides_in_cover, decides_le, decides_next, decides_prev}
 use Rattle.irs_adjust.proofs.MovedDays.{decides_moves}
 use Rattle.irs_adjust.proofs.OffsetLaws.{one_moved}

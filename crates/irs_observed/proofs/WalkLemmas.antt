@@ -6,7 +6,7 @@ use Rattle.jiff_core.proofs.SignedLemmas.{signed_arith}
 use Rattle.irs_base.specs.Lists.{day_at}
 use Rattle.irs_base.proofs.Decided.{order_of}
 use Rattle.irs_calendar.specs.GoodDays.{DaySet, InCover, IsGood, Prev}
-use Rattle.irs_adjust.specs.ConventionLaws.{one_prev, prev_stays}
+use Rattle.irs_adjust.specs.Private.ConventionLaws.{one_prev, prev_stays}
 use Rattle.irs_adjust.specs.declared.ways.Way.TheVariants.{Back}
 use Rattle.irs_adjust.proofs.WayLemmas.{Reached, moved, reached_more, reached_none}
 use Rattle.irs_observed.specs.Observations.{MovesBack, AreMembers, IsPeriodMember, LeavesCover}

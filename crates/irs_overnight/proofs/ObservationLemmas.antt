@@ -6,7 +6,7 @@ use Rattle.std.proofs.lemmas.List.Elements.{All-push}
 use Rattle.irs_base.specs.Lists.{EachNumbered}
 use Rattle.irs_base.proofs.MemberLemmas.{numbered_push, one_numbered}
 use Rattle.irs_calendar.specs.GoodDays.{DaySet}
-use Rattle.irs_adjust.specs.ConventionLaws.{one_prev}
+use Rattle.irs_adjust.specs.Private.ConventionLaws.{one_prev}
 use Rattle.irs_overnight.specs.Private.Bounds.{IsSmall}
 use Rattle.irs_overnight.specs.Observations.{AreRateObservations, AreRatesObserved, IsRateObservation, absent_or}
 use Rattle.irs_overnight.specs.Observations.{first_absent, RateLines}

@@ -16,7 +16,7 @@ use Rattle.irs_base.proofs.Rising.{one_rising}
 use Rattle.irs_terms.specs.declared.parameters.ObservationOffset.{ObservationOffset}
 use Rattle.irs_terms.specs.declared.parameters.ObservationOffset.TheVariants.{Absent}
 use Rattle.irs_calendar.specs.GoodDays.{DaySet, IsGood, Prev}
-use Rattle.irs_adjust.specs.ConventionLaws.{one_prev, prev_stays}
+use Rattle.irs_adjust.specs.Private.ConventionLaws.{one_prev, prev_stays}
 use Rattle.irs_resets.specs.Rates.{RateTable}
 use Rattle.irs_observed.specs.ObservedRates.{DailyRates, daily_rates, Grows as GrowsFine, GrowsBy as GrowsFineBy}
 use Rattle.irs_observed.specs.ObservedRates.{one_factor as one_fine, RateFraction, IsObservedRate, days_of_year}

@@ -5,8 +5,7 @@ use Rattle.jiff_core.proofs.SignedLemmas.{signed_arith}
 use Rattle.irs_base.specs.Days.{weekday_at, InMonth, dim, month_start, day_in_month}
 use Rattle.irs_base.proofs.MonthLemmas.{same_month}
 use Rattle.irs_roll.specs.Rolls.{IsMultiple, MonthsTo, OnMonths, OnRollDay, IsLastDay, IsNumbered, IsThirdWednesday}
-use Rattle.irs_roll.specs.Laws.{last_day-is, last_day_only, numbered-is, numbered_only}
-use Rattle.irs_roll.specs.Private.Laws.{rolls_in}
+use Rattle.irs_roll.specs.Private.Laws.{last_day-is, last_day_only, numbered-is, numbered_only, rolls_in}
 
 place_day : (n place : ℕ) (d m : ℤ) → d +ℤ pos 1 ≡ month_start m +ℤ pos place → place ≡ min n (dim m)
     → d ≡ day_in_month n m

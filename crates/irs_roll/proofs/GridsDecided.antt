@@ -12,9 +12,8 @@ use Rattle.irs_terms.specs.declared.frequency.Unit.{Unit as FrequencyUnit}
 use Rattle.irs_terms.specs.declared.frequency.Unit.TheVariants.{D, W, M, Y, T}
 use Rattle.irs_terms.specs.Lawful.{IsLawfulFrequency, IsLawfulRoll}
 use Rattle.irs_roll.specs.Rolls.{last_day_of, third_wednesday, IsMultiple, OnMonths, IsRollDay, OnGridBy, OnGrid}
-use Rattle.irs_roll.specs.Laws.{last_day-is, last_day_only, numbered-is, numbered_only, third_wednesday-is}
-use Rattle.irs_roll.specs.Laws.{third_wednesday_only}
-use Rattle.irs_roll.specs.Private.Laws.{no_whole_steps}
+use Rattle.irs_roll.specs.Private.Laws.{last_day-is, last_day_only, numbered-is, numbered_only, third_wednesday-is}
+use Rattle.irs_roll.specs.Private.Laws.{third_wednesday_only, no_whole_steps}
 
 -- a number is a whole multiple of the step, or its quotient leaves a rest
 pub decides_multiple : (step : ℕ) (z : ℤ) → 0 < step → IsDecided (IsMultiple step z)

@@ -1,3 +1,2 @@
 pub mod Rolls
-pub mod Laws
 pub mod Private

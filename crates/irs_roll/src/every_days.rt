@@ -2,7 +2,7 @@
 ghost use Rattle.std.specs.Prelude.{◌≡◌, ◌↔◌, ◌<◌, ℤ, pos};
 ghost use Rattle.irs_base.specs.Days.{IsDay};
 ghost use Rattle.irs_roll.specs.Rolls.{OnDays, kth};
-ghost use Rattle.irs_roll.specs.Laws.{kth_rises, OnDays-kth, kth-OnDays};
+ghost use Rattle.irs_roll.specs.Private.Laws.{kth_rises, OnDays-kth, kth-OnDays};
 
 use crate::Grid;
 use crate::steps::whole_steps;

@@ -2,7 +2,7 @@
 ghost use Rattle.std.specs.Prelude.{◌≡◌, ◌↔◌, ◌<◌, ◌≤◌, ℤ, pos, IfSome, IfNone};
 ghost use Rattle.irs_base.specs.Days.{InMonth};
 ghost use Rattle.irs_roll.specs.Rolls.{OnMonths, OnMonthsFrom, kth, IsLastDay, IsNumbered, IsThirdWednesday};
-ghost use Rattle.irs_roll.specs.Laws.{kth_rises, roll_rises, roll_is_on, roll_misses_none};
+ghost use Rattle.irs_roll.specs.Private.Laws.{kth_rises, roll_rises, roll_is_on, roll_misses_none};
 
 use crate::Grid;
 use crate::rolls::{DayNumber, EndOfMonth, Imm, Roll};

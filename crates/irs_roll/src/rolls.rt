@@ -6,8 +6,9 @@ ghost use Rattle.irs_base.specs.Days.{IsCivilOf, IsDay, first_year, last_year, w
 ghost use Rattle.irs_base.proofs.MonthLemmas.{day_in_month-in_month};
 ghost use Rattle.irs_roll.specs.Rolls.{OnRollDay, IsLastDay, IsNumbered, IsThirdWednesday, last_day_of};
 ghost use Rattle.irs_roll.specs.Rolls.{third_wednesday};
-ghost use Rattle.irs_roll.specs.Laws.{last_day-is, last_day_only, last_day-in_month, numbered-is, numbered_only};
-ghost use Rattle.irs_roll.specs.Laws.{third_wednesday-is, third_wednesday_only, third_wednesday-in_month};
+ghost use Rattle.irs_roll.specs.Private.Laws.{last_day-is, last_day_only, last_day-in_month, numbered-is};
+ghost use Rattle.irs_roll.specs.Private.Laws.{numbered_only, third_wednesday-is, third_wednesday_only};
+ghost use Rattle.irs_roll.specs.Private.Laws.{third_wednesday-in_month};
 
 use irs_base::{Civil, Day, DayName, month_day, plus, weekday};
 use jiff_core::civil::days_in_month;

@@ -1,9 +1,9 @@
 //! The grid of a frequency and a roll convention, whichever kind they give.
 ghost use Rattle.std.specs.Prelude.{◌≡◌, ◌↔◌, ◌<◌, ℤ, pos};
 ghost use Rattle.irs_roll.specs.Rolls.{OnMonths, OnRollDay, Fits, IsRollDay, OnGrid};
-ghost use Rattle.irs_roll.specs.Laws.{kth_rises, OnDays-kth, kth-OnDays, number_is_on, number_rises};
-ghost use Rattle.irs_roll.specs.Laws.{number_misses_none, end_is_on, end_rises, end_misses_none, wednesday_is_on};
-ghost use Rattle.irs_roll.specs.Laws.{wednesday_rises, wednesday_misses_none};
+ghost use Rattle.irs_roll.specs.Private.Laws.{kth_rises, OnDays-kth, kth-OnDays, number_is_on, number_rises};
+ghost use Rattle.irs_roll.specs.Private.Laws.{number_misses_none, end_is_on, end_rises, end_misses_none};
+ghost use Rattle.irs_roll.specs.Private.Laws.{wednesday_is_on, wednesday_rises, wednesday_misses_none};
 ghost use Rattle.irs_terms.specs.TermDates.{IsWholeTerm, RollsMonths, Suits};
 
 use crate::{EveryDays, Grid, MonthDay, MonthEnd, ThirdWednesday};

@@ -1,7 +1,6 @@
 use Rattle.std.proofs.Common.{rules, ℤ, subst, FitsSigned, w32, to_z-of_z, sym}
 use Rattle.irs_roll.specs.Rolls.{OnMonthsFrom}
-use Rattle.irs_roll.specs.Private.Laws.{none_then}
-use Rattle.irs_roll.specs.Laws.{from_start}
+use Rattle.irs_roll.specs.Private.Laws.{none_then, from_start}
 use Rattle.irs_roll.proofs.month_grid.MonthGridGrid.index.Goals as goal
 
 pub returns-clause-none : goal.returns-clause-none

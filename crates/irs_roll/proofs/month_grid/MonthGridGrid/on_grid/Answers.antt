@@ -1,7 +1,6 @@
 use Rattle.std.proofs.Common.{◌≡◌, ℤ, subst}
 use Rattle.irs_roll.specs.Rolls.{kth, OnMonths}
-use Rattle.irs_roll.specs.Private.Laws.{on_by_index}
-use Rattle.irs_roll.specs.Laws.{roll_is_on}
+use Rattle.irs_roll.specs.Private.Laws.{on_by_index, roll_is_on}
 use Rattle.irs_roll.proofs.month_grid.MonthGridGrid.on_grid.Goals as goal
 
 pub returns : goal.returns

@@ -1,3 +1,4 @@
+-- Private: no public contract rests on this file.
 -- A day has at most one adjusted day, and a business day stays.
 use Rattle.std.proofs.Common.{◌≡◌, ◌⊎◌, inl, inr, arith, refl, sym, ◌∙◌, subst, ℤ, ◌<ℤ◌}
 use Rattle.jiff_core.proofs.SignedLemmas.{signed_arith}
