@@ -12,8 +12,7 @@ use Rattle.irs_terms.specs.declared.codes.DayCountCode.TheVariants.{OneOne, ActA
 use Rattle.irs_terms.specs.declared.codes.DayCountCode.TheVariants.{ThirtyE360, ThirtyE360Isda}
 use Rattle.irs_terms.specs.declared.results.Frac.{Frac}
 use Rattle.irs_daycount.specs.Fractions.{denominator_of}
-use Rattle.irs_daycount.specs.FractionLaws.{one_fraction}
-use Rattle.irs_daycount.specs.Private.FractionLaws.{one_days, one_denominator}
+use Rattle.irs_daycount.specs.Private.FractionLaws.{one_fraction, one_days, one_denominator}
 use Rattle.irs_schedule.specs.Parts.{IsWithin, KeepsBounds, Part}
 use Rattle.irs_schedule.specs.declared.views.CalculationPeriod.{CalculationPeriod}
 use Rattle.irs_accrue.specs.Accruals.{Accrues, AccruesIn, IsAccrual, IsAccrued, IsInterest, IsOutside, CountedTo}

@@ -20,9 +20,8 @@ use Rattle.irs_compound.specs.Amounts.{IsDayCountFraction, IsTermOver, IsPayment
 use Rattle.irs_compound.specs.Amounts.{IsOutOfRange, Pays, RoundedAt, Follows, StandsAfter, StaysWithin, PeriodPasses}
 use Rattle.irs_compound.specs.Amounts.{amount, total, sum_kept, kept_of, denominator, code_for, most_amount, most_exact}
 use Rattle.irs_compound.specs.Amounts.{most_currency_places, most_units}
-use Rattle.irs_compound.specs.AmountLaws.{AllFractions, all_fractions, follows_exists, follows_once, stands_exists}
-use Rattle.irs_compound.specs.AmountLaws.{ten_above}
-use Rattle.irs_compound.specs.Private.AmountLaws.{follows_more, total-push}
+use Rattle.irs_compound.specs.Private.AmountLaws.{AllFractions, all_fractions, follows_exists, follows_once}
+use Rattle.irs_compound.specs.Private.AmountLaws.{stands_exists, ten_above, follows_more, total-push}
 use Rattle.irs_compound.specs.declared.periods.PeriodTerm.{PeriodTerm}
 use Rattle.irs_compound.specs.declared.periods.Parts.{Parts}
 

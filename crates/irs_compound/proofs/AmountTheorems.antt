@@ -15,8 +15,8 @@ use Rattle.irs_terms.specs.declared.codes.CompCode.TheVariants.{Simple, Straight
 use Rattle.irs_compound.specs.Amounts.{IsDayCountFraction, AllPriced, SomeUnpriced, AmountOf, PeriodPasses}
 use Rattle.irs_compound.specs.Amounts.{IsOutOfRange, RatesWithin, PartsWithin, SumsWithin, StaysWithin, amount, total}
 use Rattle.irs_compound.specs.Amounts.{sum_kept, kept_of, code_for, most_amount, most_exact}
-use Rattle.irs_compound.specs.Private.AmountLaws.{IsFirstOut, priced_or_not, not_passed, number_within}
-use Rattle.irs_compound.specs.AmountLaws.{pays_exists, AllFractions, follows_exists, stands_exists}
+use Rattle.irs_compound.specs.Private.AmountLaws.{IsFirstOut, priced_or_not, not_passed, number_within, pays_exists}
+use Rattle.irs_compound.specs.Private.AmountLaws.{AllFractions, follows_exists, stands_exists}
 use Rattle.irs_compound.specs.declared.periods.PeriodTerm.{PeriodTerm}
 use Rattle.irs_compound.specs.declared.periods.Parts.{Parts}
 use Rattle.irs_compound.specs.declared.periods.Rates.{Rates}

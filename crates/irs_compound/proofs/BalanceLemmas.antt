@@ -14,8 +14,7 @@ use Rattle.irs_compound.specs.Amounts.{Pays, RoundedAt, IsTermOver, StandsAt, St
 use Rattle.irs_compound.specs.Amounts.{StaysWithin, PeriodPasses, amount, total, kept_of, sum_kept, denominator}
 use Rattle.irs_compound.specs.Amounts.{most_exact}
 use Rattle.irs_compound.specs.Private.AmountLaws.{BalanceFits, Takes, Stops, Balances, follows_more, not_passed}
-use Rattle.irs_compound.specs.Private.AmountLaws.{number_within, total-push, kept-push}
-use Rattle.irs_compound.specs.AmountLaws.{all_fractions}
+use Rattle.irs_compound.specs.Private.AmountLaws.{number_within, total-push, kept-push, all_fractions}
 use Rattle.irs_compound.specs.declared.balances.Balance.{Balance}
 use Rattle.irs_compound.specs.declared.periods.PeriodTerm.{PeriodTerm}
 use Rattle.irs_compound.specs.declared.periods.Parts.{Parts}

@@ -5,8 +5,7 @@ use Rattle.irs_base.specs.Outcomes.{Determined}
 use Rattle.irs_base.proofs.Outcomes.{unless_broken_determined}
 use Rattle.irs_terms.specs.declared.codes.CompCode.{CompCode}
 use Rattle.irs_compound.specs.Amounts.{AmountOf, IsOutOfRange, payment_amount_of}
-use Rattle.irs_compound.specs.Private.AmountLaws.{one_amount}
-use Rattle.irs_compound.specs.AmountLaws.{AllFractions}
+use Rattle.irs_compound.specs.Private.AmountLaws.{one_amount, AllFractions}
 use Rattle.irs_compound.specs.declared.periods.PeriodTerm.{PeriodTerm}
 use Rattle.irs_compound.proofs.AmountTheorems.{amount_decided, amount_there, one_amount_out}
 

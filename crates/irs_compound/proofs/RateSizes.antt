@@ -16,7 +16,7 @@ use Rattle.irs_terms.specs.Lawful.{IsLawfulValues, IsLawfulFloat, IsLawfulLeg, I
 use Rattle.irs_compound.specs.PeriodRates.{value_in_force, rate_by_rounding, exact_base, treated, rates_of}
 use Rattle.irs_compound.specs.PeriodRates.{fixed_rates_of, leg_rates, most_rounded_rate}
 use Rattle.irs_compound.specs.Private.RateLaws.{in_force_is, in_force_within, most_exact_rate, ten_positive}
-use Rattle.irs_compound.specs.AmountLaws.{ten_above}
+use Rattle.irs_compound.specs.Private.AmountLaws.{ten_above}
 
 -- a value in force is one of those that there are
 pub value_within : (Within : ℤ → Type 0) (values : StepValues) (d : ℤ) → IsLawfulValues Within values

@@ -1,4 +1,3 @@
 pub mod PeriodRates
 pub mod Amounts
-pub mod AmountLaws
 pub mod Private

@@ -1,2 +1,2 @@
-pub mod RateLaws
 pub mod AmountLaws
+pub mod RateLaws

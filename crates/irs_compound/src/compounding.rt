@@ -5,7 +5,7 @@ ghost use Rattle.irs_terms.specs.declared.codes.CompCode.{CompCode};
 ghost use Rattle.irs_compound.specs.declared.periods.PeriodTerm.{PeriodTerm};
 ghost use Rattle.irs_compound.specs.Amounts.{IsPaymentOfTerms, AllPriced, PeriodPasses, Pays, code_for};
 ghost use Rattle.irs_compound.specs.Amounts.{most_currency_places, MeetsPosition};
-ghost use Rattle.irs_compound.specs.AmountLaws.{one_amount_of, some_amount_of};
+ghost use Rattle.irs_compound.specs.Private.AmountLaws.{one_amount_of, some_amount_of};
 
 use crate::amounts::amount_by;
 use crate::periods::PeriodTerm;

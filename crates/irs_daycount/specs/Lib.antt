@@ -1,3 +1,2 @@
 pub mod Fractions
-pub mod FractionLaws
 pub mod Private

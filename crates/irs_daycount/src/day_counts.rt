@@ -3,7 +3,7 @@ ghost use Rattle.std.specs.Prelude.{◌≡◌, ℤ, Bool, ◌<ℤ◌};
 ghost use Rattle.irs_terms.specs.declared.codes.DayCountCode.{DayCountCode};
 ghost use Rattle.irs_terms.specs.declared.results.Frac.{Frac};
 ghost use Rattle.irs_daycount.specs.Fractions.{Days, Fraction, days_of, fraction_of, denominator_of, IsNumerator};
-ghost use Rattle.irs_daycount.specs.FractionLaws.{one_fraction};
+ghost use Rattle.irs_daycount.specs.Private.FractionLaws.{one_fraction};
 
 use crate::fractions::{days_by, fraction_by};
 use irs_base::Day;

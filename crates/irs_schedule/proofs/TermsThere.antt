@@ -15,7 +15,7 @@ use Rattle.irs_daycount.specs.Private.FractionLaws.{fraction_is, days_is}
 use Rattle.irs_compound.specs.Amounts.{IsDayCountFraction, AmountOf}
 use Rattle.irs_compound.specs.PeriodRates.{value_in_force, rates_in}
 use Rattle.irs_compound.specs.Private.RateLaws.{in_force_is, rates_in_are}
-use Rattle.irs_compound.specs.AmountLaws.{AllFractions}
+use Rattle.irs_compound.specs.Private.AmountLaws.{AllFractions}
 use Rattle.irs_compound.specs.declared.periods.PeriodTerm.{PeriodTerm}
 use Rattle.irs_compound.proofs.FractionFits.{fraction_is_fit}
 use Rattle.irs_payments.proofs.PlaceLemmas.{rises_at}

@@ -10,11 +10,10 @@ use Rattle.irs_terms.specs.Lawful.{decimals_of}
 use Rattle.irs_terms.specs.Private.TermDates.{AllStepsRise}
 use Rattle.irs_terms.specs.declared.results.Payment.{Payment}
 use Rattle.irs_terms.specs.declared.stream.Stream.{Stream}
-use Rattle.irs_daycount.specs.FractionLaws.{one_fraction}
-use Rattle.irs_daycount.specs.Private.FractionLaws.{one_days}
+use Rattle.irs_daycount.specs.Private.FractionLaws.{one_fraction, one_days}
 use Rattle.irs_compound.specs.Private.AmountLaws.{one_amount as one_units}
 use Rattle.irs_compound.specs.Private.RateLaws.{one_in_force, one_rates_in}
-use Rattle.irs_compound.specs.AmountLaws.{AllFractions}
+use Rattle.irs_compound.specs.Private.AmountLaws.{AllFractions}
 use Rattle.irs_compound.specs.declared.periods.PeriodTerm.{PeriodTerm}
 use Rattle.irs_schedule.specs.declared.entries.PaymentEntry.{PaymentEntry}
 use Rattle.irs_schedule.specs.declared.entries.PeriodEntry.{PeriodEntry}

@@ -26,7 +26,7 @@ use Rattle.irs_observed.proofs.PeriodRateLaws.{period_rate_is, period_rate_value
 use Rattle.irs_observed.specs.ObservedRates.{RateFraction, period_rate_at}
 use Rattle.irs_observed.specs.declared.overnight_rate.OvernightRate.{OvernightRate}
 use Rattle.irs_observed.specs.declared.overnight_rate.OvernightRate.TheVariants.{Stated, Known, Absent, OutOfRange}
-use Rattle.irs_compound.specs.AmountLaws.{ten_above, scaled_above}
+use Rattle.irs_compound.specs.Private.AmountLaws.{ten_above, scaled_above}
 use Rattle.irs_compound.specs.PeriodRates.{LastOf, InForce, value_of, later_step, counted_step, last_from}
 use Rattle.irs_compound.specs.PeriodRates.{value_in_force, rate_by_rounding, treated, RateAt, Treats, RatesOf}
 use Rattle.irs_compound.specs.PeriodRates.{FixedRatesOf, AreRates, exact_base, rates_of, fixed_rates_of, leg_rates}

@@ -2,7 +2,7 @@ use Rattle.std.proofs.Common.{rules, FitsSigned}
 use Rattle.std.specs.Int.{w128}
 use Rattle.std.proofs.lemmas.Int.{to_z-of_z}
 use Rattle.irs_terms.specs.declared.codes.CompCode.TheVariants.{Flat, SpreadExclusive}
-use Rattle.irs_compound.specs.AmountLaws.{at_exists}
+use Rattle.irs_compound.specs.Private.AmountLaws.{at_exists}
 use Rattle.irs_compound.proofs.StepLemmas.{takes, stops, stops_at_rates}
 use Rattle.irs_compound.proofs.balances.next_balance.Goals as goal
 

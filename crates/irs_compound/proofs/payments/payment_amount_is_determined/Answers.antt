@@ -1,6 +1,6 @@
 use Rattle.irs_compound.specs.Private.AmountLaws.{one_list}
 use Rattle.irs_compound.specs.Amounts.{denominator}
-use Rattle.irs_compound.specs.AmountLaws.{all_fractions}
+use Rattle.irs_compound.specs.Private.AmountLaws.{all_fractions}
 use Rattle.irs_compound.proofs.Outcomes.{payment_determined}
 use Rattle.irs_compound.proofs.payments.payment_amount_is_determined.Goals as goal
 

@@ -4,7 +4,7 @@ use Rattle.std.proofs.lemmas.Int.{to_z-of_z}
 use Rattle.std.proofs.lemmas.Nat.{pow-add}
 use Rattle.irs_base.specs.Limits.{Rounded}
 use Rattle.irs_base.proofs.RoundingLaws.{rounded_size}
-use Rattle.irs_compound.specs.AmountLaws.{ten_above}
+use Rattle.irs_compound.specs.Private.AmountLaws.{ten_above}
 use Rattle.irs_compound.proofs.rates.rounded_whole.Goals as goal
 
 pub returns-clause-size : goal.returns-clause-size

@@ -1,8 +1,7 @@
 use Rattle.std.proofs.Common.{FitsSigned}
 use Rattle.std.specs.Int.{w64}
 use Rattle.std.proofs.lemmas.Int.{to_z-of_z}
-use Rattle.irs_daycount.specs.FractionLaws.{one_fraction}
-use Rattle.irs_daycount.specs.Private.FractionLaws.{one_denominator, fraction_value}
+use Rattle.irs_daycount.specs.Private.FractionLaws.{one_fraction, one_denominator, fraction_value}
 use Rattle.irs_daycount.proofs.FractionBounds.{fraction_bounded}
 use Rattle.irs_daycount.proofs.fractions.fraction_from.Goals as goal
 
