@@ -4,7 +4,7 @@ use Rattle.std.proofs.Common.{◌<◌, refl, sym, subst, ap, ◌∙◌, arith, a
 use Rattle.std.specs.List.{slice_get}
 use Rattle.std.proofs.lemmas.List.{length-take-le, take-append-drop, take_more}
 use Rattle.std.proofs.lemmas.Option.{get_or_from_slice_get, slice_get_within}
-use Rattle.irs_base.specs.Outcomes.{IfStopped, First, Only, Determined, IfMemory, IfOutOfMemory, Meets, RefusesNothing}
+use Rattle.irs_base.specs.Outcomes.{IfStopped, First, Only, Determined, IfMemory, Meets, RefusesNothing}
 use Rattle.irs_base.specs.Outcomes.{Spec, ◌>>=◌, answer, answered, each_in_turn, given_by, refused, refused_as}
 use Rattle.irs_base.specs.Outcomes.{unbroken, unless_broken}
 use Rattle.irs_base.specs.Lists.{Every}
@@ -224,12 +224,8 @@ pub stopped_meets : {A R : Type 0} (spec : Spec A R) (r : Result A (Stopped R)) 
 stopped_meets spec (Ok v) e is h = absurd is
 stopped_meets {R = R} spec (Err x) e is h = subst (λ (y : Stopped R). IfStopped y spec.Refuses) (sym is) h
 
--- what holds anyway holds where memory ran out
-if_out_of_memory : {R : Type 0} (P : Type 0) (e : Stopped R) → P → IfOutOfMemory e P
-if_out_of_memory P (OfBroken r) h = tt
-if_out_of_memory P OfMemory h = h
-
 -- what holds always holds where memory ran out
 pub if_memory : {A R : Type 0} (P : Type 0) (r : Result A (Stopped R)) → P → IfMemory r P
 if_memory P (Ok a) h = tt
-if_memory P (Err e) h = if_out_of_memory P e h
+if_memory P (Err (OfBroken r)) h = tt
+if_memory P (Err OfMemory) h = h

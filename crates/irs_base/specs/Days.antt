@@ -25,7 +25,6 @@ all_days = 145_732
 abbrev pub first_year : ℕ
 first_year = 1901
 
--- the last year of the range of dates
 abbrev pub last_year : ℕ
 last_year = 2299
 
@@ -33,7 +32,6 @@ last_year = 2299
 abbrev pub first_month : ℕ
 first_month = 22_812
 
--- its last month, counted from January of the year 0
 abbrev pub last_month : ℕ
 last_month = 27_599
 

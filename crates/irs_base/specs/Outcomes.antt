@@ -181,15 +181,11 @@ abbrev pub Meets : {A R : Type 0} → Spec A R → Result A (Stopped R) → Type
 Meets spec (Ok a) = spec.Answers a
 Meets spec (Err e) = IfStopped e spec.Refuses
 
--- where a call stops because memory ran out, P holds
-abbrev pub IfOutOfMemory : {R : Type 0} → Stopped R → Type 0 → Type 0
-IfOutOfMemory (OfBroken r) P = Unit {0}
-IfOutOfMemory OfMemory P = P
-
 -- where memory ran out, P holds
 abbrev pub IfMemory : {A R : Type 0} → Result A (Stopped R) → Type 0 → Type 0
 IfMemory (Ok a) P = Unit {0}
-IfMemory (Err e) P = IfOutOfMemory e P
+IfMemory (Err (OfBroken r)) P = Unit {0}
+IfMemory (Err OfMemory) P = P
 
 -- the answer is what `Is` says, and nothing is refused
 abbrev pub given_by : {A R : Type 0} → (A → Type 0) → Spec A R
@@ -207,7 +203,6 @@ answer x = record {
 
 -- one specification, then the next over its answer
 infixl 10 ◌>>=◌
--- a specification, then the next one over its answer
 abbrev pub ◌>>=◌ : {A B R : Type 0} → Spec A R → (A → Spec B R) → Spec B R
 spec >>= next = record {
   Answers = λ b. (a : _) × spec.Answers a × (next a).Answers b;
