@@ -7,11 +7,8 @@ use Rattle.irs_base.specs.Outcomes.{Only, Spec, ◌>>=◌, given_by, refused_as}
 use Rattle.irs_base.specs.declared.places.Broken.{Broken}
 use Rattle.irs_base.specs.declared.places.Fault.{Fault}
 use Rattle.serde_json.specs.Data.{Data}
-use Rattle.irs_terms.specs.Lawful.{IsLawfulSwap, IsLawfulFloat, IsLawfulLeg, IsLawfulStubRate, IsLawfulStubs, IsRate}
+use Rattle.irs_terms.specs.Lawful.{IsLawfulSwap, IsLawfulFloat, IsLawfulLeg, IsRate}
 use Rattle.irs_terms.specs.declared.amounts.FloatTerms.{FloatTerms}
-use Rattle.irs_terms.specs.declared.amounts.StubRate.{StubRate}
-use Rattle.irs_terms.specs.declared.amounts.StubRate.TheVariants.{Index}
-use Rattle.irs_terms.specs.declared.amounts.StubTerms.{StubTerms}
 use Rattle.irs_terms.specs.declared.frequency.Frequency.{Frequency}
 use Rattle.irs_terms.specs.declared.stream.Stream.{Stream}
 use Rattle.irs_terms.specs.declared.stream_list.Swap.{Swap}
@@ -27,13 +24,13 @@ use Rattle.irs_overnight.specs.Overnight.{OvernightAsked, HasSource, IsFirstDeri
 use Rattle.irs_overnight.specs.Texts.{AreFixings, file_text, IsLawfulLine}
 use Rattle.irs_overnight.specs.declared.derived.DerivedRow.{DerivedRow}
 use Rattle.irs_overnight.proofs.FileRead.{are_fixings}
+use Rattle.irs_average.proofs.StubReading.{lawful_on}
 use Rattle.irs_average.specs.Averages.{AverageAsked, AverageKept, HasMeanSource, IsAverage, IsFirstOfAverage, averaged}
 use Rattle.irs_average.specs.Averages.{AreMeans, BreaksMeans, MeanSource, averaging_by, mean_source, own_lines}
-use Rattle.irs_average.specs.Interpolations.{IsInterpolated, IsStubBroken, StubKept, IsStubRow, StubSource, GivesOn}
+use Rattle.irs_average.specs.Interpolations.{IsInterpolated, IsStubBroken, StubKept, IsStubRow, StubSource}
 use Rattle.irs_average.specs.Interpolations.{HasStub, IsStubOn, Stub, StubAsked, stub_asked}
 use Rattle.irs_average.specs.declared.means.Mean.{Mean}
 use Rattle.irs_average.specs.declared.stubs.Side.{Side}
-use Rattle.irs_average.specs.declared.stubs.Side.TheVariants.{Initial, Last}
 use Rattle.irs_answers.specs.Derived.{FloatingStream, IsFloatingAt, PrintsStub, averaged_of, compounded_of, floating_of}
 use Rattle.irs_answers.specs.Derived.{printed, stub_of, IsMadeWith}
 use Rattle.irs_answers.specs.Due.{AreGivenFixings as FixingsGive, Facts, PassesEachStep, SpellsTask}
@@ -93,19 +90,6 @@ own_line swap number x lawful at =
     let stream = lawful_stream swap lawful (number - 1) x.stream at.at in
     let float : IsLawfulFloat x.float = subst IsLawfulLeg at.pays stream.leg in
     record { named = float.index; lasting = float.tenor }
-
-lawful_given : (given : Option StubRate) (index : List ℕ) (tenor : Option Frequency) → IfSome given IsLawfulStubRate
-    → given ≡ Some (Index index tenor) → IsLawfulLine index tenor
-lawful_given given index tenor lawful is =
-    let both : IsLawfulStubRate (Index index tenor) =
-    subst (λ (o : Option StubRate). IfSome o IsLawfulStubRate) is lawful in
-    record { named = both.0; lasting = both.1 }
-
-lawful_on : (side : Side) (stubs : Option StubTerms) (index : List ℕ) (tenor : Option Frequency)
-    → IfSome stubs IsLawfulStubs → GivesOn side stubs index tenor → IsLawfulLine index tenor
-lawful_on side None index tenor lawful gives = absurd gives
-lawful_on Initial (Some stubs) index tenor lawful gives = lawful_given stubs.initial index tenor lawful.0 gives
-lawful_on Last (Some stubs) index tenor lawful gives = lawful_given stubs.last index tenor lawful.1 gives
 
 -- ---- what is printed with status 0
 

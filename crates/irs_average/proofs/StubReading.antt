@@ -32,7 +32,8 @@ lawful_given given index tenor lawful is =
     subst (λ (o : Option StubRate). IfSome o IsLawfulStubRate) is lawful in
     record { named = both.0; lasting = both.1 }
 
-lawful_on : (side : Side) (stubs : Option StubTerms) (index : List ℕ) (tenor : Option Frequency)
+-- what a lawful stub names makes a lawful line
+pub lawful_on : (side : Side) (stubs : Option StubTerms) (index : List ℕ) (tenor : Option Frequency)
     → IfSome stubs IsLawfulStubs → GivesOn side stubs index tenor → IsLawfulLine index tenor
 lawful_on side None index tenor lawful gives = absurd gives
 lawful_on Initial (Some stubs) index tenor lawful gives = lawful_given stubs.initial index tenor lawful.0 gives

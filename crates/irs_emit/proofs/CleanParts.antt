@@ -53,26 +53,27 @@ use Rattle.std.proofs.Common.{option_map, refl, sym, ap, ◌∙◌, subst, arith
 use Rattle.std.specs.Prelude.{slice_get, unwrap_or}
 
 -- the rows of the table of cash flows
-abbrev F : List Row
+abbrev pub F : List Row
 F = FLOW_ROWS
 
 -- the names of the table of cash flows
-abbrev M : List (List ℕ)
+abbrev pub M : List (List ℕ)
 M = flow_code_names
 
 -- the row of that number
-abbrev flow_at : ℕ → Row
+abbrev pub flow_at : ℕ → Row
 flow_at n = unwrap_or (slice_get F n) no_row
 
 -- ---- payments
 
 -- the forecast amount of a payment, by its parts
-abbrev forecast_with : Currency → Option Dec → Data
+abbrev pub forecast_with : Currency → Option Dec → Data
 forecast_with currency o =
     object (put_known (codes "amount") (option_map amount_leaf o)
     (put (codes "currency") (currency_leaf currency) no_members))
 
-forecast_free : (stream i : ℕ) (c : Currency) (o : Option Dec) → is_currency c.letters ≡ true → IfSome o IsShortAmount
+-- it breaks no rule
+pub forecast_free : (stream i : ℕ) (c : Currency) (o : Option Dec) → is_currency c.letters ≡ true → IfSome o IsShortAmount
     → NoFault F M stream 8 (Object Free) i (forecast_with c o)
 forecast_free stream i c None e h =
     let d = forecast_with c None in

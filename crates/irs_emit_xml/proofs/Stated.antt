@@ -8,7 +8,7 @@ use Rattle.std.specs.Prelude.{slice_get, unwrap_or, Result}
 use Rattle.irs_base.specs.Days.{IsDay}
 use Rattle.irs_base.specs.Limits.{most_rows}
 use Rattle.irs_base.specs.Lists.{Every}
-use Rattle.irs_base.specs.Texts.{day_text, dec_text}
+use Rattle.irs_base.specs.Texts.{day_text}
 use Rattle.irs_base.specs.declared.line.Dec.{Dec}
 use Rattle.irs_base.specs.declared.places.Broken.{Broken}
 use Rattle.irs_terms.specs.declared.currency.Currency.{Currency}
@@ -17,15 +17,14 @@ use Rattle.irs_elements.specs.Elements.{once, values_in, values_of}
 use Rattle.irs_elements.specs.Leaves.{is_currency}
 use Rattle.irs_elements.specs.declared.table.Choice.TheVariants.{Free}
 use Rattle.irs_elements.specs.declared.table.Kind.TheVariants.{Object}
-use Rattle.irs_elements.specs.declared.table.Leaf.TheVariants.{Amount, CurrencyName, Date}
-use Rattle.irs_elements.specs.declared.table.Row.{Row}
+use Rattle.irs_elements.specs.declared.table.Leaf.TheVariants.{Date}
 use Rattle.irs_json.specs.Leaves.{present, element_names, items_of as held}
 use Rattle.irs_read.proofs.TableLaws.{by_tables}
 use Rattle.irs_read.specs.Documents.{the_swap}
 use Rattle.irs_schedule.specs.Parts.{EntriesCover, IsWithin, Part}
 use Rattle.irs_schedule.specs.declared.entries.PaymentEntry.{PaymentEntry}
 use Rattle.irs_audit.proofs.BoundLemmas.{payments_few}
-use Rattle.irs_flows.proofs.FlowLaws.{flow_code_names, flow_names_are, flow_rows_are}
+use Rattle.irs_flows.proofs.FlowLaws.{flow_names_are, flow_rows_are}
 use Rattle.irs_audit.proofs.StatedLemmas.{flows_agree}
 use Rattle.irs_flows.specs.FlowFaults.{CashflowsFault, FlowFault, OnceFault, PeriodsFault, FlowStreamFault}
 use Rattle.irs_flows.specs.FlowFaults.{FlowStreamsFault, FlowSwapFault, below, ended, few, in_stream, is_sound}
@@ -33,23 +32,21 @@ use Rattle.irs_flows.specs.FlowFaults.{many_streams, no_stream, payments_in, per
 use Rattle.irs_flows.specs.FlowFaults.{flow_rows}
 use Rattle.irs_flows.specs.FlowReading.{exchange_in, flows_in, payment_in, period_in, flow_part_in, flow_parts_in}
 use Rattle.irs_flows.specs.FlowReading.{FlowPart}
-use Rattle.irs_flows.specs.declared.flow_table.TheConstants.{FLOW_ROWS}
 use Rattle.irs_flows.specs.declared.flows.FlowExchange.{FlowExchange}
 use Rattle.irs_flows.specs.declared.flows.FlowPayment.{FlowPayment}
 use Rattle.irs_flows.specs.declared.flows.FlowPeriod.{FlowPeriod}
 use Rattle.irs_emit.proofs.Clean.{NoFault, ValuesFree, absent_free, object_free, one_value, passed_free, present_free}
-use Rattle.irs_emit.proofs.CleanParts.{array_free, emitted_free}
-use Rattle.irs_emit.proofs.CleanRows.{currency_kept, day_kept, exchange_free, leaf_member, no_row, number_kept}
+use Rattle.irs_emit.proofs.CleanParts.{F, M, array_free, emitted_free, flow_at, forecast_free, forecast_with}
+use Rattle.irs_emit.proofs.CleanRows.{day_kept, exchange_free, leaf_member}
 use Rattle.irs_emit.proofs.PartsRead.{its_swap, mapped_length, swap_reads}
 use Rattle.irs_emit.proofs.RowsRead.{array_values, from_items}
 use Rattle.irs_emit.proofs.Short.{parts_short}
 use Rattle.irs_emit.specs.Emitted.{array_of, cashflows_value, emit_value, exchange_value, forecast_value}
-use Rattle.irs_emit.specs.Emitted.{known_exchanges, object_with, payment_value, put_known, stream_value, amount_leaf}
-use Rattle.irs_emit.specs.Emitted.{currency_leaf, utf8_or_empty}
+use Rattle.irs_emit.specs.Emitted.{known_exchanges, object_with, payment_value, stream_value}
 use Rattle.irs_emit.specs.RowLaws.{IsPartShort, IsExchangeShort, IsPaymentShort, IsShortAmount}
 use Rattle.irs_xml.specs.Document.{XmlReads}
 use Rattle.serde_json.specs.Data.{Data, null, boolean, number, string, array, object, item, no_items, Members}
-use Rattle.serde_json.specs.Data.{no_members, member, put}
+use Rattle.serde_json.specs.Data.{no_members, member}
 use Rattle.serde_json.specs.View.{items_of}
 use Rattle.irs_emit_xml.specs.Trees.{value_alone, ones}
 use Rattle.irs_emit_xml.specs.Flows.{StatesInXml}
@@ -265,43 +262,6 @@ its_carried_swap : (s : List Part) → the_swap (object_with (codes "swap") (car
 its_carried_swap s = refl
 
 -- ---- faults
-
--- the rows of the table of cash flows
-abbrev F : List Row
-F = FLOW_ROWS
-
--- the names of the table of cash flows
-abbrev M : List (List ℕ)
-M = flow_code_names
-
--- the row of that number
-abbrev flow_at : ℕ → Row
-flow_at n = unwrap_or (slice_get F n) no_row
-
--- the forecast amount of a payment, by its parts
-abbrev forecast_with : Currency → Option Dec → Data
-forecast_with currency o =
-    object (put_known (codes "amount") (option_map amount_leaf o)
-    (put (codes "currency") (currency_leaf currency) no_members))
-
-forecast_free : (stream i : ℕ) (c : Currency) (o : Option Dec) → is_currency c.letters ≡ true → IfSome o IsShortAmount
-    → NoFault F M stream 8 (Object Free) i (forecast_with c o)
-forecast_free stream i c None e h =
-    let d = forecast_with c None in
-    object_free F M stream 8 i d _ refl refl refl (
-      leaf_member F M stream 9 i _ d CurrencyName (utf8_or_empty c.letters) refl refl (omega arith) (currency_kept c e),
-      (absent_free F M stream 10 i _ d refl refl, tt),
-    )
-forecast_free stream i c (Some v) e h =
-    let d = forecast_with c (Some v) in
-    object_free F M stream 8 i d _ refl refl refl (
-      leaf_member F M stream 9 i _ d CurrencyName (utf8_or_empty c.letters) refl refl (omega arith) (currency_kept c e),
-      (
-        leaf_member F M stream 10 i _ d Amount (dec_text v.units v.places) refl refl (omega arith)
-            (number_kept v.units v.places h.0 h.1),
-        tt,
-      ),
-    )
 
 paid_names : (u a : ℤ) (m : Data) (c : Currency) (o : Option Dec) → IsHeld m
     → element_names (paid u a m (forecast_with c o))

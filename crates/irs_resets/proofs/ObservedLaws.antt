@@ -43,8 +43,6 @@ none_final stubs given e (inl h) = cc (h.0)
 none_final stubs given e (inr h) = cc (e, h.1)
 
 module _ (float : FloatTerms) where
-  -- ---- the source by the functions is one
-
   comes_initial : (stubs : StubTerms) (o : Option StubRate) → stubs.initial ≡ o
       → ComesFrom InitialStub float (Some stubs) (own_or_index o float)
   comes_initial stubs None e =
@@ -63,7 +61,8 @@ module _ (float : FloatTerms) where
   comes_first stubs None e = stream_index (none_first stubs) (λ k. e)
   comes_first stubs (Some rate) e = initial_rate rate refl e
 
-  comes_by : (kind : PeriodKind) (stubs : Option StubTerms) → ComesFrom kind float stubs (source_by kind float stubs)
+  -- the source that the functions name is one
+  pub comes_by : (kind : PeriodKind) (stubs : Option StubTerms) → ComesFrom kind float stubs (source_by kind float stubs)
   comes_by InitialStub None = stream_index (λ given h. h) (λ k. absurd (not_first_initial k))
   comes_by InitialStub (Some stubs) = comes_initial stubs stubs.initial refl
   comes_by FinalStub None = stream_index (λ given h. h) (λ k. absurd (not_first_final k))
@@ -98,7 +97,8 @@ module _ (float : FloatTerms) where
   index_is FirstRegular stubs none initial = let e : float.initial_rate ≡ None = initial refl in rw e refl
   index_is LaterRegular stubs none initial = refl
 
-  source_is : (kind : PeriodKind) (stubs : Option StubTerms) (source : RateSource) → ComesFrom kind float stubs source
+  -- every source is that one
+  pub source_is : (kind : PeriodKind) (stubs : Option StubTerms) (source : RateSource) → ComesFrom kind float stubs source
       → source ≡ source_by kind float stubs
   source_is kind stubs source (own_rate rate h) = given_is kind stubs (Fixed rate) h
   source_is kind stubs source (own_index index tenor h) = given_is kind stubs (Index index tenor) h

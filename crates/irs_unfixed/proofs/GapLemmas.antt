@@ -44,7 +44,7 @@ use Rattle.irs_unfixed.specs.Private.Made.{HasAbsentDay, IsGap, reset_source}
 use Rattle.irs_unfixed.proofs.MadeLemmas.{Stages, gap_high, gap_unknown, stages_of}
 use Rattle.irs_unfixed.proofs.RateLemmas.{IsUnknown, absent, unobserved}
 use Rattle.irs_unfixed.proofs.AbsentLemmas.{absent_none}
-use Rattle.irs_unfixed.proofs.SourceLemmas.{comes_by}
+use Rattle.irs_resets.proofs.ObservedLaws.{comes_by}
 
 -- floating legs that are equal have equal terms
 same_leg : (f g : FloatTerms) → (let l : Leg = Floating f in l ≡ Floating g) → f ≡ g

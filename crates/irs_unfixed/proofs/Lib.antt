@@ -1,7 +1,6 @@
 pub mod AbsentLemmas
 pub mod CountLemmas
 pub mod PlaceLemmas
-pub mod SourceLemmas
 pub mod RateLemmas
 pub mod MadeLemmas
 pub mod GapLemmas

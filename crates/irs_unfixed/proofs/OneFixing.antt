@@ -28,7 +28,7 @@ use Rattle.irs_unfixed.specs.Unfixed.{FirstAbsent, IsAbsentDay, Fixing, FloatsOn
 use Rattle.irs_unfixed.specs.Unfixed.{RestsOnDays, RestsOnReset, IsFirstLacking, PaymentLacks, MadeFrom, UnfixedAt}
 use Rattle.irs_unfixed.specs.Unfixed.{IsUnrated, place_before}
 use Rattle.irs_unfixed.specs.declared.places.PaymentPlace.{PaymentPlace}
-use Rattle.irs_unfixed.proofs.SourceLemmas.{source_is}
+use Rattle.irs_resets.proofs.ObservedLaws.{source_is}
 
 -- ---- one fixing of a period
 
