@@ -8,7 +8,6 @@
 ghost use Rattle.std.specs.Prelude.{◌≡◌, ◌<ℤ◌, ◌≤ℤ◌, ℤ, IfOk};
 ghost use Rattle.irs_terms.specs.Lawful.{decimals_of, IsLawfulLeg, IsLawfulStream, IsNotional};
 ghost use Rattle.irs_terms.specs.TermDates.{LegStepsRise, FrequencySuits, DatesInOrder};
-ghost use Rattle.irs_periods.specs.Spans.{Regular};
 ghost use Rattle.irs_observed.specs.Observations.{Shifts};
 ghost use Rattle.irs_observed.specs.OvernightRates.{HasBounds};
 ghost use Rattle.irs_accrue.specs.Accruals.{Runs};
@@ -25,12 +24,10 @@ use irs_base::{Day, Dec, Memory};
 use irs_calendar::GoodDays;
 use irs_compound::rates_of_period;
 use irs_observed::{OvernightRate, method_by, observation_period, own_rate, rate_before};
-use irs_periods::regular_span;
+use irs_periods::span_of;
 use irs_resets::{Fixings, PeriodKind, period_kind};
 use irs_schedule::{CalculationPeriod, StreamPart};
-use irs_terms::{
-    CalculationParameters, Currency, DayCountCode, FloatTerms, Frac, Leg, Span, Stream,
-};
+use irs_terms::{CalculationParameters, Currency, DayCountCode, FloatTerms, Frac, Leg, Stream};
 use std::alloc::Global;
 
 // No amount yet.
@@ -198,20 +195,6 @@ fn amount_as<G: GoodDays>(
             d,
             frac,
         ),
-    }
-}
-
-// The regular span of a stream that has one.
-fn span_of(s: &Stream) -> Span
-    requires lawful { IsLawfulStream s.now }
-    requires dates { DatesInOrder s.now }
-    requires frequency { FrequencySuits s.now }
-    requires span { HasSpan s.now }
-    ensures { Regular s.now result }
-{
-    match regular_span(s) {
-        Ok(span) => span,
-        Err(_) => unreachable!(),
     }
 }
 

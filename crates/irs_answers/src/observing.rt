@@ -1,10 +1,6 @@
 //! The text of `observations`: the days that each rate of a stream with `calculationParameters` is made of.
 //! No standard has such a text, so its format is our rule.
 ghost use Rattle.std.specs.Prelude.{◌≡◌, ◌-◌, ◌<◌, ◌≤◌, Some, None, length, slice_get, IfOk, IfErr, IfSome, IfNone};
-ghost use Rattle.irs_periods.specs.Boundaries.{HasSpan};
-ghost use Rattle.irs_periods.specs.Spans.{Regular};
-ghost use Rattle.irs_terms.specs.Lawful.{IsLawfulStream};
-ghost use Rattle.irs_terms.specs.TermDates.{FrequencySuits, DatesInOrder};
 ghost use Rattle.irs_answers.specs.Tasks.{accruing, AreRowsIn, DailyStream, IsDailyAt, observations_of};
 ghost use Rattle.irs_answers.specs.Tasks.{no_daily_stream as no_daily_stream_of};
 ghost use Rattle.irs_answers.specs.Private.Outcomes.{IsAccruing, daily_stream, MeetsReply, IsCarriedOut, NoneUnread};
@@ -15,9 +11,9 @@ use crate::replies::Reply;
 use irs_base::{Broken, Elem, Fault, Memory, Rule, Stopped};
 use irs_daily::{ObservedRows, observations_text, observed_rows};
 use irs_overnight::stream_at;
-use irs_periods::regular_span;
+use irs_periods::span_of;
 use irs_schedule::{Schedule, StreamPart, applicable_days};
-use irs_terms::{CalculationParameters, FloatTerms, Leg, Span, Stream, Swap};
+use irs_terms::{CalculationParameters, FloatTerms, Leg, Stream, Swap};
 use std::alloc::Global;
 
 /// The days that each rate of the stream with that number is made of.
@@ -78,20 +74,6 @@ fn part_at(schedule: &Schedule, number: u8) -> &StreamPart
     ensures { slice_get schedule.now (number - 1) ≡ Some result.now }
 {
     &schedule.streams()[number as usize - 1]
-}
-
-// The regular span of a stream that has one.
-fn span_of(s: &Stream) -> Span
-    requires lawful { IsLawfulStream s.now }
-    requires dates { DatesInOrder s.now }
-    requires frequency { FrequencySuits s.now }
-    requires span { HasSpan s.now }
-    ensures { Regular s.now result }
-{
-    match regular_span(s) {
-        Ok(span) => span,
-        Err(_) => unreachable!(),
-    }
 }
 
 // The stream with that number, from 1, with its terms and its `calculationParameters`; K49 where there is none.

@@ -13,4 +13,4 @@ pub use error::PerErr;
 pub use listing::{
     boundaries, boundaries_are_determined, boundaries_by, regular_periods_lie_between_stubs,
 };
-pub use span::{is_whole_term, regular_span, regular_span_is_determined};
+pub use span::{is_whole_term, regular_span, regular_span_is_determined, span_of};

@@ -20,7 +20,7 @@ ghost use Rattle.irs_base.specs.Outcomes.{Determined, MeetsExactly};
 ghost use Rattle.irs_terms.specs.Lawful.{IsLawfulStream};
 ghost use Rattle.irs_terms.specs.TermDates.{first_day_of, IsWholeTerm, FrequencySuits, DatesInOrder, first_day_element};
 ghost use Rattle.irs_terms.specs.TermDates.{termination_of};
-ghost use Rattle.irs_periods.specs.Boundaries.{regular_span_of};
+ghost use Rattle.irs_periods.specs.Boundaries.{HasSpan, regular_span_of};
 ghost use Rattle.irs_periods.specs.Spans.{Regular, StubSpan, anchor_of, given_anchor_of, is_term, stub_anchor};
 ghost use Rattle.irs_periods.specs.Spans.{anchor_element, last_element, last_off_grid, roll_misfits};
 ghost use Rattle.irs_periods.specs.Private.Spans.{GivenSpanOf};
@@ -45,6 +45,20 @@ pub fn regular_span(s: &Stream) -> Result<Span, Fault>
         return Ok(whole_term(s));
     }
     timed_span(s)
+}
+
+/// The regular span of a stream that has one: it breaks neither K30 nor K31.
+pub fn span_of(s: &Stream) -> Span
+    requires lawful { IsLawfulStream s.now }
+    requires dates { DatesInOrder s.now }
+    requires frequency { FrequencySuits s.now }
+    requires span { HasSpan s.now }
+    ensures { Regular s.now result }
+{
+    match regular_span(s) {
+        Ok(span) => span,
+        Err(_) => unreachable!(),
+    }
 }
 
 /// A law: a stream has one regular span, or one first rule of K30 and K31 that it breaks.

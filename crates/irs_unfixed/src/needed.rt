@@ -1,15 +1,11 @@
 //! The fixing that the rate of a calculation period rests on, where no line of the fixings has it.
 ghost use Rattle.std.specs.Prelude.{◌≡◌, ◌<◌, ◌≤◌, ℤ, Some, IfOk, length};
-ghost use Rattle.irs_terms.specs.Lawful.{IsLawfulStream};
-ghost use Rattle.irs_terms.specs.TermDates.{FrequencySuits, DatesInOrder};
 ghost use Rattle.irs_terms.specs.declared.amounts.Leg.TheVariants.{Floating as OfFloating};
 ghost use Rattle.irs_terms.specs.declared.results.Reset.{Reset as ResetRow};
 ghost use Rattle.irs_base.specs.Lists.{HoldsOf, day_at};
-ghost use Rattle.irs_periods.specs.Spans.{Regular};
 ghost use Rattle.irs_resets.specs.Rates.{Line as LineOf, Stated};
 ghost use Rattle.irs_resets.specs.Private.Resets.{source_by};
 ghost use Rattle.irs_unfixed.specs.Unfixed.{IsAbsentDay, LacksFixing, daily_period};
-ghost use Rattle.irs_periods.specs.Boundaries.{HasSpan};
 ghost use Rattle.irs_unfixed.specs.Private.Made.{IsGap, fixing_in};
 ghost use Rattle.irs_observed.specs.ObservedRates.{daily_rates};
 
@@ -17,10 +13,10 @@ use crate::days::absent_day;
 use crate::lines::{RateLine, line_of};
 use irs_base::{Day, Memory, Text};
 use irs_calendar::Calendars;
-use irs_periods::regular_span;
+use irs_periods::span_of;
 use irs_resets::{Fixings, PeriodKind, period_kind};
 use irs_schedule::{StreamPart, applicable_days};
-use irs_terms::{CalculationParameters, FloatTerms, Frequency, Leg, Span, Stream, StubTerms, Unit};
+use irs_terms::{CalculationParameters, FloatTerms, Frequency, Leg, Stream, StubTerms, Unit};
 use std::alloc::Global;
 
 // The tenor of daily rates.
@@ -38,20 +34,6 @@ pub(crate) struct Needed<'a> {
     pub tenor: Option<Frequency>,
     /// The day on which the rate is fixed.
     pub day: Day,
-}
-
-// The regular span of a stream that has one.
-fn span_of(s: &Stream) -> Span
-    requires lawful { IsLawfulStream s.now }
-    requires dates { DatesInOrder s.now }
-    requires frequency { FrequencySuits s.now }
-    requires span { HasSpan s.now }
-    ensures { Regular s.now result }
-{
-    match regular_span(s) {
-        Ok(span) => span,
-        Err(_) => unreachable!(),
-    }
 }
 
 // The line that the rate of a period of this kind is, where the terms don't state it.
