@@ -618,6 +618,54 @@ kept n = IsSet n
         lines = ["low Days: last", "low Other: day", "6 definitions, 2 of them reached from no public contract"]
         self.assertEqual(self.found("--unreached"), (0, lines))
 
+    def test_the_proof_of_a_law(self) -> None:
+        for name, text in {
+            "low/src/grid.rt": """ghost use Rattle.low.specs.Grids.{IsOn, place, on_grid};
+
+pub trait Grid {
+    ghost at: { Self -> Day };
+
+    ghost is_on: { (g : Self) -> IsOn (at g) };
+}
+
+impl Grid for Week {
+    ghost at = { λ g. elim g {
+      place
+    } };
+
+    ghost is_on = { λ g. on_grid g };
+}
+""",
+            "low/specs/Grids.antt": """-- The days of a grid.
+use Rattle.low.specs.Other.{day}
+
+-- it is on the grid
+abbrev pub IsOn : Day -> Type 0
+IsOn n = day
+
+module _ (n : Day) where
+  -- where it is
+  unfoldable pub place : Day
+  place = n
+
+-- what is at a place is on the grid
+pub on_grid : (g : Week) -> IsOn g
+on_grid g = first_step g
+
+-- it is so at first
+first_step : (g : Week) -> IsOn g
+first_step g = g
+""",
+        }.items():
+            (self.top / "crates" / name).write_text(text)
+        lines = ["low Days: last", "low Grids: first_step on_grid",
+                 "10 definitions, 3 of them reached from no public contract"]
+        self.assertEqual(self.found("--unreached"), (0, lines))
+        path = self.top / "crates/low/specs/Grids.antt"
+        path.write_text(path.read_text().replace("pub on_grid", "abbrev pub on_grid"))
+        lines = ["low Days: last", "10 definitions, 1 of them reached from no public contract"]
+        self.assertEqual(self.found("--unreached"), (0, lines))
+
     def test_an_old_page(self) -> None:
         self.assertEqual(self.found("--check"), (1, ["docs/READING.md is old: tools/reading --page"]))
         self.assertEqual(self.found("--page"), (0, []))

@@ -1,13 +1,17 @@
 -- The call of this crate has one outcome: a right one is given, and there is one at most.
 use Rattle.std.proofs.Common.{◌⊎◌, inl, inr, List, Option, Some, None}
-use Rattle.irs_base.specs.Outcomes.{is_before, Checks, Determined}
+use Rattle.irs_base.specs.Outcomes.{is_before, Checks, Determined, First}
 use Rattle.irs_base.specs.declared.places.Broken.{Broken}
 use Rattle.irs_base.proofs.FaultOrder.{broken_ties}
 use Rattle.irs_base.proofs.Firsts.{one_first}
 use Rattle.irs_base.proofs.Outcomes.{unbroken_determined}
 use Rattle.irs_calendar.specs.declared.sections.Section.{Section}
 use Rattle.irs_terms.specs.declared.stream_list.Swap.{Swap}
-use Rattle.irs_rules.specs.TermsRules.{terms_of, BreaksNone, BreaksTerms, IsFirstBrokenRule}
+use Rattle.irs_rules.specs.TermsRules.{terms_of, BreaksNone, BreaksTerms}
+
+-- the first rule of the terms that the swap breaks, in the order of stream, rule, element and index
+abbrev IsFirstBrokenRule : Swap → List Section → Broken → Type 0
+IsFirstBrokenRule swap cal f = First is_before (BreaksTerms swap cal) f
 
 decided_by : (swap : Swap) (cal : List Section) (outcome : Option Broken) → Checks (terms_of swap cal) outcome
     → ((f : Broken) × IsFirstBrokenRule swap cal f) ⊎ BreaksNone swap cal

@@ -2,7 +2,7 @@
 use Rattle.std.specs.Prelude.{◌≡◌, ℕ, ◌+◌, ◌⊎◌, List, IfSome, IsSomeAnd, ℤ, Some, slice_get}
 use Rattle.irs_base.specs.declared.places.Rule.{Rule}
 use Rattle.irs_base.specs.declared.places.Fault.{Fault}
-use Rattle.irs_base.specs.Outcomes.{fault_at, in_stream, First, is_before, Spec, unbroken}
+use Rattle.irs_base.specs.Outcomes.{fault_at, in_stream, is_before, Spec, unbroken}
 use Rattle.irs_base.specs.declared.places.Rule.TheVariants.{K10, K11, K12, K13, K14, K15, K16, K17, K18, K19, K20, K21}
 use Rattle.irs_base.specs.declared.places.Rule.TheVariants.{K47}
 use Rattle.irs_base.specs.declared.places.Broken.{Broken}
@@ -202,10 +202,6 @@ pub record BreaksTerms (swap : Swap) (cal : List Section) (f : Broken) : Type 0 
   pub fault : Fault
   pub numbered : f ≡ in_stream (position + 1) fault
   pub breaks : BreaksStream cal stream fault
-
--- the first rule of the terms that the swap breaks, in the order of stream, rule, element and index
-abbrev pub IsFirstBrokenRule : Swap → List Section → Broken → Type 0
-IsFirstBrokenRule swap cal f = First is_before (BreaksTerms swap cal) f
 
 -- the swap breaks no rule of the terms
 abbrev pub BreaksNone : Swap → List Section → Type 0
