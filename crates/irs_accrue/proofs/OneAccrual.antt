@@ -19,7 +19,7 @@ use Rattle.irs_accrue.specs.Accruals.{Accrues, AccruesIn, IsAccrual, IsAccrued, 
 use Rattle.irs_accrue.specs.Accruals.{HasRun}
 use Rattle.irs_accrue.specs.declared.accruals.Accrual.{Accrual}
 use Rattle.irs_accrue.specs.declared.accruals.Accrual.TheVariants.{Outside, Inside}
-use Rattle.irs_accrue.proofs.Periods.{RunsFromTo, one_number, rises_to, runs_from_to}
+use Rattle.irs_accrue.proofs.Periods.{HasBoundaries, RunsFromTo, has_boundaries, one_number, rises_to, runs_from_to}
 
 -- a fraction made of its parts
 abbrev make_frac : ℤ → ℤ → Frac
@@ -92,7 +92,8 @@ den_above ThirtyE360Isda s d e m f started ends a = counted_above ThirtyE360Isda
 
 -- ---- the amount
 
-scaled_above : (den : ℤ) → pos 0 <ℤ den → pos 0 <ℤ (den *ℤ pos (10 ^ 13))
+-- a denominator above 0 stays so in units of 10^-13
+pub scaled_above : (den : ℤ) → pos 0 <ℤ den → pos 0 <ℤ (den *ℤ pos (10 ^ 13))
 scaled_above (pos n) h = omega (arith, signed_arith, h)
 scaled_above (negsuc n) h = absurd (omega (arith, signed_arith, h))
 
@@ -127,9 +128,9 @@ inside_same m n x y f g a b h i j k =
     ap₂ (λ (z : ℕ) (w : ℤ). Inside z w f a) h i ∙ ap₂ (λ (z : Frac) (w : Option Dec). Inside n y z w) j k
 
 -- accruals of one period are equal
-in_period : (p : Part) (d : ℤ) (m : ℕ) (x y : ℤ) (f g : Frac) (a b : Option Dec) → KeepsBounds p → AccruesIn p d m x f a
+in_period : (p : Part) (d : ℤ) (m : ℕ) (x y : ℤ) (f g : Frac) (a b : Option Dec) → AccruesIn p d m x f a
     → AccruesIn p d m y g b → Inside m x f a ≡ Inside m y g b
-in_period p d m x y f g a b kept h k =
+in_period p d m x y f g a b h k =
     let period : h.period ≡ k.period = some_is h.period k.period (sym h.runs.is ∙ k.runs.is) in
     let run : HasRun p.day_count k.period.adjusted_start d k.period.adjusted_end x f =
     subst (λ (c : CalculationPeriod). HasRun p.day_count c.adjusted_start d c.adjusted_end x f) period h.has_run in
@@ -146,7 +147,7 @@ in_period p d m x y f g a b kept h k =
     inside_same m m x y f g a b refl share.0 share.1 amount
 
 -- a day in a period of the stream isn't outside the stream
-pub not_outside : (p : Part) (d : ℤ) (m : ℕ) → KeepsBounds p → RunsFromTo p d m → IsOutside p d → ⊥
+pub not_outside : (p : Part) (d : ℤ) (m : ℕ) → HasBoundaries p → RunsFromTo p d m → IsOutside p d → ⊥
 not_outside p d m kept r (inl before) =
     let long = kept.adjusted in
     let high = r.to_last in
@@ -161,19 +162,20 @@ not_outside p d m kept r (inr after) =
     omega (arith, signed_arith, after, up, ends)
 
 -- a stream has at most one accrual on a day
-pub one_in : (p : Part) (d : ℤ) (a b : Accrual) → KeepsBounds p → IsAccrual p d a → IsAccrual p d b → a ≡ b
+pub one_in : (p : Part) (d : ℤ) (a b : Accrual) → HasBoundaries p → IsAccrual p d a → IsAccrual p d b → a ≡ b
 one_in p d Outside Outside kept h k = refl
 one_in p d Outside (Inside n y g b) kept h k = absurd (not_outside p d n kept (runs_from_to p d n k.period k.runs) h)
 one_in p d (Inside m x f a) Outside kept h k = absurd (not_outside p d m kept (runs_from_to p d m h.period h.runs) k)
 one_in p d (Inside m x f a) (Inside n y g b) kept h k =
     let number = one_number p d m n kept (runs_from_to p d m h.period h.runs) (runs_from_to p d n k.period k.runs) in
     let own : AccruesIn p d n x f a = subst (λ (i : ℕ). AccruesIn p d i x f a) number h in
-    ap (λ (i : ℕ). Inside i x f a) number ∙ in_period p d n x y f g a b kept own k
+    ap (λ (i : ℕ). Inside i x f a) number ∙ in_period p d n x y f g a b own k
 
 -- a stream has one accrual on a day
 pub one_accrual : (parts : List Part) (stream : ℕ) (d : ℤ) (a b : Accrual) → IsWithin parts → Accrues parts stream d a
     → Accrues parts stream d b → a ≡ b
 one_accrual parts stream d a b kept h k =
     let same : h.member ≡ k.member = some_is h.member k.member (sym h.at ∙ k.at) in
-    one_in k.member d a b (every_get KeepsBounds parts (stream - 1) k.member kept.each k.at)
+    one_in k.member d a b
+    (has_boundaries k.member (every_get KeepsBounds parts (stream - 1) k.member kept.each k.at))
     (subst (λ (p : Part). IsAccrual p d a) same h.holds) k.holds

@@ -27,7 +27,7 @@ use Rattle.irs_observed.specs.declared.overnight_rate.OvernightRate.TheVariants.
 use Rattle.irs_compound.specs.Private.RateLaws.{one_overnight}
 use Rattle.irs_compound.specs.PeriodRates.{IsAbove as HasDenominator}
 use Rattle.irs_compound.specs.declared.periods.Rates.{Rates}
-use Rattle.irs_schedule.specs.Parts.{KeepsBounds, Part}
+use Rattle.irs_schedule.specs.Parts.{Part}
 use Rattle.irs_schedule.specs.declared.views.CalculationPeriod.{CalculationPeriod}
 use Rattle.irs_accrue.specs.Accruals.{IsAccrued, HasRun}
 use Rattle.irs_accrue.specs.DailyAccruals.{AccruesAs, AccruesBy, AccruesDaily, DailyTerms, EarnsBefore, GivesRate}
@@ -37,19 +37,20 @@ use Rattle.irs_accrue.specs.DailyAccruals.{whole_period}
 use Rattle.irs_accrue.specs.declared.accruals.Accrual.{Accrual}
 use Rattle.irs_accrue.specs.declared.accruals.Accrual.TheVariants.{Outside, Inside}
 use Rattle.irs_accrue.proofs.OneAccrual.{IsAbove, both_accrued, both_run, den_above, inside_same, not_outside, one_in}
-use Rattle.irs_accrue.proofs.Periods.{one_number, runs_from_to}
+use Rattle.irs_accrue.proofs.Periods.{HasBoundaries, one_number, runs_from_to}
 
 -- ---- one amount
 
+-- the rate by the members before a day has a denominator above 0, if it is known
+pub has_denominator : (t : DailyTerms) (x : CalculationPeriod) (b : ℤ) (r : OvernightRate)
+    → IsRateBefore (method_of t) (daily_rates_of t) (whole_period t x) b r → HasDenominator r
+has_denominator t x b (Stated rate) h = tt
+has_denominator t x b (Known y) h = before_above (method_of t) (daily_rates_of t) (whole_period t x) b y h
+has_denominator t x b Absent h = tt
+has_denominator t x b OutOfRange h = tt
+
 module _ (t : DailyTerms) (places : ℕ) (x : CalculationPeriod) (frac : Frac) (den : IsAbove frac.den)
     (rise : LegStepsRise t.leg) where
-  has_denominator : (b : ℤ) (r : OvernightRate) → IsRateBefore (method_of t) (daily_rates_of t) (whole_period t x) b r
-      → HasDenominator r
-  has_denominator b (Stated rate) h = tt
-  has_denominator b (Known y) h = before_above (method_of t) (daily_rates_of t) (whole_period t x) b y h
-  has_denominator b Absent h = tt
-  has_denominator b OutOfRange h = tt
-
   both_given : (r : OvernightRate) (m n : Option ℤ) → HasDenominator r → GivesRate t.leg x.start r m
       → GivesRate t.leg x.start r n → m ≡ n
   both_given r m n above h k =
@@ -61,7 +62,7 @@ module _ (t : DailyTerms) (places : ℕ) (x : CalculationPeriod) (frac : Frac) (
       let rate = one_before (method_of t) (daily_rates_of t) (whole_period t x) b h.observed k.observed h.is_observed
       k.is_observed in
       let gives = subst (λ (r : OvernightRate). GivesRate t.leg x.start r h.known) rate h.gives in
-      let known = both_given k.observed h.known k.known (has_denominator b k.observed k.is_observed) gives k.gives in
+      let known = both_given k.observed h.known k.known (has_denominator t x b k.observed k.is_observed) gives k.gives in
       both_accrued places x.notional k.known frac v w den
       (subst (λ (n : Option ℤ). IsAccrued places x.notional n frac v) known h.accrued) k.accrued
 
@@ -100,7 +101,7 @@ module _ (t : DailyTerms) (places : ℕ) (x : CalculationPeriod) (frac : Frac) (
 
 -- ---- one accrual
 
-module _ (t : DailyTerms) (s : Stream) (p : Part) (d : ℤ) (kept : KeepsBounds p) (rise : LegStepsRise t.leg) where
+module _ (t : DailyTerms) (s : Stream) (p : Part) (d : ℤ) (kept : HasBoundaries p) (rise : LegStepsRise t.leg) where
   in_period : (n : ℕ) (x y : ℤ) (f g : Frac) (a b : Option Dec) → AccruesBy t s p d n x f a → AccruesBy t s p d n y g b
       → Inside n x f a ≡ Inside n y g b
   in_period n x y f g a b h k =
@@ -134,7 +135,7 @@ module _ (t : DailyTerms) (s : Stream) (p : Part) (d : ℤ) (kept : KeepsBounds 
       let own : AccruesBy t s p d n x f a = subst (λ (i : ℕ). AccruesBy t s p d i x f a) number h in
       ap (λ (i : ℕ). Inside i x f a) number ∙ in_period n x y f g a b own k
 
-module _ (s : Stream) (applicable : DaySet) (fixings : RateTable) (p : Part) (d : ℤ) (kept : KeepsBounds p)
+module _ (s : Stream) (applicable : DaySet) (fixings : RateTable) (p : Part) (d : ℤ) (kept : HasBoundaries p)
     (rise : LegStepsRise s.leg) where
   one_with : (parameters : Option CalculationParameters) (float : FloatTerms) (a b : Accrual)
       → IsAccrualWith parameters float s applicable fixings p d a

@@ -15,6 +15,15 @@ use Rattle.irs_schedule.specs.declared.views.CalculationPeriod.{CalculationPerio
 use Rattle.irs_schedule.proofs.PeriodLemmas.{next_day}
 use Rattle.irs_accrue.specs.Accruals.{Runs}
 
+-- the adjusted boundaries rise, one more than periods
+pub record HasBoundaries (p : Part) : Type 0 where
+  pub adjusted : length p.adjusted ≡ length p.periods + 1
+  pub adjusted_rises : Rises p.adjusted
+
+-- so do those of every part within its bounds
+pub has_boundaries : (p : Part) → KeepsBounds p → HasBoundaries p
+has_boundaries p kept = record { adjusted = kept.adjusted; adjusted_rises = kept.adjusted_rises }
+
 -- a period that is there, and its entry
 record HasEntry (p : Part) (j : ℕ) (x : CalculationPeriod) : Type 0 where
   entry : PeriodEntry
@@ -78,7 +87,7 @@ pub rises_to : (xs : List ℤ) (i j : ℕ) → Rises xs → i ≤ j → j < leng
 rises_to xs i j h le low = not_after xs i (j - i) j h (omega (arith, le)) low
 
 -- two periods don't run on one day
-not_both : (p : Part) (d : ℤ) (m n : ℕ) → KeepsBounds p → RunsFromTo p d m → RunsFromTo p d n → m < n → ⊥
+not_both : (p : Part) (d : ℤ) (m n : ℕ) → HasBoundaries p → RunsFromTo p d m → RunsFromTo p d n → m < n → ⊥
 not_both p d m n kept a b less =
     let long = kept.adjusted in
     let high = b.to_last in
@@ -88,7 +97,7 @@ not_both p d m n kept a b less =
     omega (arith, signed_arith, order, ends, starts)
 
 -- a day lies in one period
-pub one_number : (p : Part) (d : ℤ) (m n : ℕ) → KeepsBounds p → RunsFromTo p d m → RunsFromTo p d n → m ≡ n
+pub one_number : (p : Part) (d : ℤ) (m n : ℕ) → HasBoundaries p → RunsFromTo p d m → RunsFromTo p d n → m ≡ n
 one_number p d m n kept a b = elim (cases_order m n) [
   | inl same ↦ same
   | inr (inl less) ↦ absurd (not_both p d m n kept a b less)

@@ -162,7 +162,8 @@ module _ (source : DerivedSource) (rises : Rises source.adjusted) (long : 1 ≤ 
       let many = there.1 in
       (there.0, record { many = omega (arith, many, long); each = there.2 })
 
-  rows_there : (basis : Option ℕ) → basis_of source.day_count ≡ basis
+  -- a source that breaks no rule has a list of rates
+  pub rows_there : (basis : Option ℕ) → basis_of source.day_count ≡ basis
       → (rows : List DerivedRow) × AreDerived source rows
   rows_there None e = absurd (kept no_basis (inl (e, refl)))
   rows_there (Some basis) e = rows_by basis e
