@@ -9,3 +9,4 @@ pub mod VerdictLemmas
 pub mod StatedLemmas
 pub mod StatedBounds
 pub mod Standards
+pub mod VerdictThere

@@ -5,3 +5,4 @@ pub mod NetThere
 pub mod SumLemmas
 pub mod PartLemmas
 pub mod SideLemmas
+pub mod SidesThere
