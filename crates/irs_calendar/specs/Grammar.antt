@@ -8,6 +8,7 @@ use Rattle.std.specs.Str.{bytes_eq}
 use Rattle.std.specs.Fmt.{decimal}
 use Rattle.irs_base.specs.Texts.{date_at, begins_space, fields, lines_of, is_digit}
 use Rattle.irs_base.specs.Limits.{most_name, most_holidays}
+use Rattle.irs_base.specs.Lists.{Every, Pairs}
 use Rattle.irs_calendar.specs.declared.sections.Section.{Section}
 use Rattle.irs_calendar.specs.Sections.{AreDistinct, is_named}
 use Rattle.irs_calendar.specs.declared.machine.Fault.{Fault}
@@ -38,22 +39,18 @@ is_center_field n = nat_le (length n) most_name && list_all is_visible n
 
 -- what `center` and the fields after it say
 abbrev pub said_center : List (List ℕ) → Said
-said_center [] = Wrong
 said_center (n ∷ []) = if is_center_field n then Center n else Wrong
-said_center (n ∷ m ∷ ms) = Wrong
+said_center _ = Wrong
 
 -- a cover's first day isn't after its last
 abbrev pub cover_of : Option ℤ → Option ℤ → Said
-cover_of None b = Wrong
-cover_of (Some a) None = Wrong
 cover_of (Some a) (Some b) = if is_le (int_cmp a b) then Cover a b else Wrong
+cover_of _ _ = Wrong
 
 -- what `cover` and the fields after it say
 abbrev pub said_cover : List (List ℕ) → Said
-said_cover [] = Wrong
-said_cover (a ∷ []) = Wrong
 said_cover (a ∷ b ∷ []) = cover_of (date_at a) (date_at b)
-said_cover (a ∷ b ∷ c ∷ cs) = Wrong
+said_cover _ = Wrong
 
 -- the place in the week, from Monday
 abbrev pub weekday_place : List ℕ → Option ℕ
@@ -166,11 +163,7 @@ seen_lines bytes = seen_from 0 (lines_of bytes)
 -- what one more line in front says, unless it says nothing
 abbrev pub with_said : Said → List Said → List Said
 with_said Nothing rest = rest
-with_said (Center n) rest = Center n ∷ rest
-with_said (Cover a b) rest = Cover a b ∷ rest
-with_said (Weekend w) rest = Weekend w ∷ rest
-with_said (Holiday d) rest = Holiday d ∷ rest
-with_said Wrong rest = Wrong ∷ rest
+with_said said rest = said ∷ rest
 
 -- what the lines say one after another; blank lines and comments say nothing
 abbrev pub said_lines : List (List ℕ) → List Said
@@ -198,15 +191,11 @@ pub record IsLawfulSection (s : Section) : Type 0 where
 
 -- each section is lawful
 abbrev pub AreLawful : List Section → Type 0
-AreLawful [] = Unit {0}
-AreLawful (s ∷ ss) = IsLawfulSection s × AreLawful ss
+AreLawful sections = Every IsLawfulSection sections
 
 -- each file spells its part of the sections, where a false end line spells none
 abbrev pub AreSpelt : List (List ℕ) → List (List Section) → Type 0
-AreSpelt [] [] = Unit {0}
-AreSpelt [] (p ∷ ps) = ⊥
-AreSpelt (f ∷ fs) [] = ⊥
-AreSpelt (f ∷ fs) (p ∷ ps) = (said_lines (seen_lines f) ≡ spelt p) × AreSpelt fs ps
+AreSpelt files parts = Pairs (λ file part. said_lines (seen_lines file) ≡ spelt part) files parts
 
 -- all parts one after another
 abbrev pub joined_sections : List (List Section) → List Section

@@ -113,11 +113,10 @@ day_number_at n = if nat_le n 30 then Some (Dom n) else None
 
 -- a day number from 1 to 30 in one or two digits, the first of them no zero
 abbrev pub day_roll_at : List ℕ → Option RollCode
-day_roll_at [] = None
 day_roll_at (a ∷ []) = if is_first_digit a then Some (Dom (a - 48)) else None
 day_roll_at (a ∷ b ∷ []) =
     if is_first_digit a && nat_le 48 b && nat_le b 57 then day_number_at (10 * (a - 48) + (b - 48)) else None
-day_roll_at (a ∷ b ∷ c ∷ rest) = None
+day_roll_at _ = None
 
 -- the first of two values that is there
 abbrev pub first_there : {A : Type 0} → Option A → Option A → Option A

@@ -21,7 +21,7 @@ use Rattle.irs_elements.specs.declared.table.Choice.TheVariants.{Reference}
 use Rattle.irs_elements.specs.declared.table.Count.{Count}
 use Rattle.irs_elements.specs.declared.table.Count.TheVariants.{One, Maybe, OneTo, UpTo}
 use Rattle.irs_elements.specs.declared.table.Kind.{Kind}
-use Rattle.irs_elements.specs.declared.table.Kind.TheVariants.{Object, Leaf, Passed, Refused}
+use Rattle.irs_elements.specs.declared.table.Kind.TheVariants.{Object, Leaf, Refused}
 use Rattle.irs_elements.specs.declared.table.Row.{Row}
 use Rattle.irs_elements.specs.declared.walk.Unmet.{Unmet}
 use Rattle.irs_elements.specs.declared.walk.Unmet.TheVariants.{Both, Neither}
@@ -60,9 +60,8 @@ leaf_text_in o = option_map text_of_leaf (option_and_then leaf_of o)
 -- whether a member must occur
 abbrev pub is_required : Count → Bool
 is_required One = true
-is_required Maybe = false
 is_required (OneTo n) = true
-is_required (UpTo n) = false
+is_required _ = false
 
 -- how often a member may occur
 abbrev pub most : Count → ℕ
@@ -91,22 +90,18 @@ absent_index (UpTo n) i = 0
 abbrev pub own_rule : Kind → Data → Option Rule
 own_rule (Object c) d = if is_some (element_names d) then None else Some K3
 own_rule (Leaf k) d = leaf_rule k (leaf_of d)
-own_rule Passed d = None
-own_rule Refused d = None
+own_rule _ d = None
 
 -- an element, and neither passed over nor out of the profile
 abbrev pub is_element : Kind → Bool
 is_element (Object c) = true
 is_element (Leaf k) = true
-is_element Passed = false
-is_element Refused = false
+is_element _ = false
 
 -- the row is of a name out of profile
 abbrev pub is_refused : Kind → Bool
-is_refused (Object c) = false
-is_refused (Leaf k) = false
-is_refused Passed = false
 is_refused Refused = true
+is_refused _ = false
 
 -- ---- attributes
 
@@ -121,11 +116,8 @@ has_odd d = is_odd (child_of (codes "@id") d) || is_odd (child_of (codes "@href"
 
 -- whether a reference has no `@href`
 abbrev pub lacks_href : Choice → Data → Bool
-lacks_href Free d = false
-lacks_href (AtMostOne a b) d = false
-lacks_href (AtMostOneOfThree a b c) d = false
-lacks_href (ExactlyOne a b) d = false
 lacks_href Reference d = is_none (child_of (codes "@href") d)
+lacks_href _ d = false
 
 -- ---- places
 

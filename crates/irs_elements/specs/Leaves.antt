@@ -104,35 +104,14 @@ has_value Direction s = is_some (direction_at s)
 
 -- the texts that are listed as out of the profile
 abbrev pub out_of_profile : LeafKind → List (List ℕ)
-out_of_profile Date = []
-out_of_profile Multiplier = []
-out_of_profile OffsetDays = []
-out_of_profile ObservationDays = []
-out_of_profile Precision = []
-out_of_profile Whole = []
-out_of_profile Notional = []
-out_of_profile Rate = []
-out_of_profile Amount = []
-out_of_profile Fraction = []
-out_of_profile Truth = []
-out_of_profile CenterName = []
-out_of_profile IndexName = []
-out_of_profile CurrencyName = []
 out_of_profile Convention = codes "FRN" ∷ codes "NotApplicable" ∷ []
-out_of_profile PeriodUnit = []
-out_of_profile TenorUnit = []
 out_of_profile OffsetUnit = codes "W" ∷ codes "M" ∷ codes "Y" ∷ []
-out_of_profile DayType = []
-out_of_profile StubType = []
 out_of_profile Roll = codes "FRN" ∷ codes "IMMCAD" ∷ codes "IMMAUD" ∷ codes "IMMNZD" ∷ codes "SFE" ∷ codes "TBILL" ∷ []
 out_of_profile PayRelative = codes "ResetDate" ∷ codes "LastPricingDate" ∷ codes "ValuationDate" ∷ []
-out_of_profile ResetRelative = []
 out_of_profile DayCount =
     codes "ACT/ACT.ICMA" ∷ codes "ACT/ACT.ISMA" ∷ codes "ACT/ACT.AFB" ∷ codes "ACT/365L" ∷ codes "BUS/252" ∷ []
-out_of_profile Compounding = []
 out_of_profile CalculationMethod = codes "CompoundedIndex" ∷ []
-out_of_profile Treatment = []
-out_of_profile Direction = []
+out_of_profile _ = []
 
 -- a text without a value is out of the profile or outside its grammar
 unfoldable pub text_rule : LeafKind → List ℕ → Option Rule

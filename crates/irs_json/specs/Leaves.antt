@@ -37,20 +37,12 @@ abbrev pub member_names : Members → List (List ℕ)
 member_names no_members = []
 member_names (member k null ms) = member_names ms
 member_names (member k (array no_items) ms) = member_names ms
-member_names (member k (array (item d ds)) ms) = k ∷ member_names ms
-member_names (member k (boolean b) ms) = k ∷ member_names ms
-member_names (member k (number n) ms) = k ∷ member_names ms
-member_names (member k (string s) ms) = k ∷ member_names ms
-member_names (member k (object ds) ms) = k ∷ member_names ms
+member_names (member k d ms) = k ∷ member_names ms
 
 -- the names of an object's elements; no other value has elements
 abbrev pub element_names : Data → Option (List (List ℕ))
-element_names null = None
-element_names (boolean b) = None
-element_names (number n) = None
-element_names (string s) = None
-element_names (array ds) = None
 element_names (object ms) = Some (member_names ms)
+element_names _ = None
 
 -- ---- an element as it appears in a JSON object
 
@@ -58,11 +50,7 @@ element_names (object ms) = Some (member_names ms)
 abbrev pub present : Data → Option Data
 present null = None
 present (array no_items) = None
-present (array (item d ds)) = Some (array (item d ds))
-present (boolean b) = Some (boolean b)
-present (number n) = Some (number n)
-present (string s) = Some (string s)
-present (object ms) = Some (object ms)
+present d = Some d
 
 -- the element of that name: the member, unless it counts as absent; only an object has any
 abbrev pub child_of : List ℕ → Data → Option Data
@@ -77,12 +65,8 @@ list_of (item d ds) = d ∷ list_of ds
 
 -- the values of a repeated element: an array's items, or the value itself if it is not an array
 abbrev pub items_of : Data → List Data
-items_of null = null ∷ []
-items_of (boolean b) = boolean b ∷ []
-items_of (number n) = number n ∷ []
-items_of (string s) = string s ∷ []
 items_of (array ds) = list_of ds
-items_of (object ms) = object ms ∷ []
+items_of d = d ∷ []
 
 -- ---- what a leaf says
 
@@ -100,12 +84,10 @@ whole_leaf (float x) = None
 
 -- what a value that is no object says; a text says what is left without the white space at its ends
 abbrev pub bare_leaf : Data → Option Leaf
-bare_leaf null = None
 bare_leaf (boolean b) = Some (truth b)
 bare_leaf (number n) = whole_leaf n
 bare_leaf (string s) = Some (word (trim s))
-bare_leaf (array ds) = None
-bare_leaf (object ms) = None
+bare_leaf _ = None
 
 -- the name of an attribute begins with `@`
 abbrev pub is_attribute_name : List ℕ → Bool

@@ -1,10 +1,9 @@
 -- The regular span lies in the term, its first day is on the grid, and its first day isn't after its last.
-use Rattle.std.proofs.Common.{◌≡◌, ⊎_elim, Option, Some, None, IfSome, ℤ, ◌≤ℤ◌, ◌<ℤ◌, sym, subst, ◌∙◌, arith}
+use Rattle.std.proofs.Common.{◌≡◌, ⊎_elim, Option, Some, None, IfSome, unwrap_or, ℤ, ◌≤ℤ◌, ◌<ℤ◌, sym, subst, ◌∙◌, arith}
 use Rattle.jiff_core.proofs.SignedLemmas.{signed_arith}
 use Rattle.irs_terms.specs.declared.codes.StubKind.{StubKind}
 use Rattle.irs_terms.specs.declared.codes.StubKind.TheVariants.{ShortInitial, LongInitial, ShortFinal, LongFinal}
 use Rattle.irs_periods.specs.Spans.{LongFirst, LongLast, StubSpan, GivenSpan, stub_anchor, given_anchor}
-use Rattle.irs_terms.specs.TermDates.{given_or}
 
 -- the span from first to last lies in the term from e to t, and begins on the grid
 pub record InTerm (on : ℤ → Type 0) (e t first last : ℤ) : Type 0 where
@@ -73,7 +72,7 @@ module _ (on : ℤ → Type 0) (e t : ℤ) (ends : e <ℤ t) where
 
   -- a span by regular dates that are given lies in the term
   pub given_in_term : (f l : Option ℤ) (stub : Option StubKind) (first last : ℤ) → IfSome f (λ d. (e ≤ℤ d) × (d ≤ℤ t))
-      → IfSome l (λ d. (given_or f e ≤ℤ d) × (d ≤ℤ t)) → on (given_anchor f l stub e t)
+      → IfSome l (λ d. (unwrap_or f e ≤ℤ d) × (d ≤ℤ t)) → on (given_anchor f l stub e t)
       → GivenSpan f l stub on e t first last → InTerm on e t first last
   given_in_term None None stub first last lf ll is h = stub_in_term stub first last is h
   given_in_term None (Some l) stub first last lf ll is h =

@@ -1,6 +1,6 @@
 -- A stream whose roll fits its anchor has a regular span, and it lies in the term. Where K31 isn't broken either, the
 -- last day of the span is on the grid.
-use Rattle.std.proofs.Common.{◌≡◌, inl, inr, Bool, Option, Some, None, ℤ, ◌≤ℤ◌, ◌<ℤ◌, refl, sym, subst, arith}
+use Rattle.std.proofs.Common.{◌≡◌, inl, inr, Bool, Option, Some, None, unwrap_or, ℤ, ◌≤ℤ◌, ◌<ℤ◌, refl, sym, subst, arith}
 use Rattle.jiff_core.proofs.SignedLemmas.{signed_arith}
 use Rattle.irs_base.specs.Days.{IsDay}
 use Rattle.irs_base.specs.declared.places.Fault.{Fault}
@@ -18,7 +18,7 @@ use Rattle.irs_periods.proofs.RegularPart.{timed_unit}
 use Rattle.irs_periods.proofs.SpanOrder.{InTerm, given_in_term}
 use Rattle.irs_periods.proofs.Anchors.{anchor_day, decides_fits, decides_term, own_grid}
 use Rattle.irs_periods.proofs.Ranges.{first_between, last_between, after_between, before_between}
-use Rattle.irs_terms.specs.TermDates.{first_day_of, IsWholeTerm, DatesInOrder, termination_of, given_or}
+use Rattle.irs_terms.specs.TermDates.{first_day_of, IsWholeTerm, DatesInOrder, termination_of}
 use Rattle.irs_periods.proofs.TermOrder.{begins_before_end}
 use Rattle.irs_base.specs.Private.Order.{IsDecided}
 use Rattle.irs_roll.proofs.GridsDecided.{decides_on_grid}
@@ -102,7 +102,7 @@ module _ (on : ℤ → Type 0) (e t : ℤ) (ends : e <ℤ t) (decides : (d : ℤ
       → (first : ℤ) × (last : ℤ) × GivenSpan f l stub on e t first last
   given_there None None stub is = stub_there stub is
   given_there None (Some l) stub is = (e, l, (refl, refl))
-  given_there (Some f) l stub is = (f, given_or l t, (refl, refl))
+  given_there (Some f) l stub is = (f, unwrap_or l t, (refl, refl))
 
 -- a day between the ends of the term is a day
 pub term_day : (s : Stream) → IsLawfulStream s → (d : ℤ) → first_day_of s ≤ℤ d → d ≤ℤ termination_of s → IsDay d

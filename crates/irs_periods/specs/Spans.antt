@@ -1,5 +1,5 @@
 -- The regular span of a stream between its stubs, and its rules.
-use Rattle.std.specs.Prelude.{◌≡◌, ◌⊎◌, ℤ, ◌≤ℤ◌, ◌<ℤ◌, Bool, true, false, Option, Some, None, ℕ}
+use Rattle.std.specs.Prelude.{◌≡◌, ◌⊎◌, ℤ, ◌≤ℤ◌, ◌<ℤ◌, Bool, true, false, Option, Some, None, ℕ, unwrap_or}
 use Rattle.irs_base.specs.declared.places.Rule.TheVariants.{K30, K31}
 use Rattle.irs_base.specs.declared.places.Fault.{Fault}
 use Rattle.irs_base.specs.Outcomes.{fault_at}
@@ -7,10 +7,10 @@ use Rattle.irs_base.specs.Elements.{termination_date, first_regular_period_start
 use Rattle.irs_terms.specs.declared.codes.StubKind.{StubKind}
 use Rattle.irs_terms.specs.declared.codes.StubKind.TheVariants.{ShortInitial, LongInitial, ShortFinal, LongFinal}
 use Rattle.irs_terms.specs.declared.frequency.Unit.{Unit as FrequencyUnit}
-use Rattle.irs_terms.specs.declared.frequency.Unit.TheVariants.{D, W, M, Y, T}
+use Rattle.irs_terms.specs.declared.frequency.Unit.TheVariants.{T}
 use Rattle.irs_terms.specs.declared.stream.Stream.{Stream}
 use Rattle.irs_terms.specs.declared.results.Span.{Span}
-use Rattle.irs_terms.specs.TermDates.{first_day_of, termination_of, given_or, IsWholeTerm, first_day_element}
+use Rattle.irs_terms.specs.TermDates.{first_day_of, termination_of, IsWholeTerm, first_day_element}
 use Rattle.irs_roll.specs.Rolls.{OnGrid, Fits}
 
 -- ---- the nearest days of a grid on one side of a day, and the ends of the regular span next to a stub
@@ -64,19 +64,14 @@ pub record LongLast (on : ℤ → Type 0) (e t r : ℤ) : Type 0 where
 
 -- the unit is the term
 abbrev pub is_term : FrequencyUnit → Bool
-is_term D = false
-is_term W = false
-is_term M = false
-is_term Y = false
 is_term T = true
+is_term _ = false
 
 -- the anchor by the stub type alone: the termination date for an initial stub, else the first day
 abbrev pub stub_anchor : Option StubKind → ℤ → ℤ → ℤ
-stub_anchor None e t = e
 stub_anchor (Some ShortInitial) e t = t
 stub_anchor (Some LongInitial) e t = t
-stub_anchor (Some ShortFinal) e t = e
-stub_anchor (Some LongFinal) e t = e
+stub_anchor _ e t = e
 
 -- where a regular date is given the anchor is the first one, or the first day; the stub type isn't used then
 abbrev pub given_anchor : Option ℤ → Option ℤ → Option StubKind → ℤ → ℤ → ℤ
@@ -110,7 +105,7 @@ StubSpan (Some LongFinal) on e t first last = (first ≡ e) × LongLast on e t l
 abbrev pub GivenSpan : Option ℤ → Option ℤ → Option StubKind → (ℤ → Type 0) → ℤ → ℤ → ℤ → ℤ → Type 0
 GivenSpan None None stub on e t first last = StubSpan stub on e t first last
 GivenSpan None (Some l) stub on e t first last = (first ≡ e) × (last ≡ l)
-GivenSpan (Some f) l stub on e t first last = (first ≡ f) × (last ≡ given_or l t)
+GivenSpan (Some f) l stub on e t first last = (first ≡ f) × (last ≡ unwrap_or l t)
 
 -- for the term the span is the whole term
 abbrev pub SpanBy : Bool → Option ℤ → Option ℤ → Option StubKind → (ℤ → Type 0) → ℤ → ℤ → ℤ → ℤ → Type 0
@@ -128,11 +123,9 @@ pub record Regular (s : Stream) (span : Span) : Type 0 where
 
 -- the element of the anchor by the stub type alone, `start` being that of the first day
 abbrev pub stub_anchor_element : ℕ → Option StubKind → ℕ
-stub_anchor_element start None = start
 stub_anchor_element start (Some ShortInitial) = termination_date
 stub_anchor_element start (Some LongInitial) = termination_date
-stub_anchor_element start (Some ShortFinal) = start
-stub_anchor_element start (Some LongFinal) = start
+stub_anchor_element start _ = start
 
 -- the element of the anchor: where the first regular date is given that one, also where it is the first day
 abbrev pub anchor_element_by : ℕ → Option ℤ → Option ℤ → Option StubKind → ℕ

@@ -9,7 +9,8 @@ use Rattle.irs_read.proofs.Clean.{clean_leaf, clean_once, clean_there, fine_valu
 use Rattle.irs_read.proofs.Rows.{At, AtMost, FreeRow, LeafRow, Path, RowIs, is_leaf, is_member, is_named, is_needed}
 use Rattle.irs_read.proofs.Rows.{at_most, row_of}
 use Rattle.irs_read.proofs.TableLaws.{code_names as row_names}
-use Rattle.irs_read.specs.Readings.{EachSays, ReadPart, Says, Value, each, holds, maybe, one, or_by, said, text}
+use Rattle.irs_base.specs.Lists.{Pairs}
+use Rattle.irs_read.specs.Readings.{ReadPart, Says, Value, each, holds, maybe, one, or_by, said, text}
 use Rattle.irs_read.specs.declared.table.TheConstants.{ROWS}
 use Rattle.serde_json.specs.Data.{Data}
 use Rattle.std.proofs.Common.{◌≡◌, ℕ, suc, Bool, true, false, true≢false, List, [], ◌∷◌, map, Option, Some, None, is_some}
@@ -174,13 +175,13 @@ leaf_only kind at (Some x) b (a, (e, h)) = e ∙ sym h
 
 -- each value of a list says f of it
 pub each_gives : {A : Type 0} (says : Data → A → Type 0) (f : Data → A) (xs : List Data)
-    → ((j : ℕ) (x : Data) → slice_get xs j ≡ Some x → says x (f x)) → EachSays says xs (map f xs)
+    → ((j : ℕ) (x : Data) → slice_get xs j ≡ Some x → says x (f x)) → Pairs says xs (map f xs)
 each_gives says f [] gives = tt
 each_gives says f (x ∷ xs) gives = (gives 0 x refl, each_gives says f xs (λ j y e. gives (suc j) y e))
 
 -- and nothing else
 pub each_only : {A : Type 0} (says : Data → A → Type 0) (f : Data → A) → ((d : Data) (a : A) → says d a → a ≡ f d)
-    → (xs : List Data) (all : List A) → EachSays says xs all → all ≡ map f xs
+    → (xs : List Data) (all : List A) → Pairs says xs all → all ≡ map f xs
 each_only says f only [] [] h = refl
 each_only says f only [] (a ∷ rest) h = absurd h
 each_only says f only (x ∷ xs) [] h = absurd h
@@ -197,7 +198,7 @@ each_fills p name often v f row reads = record {
   gives = λ d clean.
       let c = row_of (name ∷ p) in
       let fine = (fine_values ROWS row_names (row_of p) c (Some d) (is_member p name row) clean.clean).1 in
-      subst (λ (n : List ℕ). EachSays v.says (values_in n (Some d)) (map f (values_in n (Some d))))
+      subst (λ (n : List ℕ). Pairs v.says (values_in n (Some d)) (map f (values_in n (Some d))))
       (is_named p name row)
       (each_gives v.says f (values_in (name_at row_names c) (Some d)) (λ j x e. reads.gives x (record { clean = fine j x e })));
   only = λ d all h. each_only v.says f reads.only (values_in (codes name) (Some d)) all h;

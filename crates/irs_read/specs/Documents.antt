@@ -22,7 +22,7 @@ use Rattle.irs_elements.specs.Elements.{FaultAt, values_in, IsMemberRow, is_chos
 use Rattle.irs_elements.specs.Elements.{once, leaf_text_in}
 use Rattle.irs_elements.specs.declared.table.Choice.TheVariants.{Free, Reference, AtMostOne, AtMostOneOfThree}
 use Rattle.irs_elements.specs.declared.table.Choice.TheVariants.{ExactlyOne}
-use Rattle.irs_elements.specs.declared.table.Kind.TheVariants.{Object, Leaf, Passed, Refused}
+use Rattle.irs_elements.specs.declared.table.Kind.TheVariants.{Object, Leaf}
 use Rattle.irs_elements.specs.Leaves.{has_value}
 use Rattle.irs_elements.specs.declared.table.Choice.{Choice}
 use Rattle.irs_elements.specs.declared.table.Kind.{Kind}
@@ -185,9 +185,7 @@ by_root false false false d = Err (outside K2 swap)
 by_root true false false d = swap_below d
 by_root false true false d = trade_below d
 by_root false false true d = document_below d
-by_root true true a d = Err (outside K7 document)
-by_root true false true d = Err (outside K7 document)
-by_root false true true d = Err (outside K7 document)
+by_root _ _ _ d = Err (outside K7 document)
 
 -- whether d has an element of that name
 abbrev pub has : List ℕ → Data → Bool
@@ -267,9 +265,8 @@ EachStated d = (at : Data) → the_swap d ≡ Ok at → (j : ℕ) (x : Data) →
 
 -- no later row of the same parent has the name
 abbrev no_twin : ℕ → List ℕ → List ℕ → List (List ℕ) → Bool
-no_twin parent name [] names = true
-no_twin parent name (p ∷ ps) [] = true
 no_twin parent name (p ∷ ps) (n ∷ ns) = (not (p == parent) || not (bytes_eq n name)) && no_twin parent name ps ns
+no_twin parent name _ _ = true
 
 -- the row exists and its parent is row r
 abbrev stands_below : ℕ → Option Row → Bool
@@ -278,19 +275,16 @@ stands_below r (Some row) = row.parent == r
 
 -- the rows of a choice at row r are members of that row
 abbrev chooses : List Row → ℕ → Choice → Bool
-chooses rows r Free = true
-chooses rows r Reference = true
 chooses rows r (AtMostOne a b) = stands_below r (slice_get rows a) && stands_below r (slice_get rows b)
 chooses rows r (AtMostOneOfThree a b c) =
     stands_below r (slice_get rows a) && stands_below r (slice_get rows b) && stands_below r (slice_get rows c)
 chooses rows r (ExactlyOne a b) = stands_below r (slice_get rows a) && stands_below r (slice_get rows b)
+chooses rows r _ = true
 
 -- an object chooses only among its own members
 abbrev kind_fits : List Row → ℕ → Kind → Bool
 kind_fits rows r (Object choice) = chooses rows r choice
-kind_fits rows r (Leaf leaf) = true
-kind_fits rows r Passed = true
-kind_fits rows r Refused = true
+kind_fits rows r _ = true
 
 -- from row r on, each row comes after its parent, and its choice is among its members. No later row of the
 -- same parent has its name

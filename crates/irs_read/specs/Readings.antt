@@ -6,6 +6,7 @@ use Rattle.std.specs.Prelude.{◌==◌, unwrap_or, count_by, find, if◌then◌e
 use Rattle.serde_json.specs.Find.{as_str}
 use Rattle.std.specs.List.{flat_map}
 use Rattle.std.specs.Str.{bytes_eq}
+use Rattle.irs_base.specs.Lists.{Pairs}
 use Rattle.irs_json.specs.Leaves.{child_of}
 use Rattle.irs_elements.specs.Elements.{once, leaf_text_in, values_in, member}
 use Rattle.irs_elements.specs.Lines.{Form, Line, leaf, line, path_above, last_name}
@@ -95,18 +96,11 @@ or_by name v absent = record {
 abbrev pub or : {A : Type 0} → String → Value A → A → ReadPart A
 or name v absent = or_by name v (λ _. absent)
 
--- each value says what is at its place of the list
-abbrev pub EachSays : {A : Type 0} → (Data → A → Type 0) → List Data → List A → Type 0
-EachSays says [] [] = Unit {0}
-EachSays says [] (a ∷ rest) = ⊥
-EachSays says (x ∷ xs) [] = ⊥
-EachSays says (x ∷ xs) (a ∷ rest) = says x a × EachSays says xs rest
-
--- a repeated member
+-- a repeated member: each value says what is at its place of the list
 abbrev pub each : {A : Type 0} → String → Count → Value A → ReadPart (List A)
 each name often v = record {
   lines = member_lines name often v;
-  says = λ d. EachSays v.says (values_in (codes name) (Some d));
+  says = λ d. Pairs v.says (values_in (codes name) (Some d));
 }
 
 -- a member that no field is read from

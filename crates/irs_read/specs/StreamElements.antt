@@ -22,7 +22,8 @@ use Rattle.irs_elements.specs.declared.table.Leaf.TheVariants.{ObservationDays, 
 use Rattle.irs_elements.specs.declared.table.Leaf.TheVariants.{PeriodUnit, Precision, Rate, ResetRelative, Roll}
 use Rattle.irs_elements.specs.declared.table.Leaf.TheVariants.{StubType}
 use Rattle.irs_elements.specs.declared.table.Leaf.TheVariants.{TenorUnit, Treatment as TreatmentKind, Truth}
-use Rattle.irs_read.specs.Readings.{EachSays, ReadPart, Says, Value, each, either_member, holds, member_lines, maybe}
+use Rattle.irs_base.specs.Lists.{Pairs}
+use Rattle.irs_read.specs.Readings.{ReadPart, Says, Value, each, either_member, holds, member_lines, maybe}
 use Rattle.irs_read.specs.Readings.{one, or, or_by, text, unread, ◌also◌, ◌gives◌, has_id, href_of, lists_of}
 use Rattle.irs_read.specs.Readings.{streams_in, the_one}
 use Rattle.irs_terms.specs.declared.adjustments.AdjustableDate.{AdjustableDate}
@@ -342,4 +343,4 @@ StreamSays lists d = (stream_by lists (once (codes "calculationPeriodDates") d))
 
 -- what a swap says: what each of its streams does
 abbrev pub SwapSays : Data → Swap → Type 0
-SwapSays d s = EachSays (StreamSays (lists_of (streams_in d))) (streams_in d) s.streams
+SwapSays d s = Pairs (StreamSays (lists_of (streams_in d))) (streams_in d) s.streams

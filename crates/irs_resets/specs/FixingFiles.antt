@@ -30,8 +30,7 @@ first_digit b = if b == 48 then None else digit_at b
 -- the number of two digits
 abbrev pub tens : Option ℕ → Option ℕ → Option ℕ
 tens (Some x) (Some y) = Some (10 * x + y)
-tens (Some x) None = None
-tens None y = None
+tens _ _ = None
 
 -- a number of two digits, the first not 0
 abbrev pub two_digit_number : ℕ → ℕ → Option ℕ
@@ -40,9 +39,7 @@ two_digit_number a b = tens (first_digit a) (digit_at b)
 -- the number of three digits
 abbrev pub hundreds : Option ℕ → Option ℕ → Option ℕ → Option ℕ
 hundreds (Some x) (Some y) (Some z) = Some (100 * x + 10 * y + z)
-hundreds (Some x) (Some y) None = None
-hundreds (Some x) None z = None
-hundreds None y z = None
+hundreds _ _ _ = None
 
 -- a number of three digits, the first not 0
 abbrev pub three_digits : ℕ → ℕ → ℕ → Option ℕ
@@ -56,17 +53,15 @@ unit_of_letter b = if b == 68 then Some D else
 -- a tenor of this count and unit, where both are there
 abbrev pub with_unit : Option ℕ → Option FrequencyUnit → Option (Option Frequency)
 with_unit (Some n) (Some u) = Some (Some (record { count = n; unit = u }))
-with_unit (Some n) None = None
-with_unit None u = None
+with_unit _ _ = None
 
 -- `-` is no tenor; else a number from 1 to 999, and its unit
 abbrev pub tenor_at : List ℕ → Option (Option Frequency)
-tenor_at [] = None
 tenor_at (a ∷ []) = if a == 45 then Some None else None
 tenor_at (a ∷ u ∷ []) = with_unit (first_digit a) (unit_of_letter u)
 tenor_at (a ∷ b ∷ u ∷ []) = with_unit (two_digit_number a b) (unit_of_letter u)
 tenor_at (a ∷ b ∷ c ∷ u ∷ []) = with_unit (three_digits a b c) (unit_of_letter u)
-tenor_at (a ∷ b ∷ c ∷ d ∷ e ∷ rest) = None
+tenor_at _ = None
 
 -- ---- the words that are tenors in a fixing file
 

@@ -35,9 +35,8 @@ is_unit a b = false
 -- the same number of the same unit, so that 12M isn't 1Y
 abbrev pub is_tenor : Option Frequency → Option Frequency → Bool
 is_tenor None None = true
-is_tenor None (Some b) = false
-is_tenor (Some a) None = false
 is_tenor (Some a) (Some b) = (a.count == b.count) && is_unit a.unit b.unit
+is_tenor _ _ = false
 
 -- the same date and tenor
 abbrev pub is_slot : Slot → Slot → Bool

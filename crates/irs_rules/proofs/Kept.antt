@@ -19,7 +19,7 @@ use Rattle.irs_terms.specs.declared.stream_list.Swap.{Swap}
 use Rattle.irs_terms.specs.Centers.{IsSaid, IsSaidReset, names_by, names_with, reset_names, fixing_names}
 use Rattle.irs_terms.specs.TermDates.{first_day_of, StepsRise, LegStepsRise, StepStands, IsStepInside, FrequencySuits}
 use Rattle.irs_terms.specs.TermDates.{DatesInOrder, EndsAfterStart, StartsBefore, FirstRegularInside, LastRegularInside}
-use Rattle.irs_terms.specs.TermDates.{given_or, termination_of}
+use Rattle.irs_terms.specs.TermDates.{termination_of}
 use Rattle.irs_terms.specs.Lawful.{IsLawfulSwap, IsLawfulStream, FitsLeg, FitsResets, FitsStubs}
 use Rattle.irs_rules.specs.TermsRules.{Breaks, BreaksItem, BreaksK12, BreaksK13, BreaksK14, BreaksK17, BreaksK18}
 use Rattle.irs_rules.specs.TermsRules.{BreaksK18InLeg, BreaksK19, BreaksK47, TermsKept, BreaksNone, BreaksStream}
@@ -60,7 +60,7 @@ dates_in_order s never = record {
   first = kept_at K13 elements.first_regular_period_start_date (FirstRegularInside s)
       (decides_inside (first_day_of s) (termination_of s) s.first_regular) (λ f h. never f (inr (inr (inl h))));
   last = kept_at K13 elements.last_regular_period_end_date (LastRegularInside s)
-      (decides_inside (given_or s.first_regular (first_day_of s)) (termination_of s) s.last_regular)
+      (decides_inside (unwrap_or s.first_regular (first_day_of s)) (termination_of s) s.last_regular)
       (λ f h. never f (inr (inr (inr h))));
 }
 

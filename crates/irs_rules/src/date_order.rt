@@ -1,9 +1,8 @@
 //! K13: the termination date is after the effective date, and a given first period start date is
 //! before the effective date. Given regular dates are from the first day of the first period to the
 //! termination date. The last regular date isn't before the first.
-ghost use Rattle.std.specs.Prelude.{◌≡◌, ◌↔◌, ◌≤ℤ◌, IsTrue, IfSome};
+ghost use Rattle.std.specs.Prelude.{◌≡◌, ◌↔◌, ◌≤ℤ◌, IsTrue, IfSome, unwrap_or};
 ghost use Rattle.irs_terms.specs.TermDates.{EndsAfterStart, FirstRegularInside, LastRegularInside, StartsBefore};
-ghost use Rattle.irs_terms.specs.TermDates.{given_or};
 ghost use Rattle.irs_rules.specs.Private.TermsKept.{IsFirstHere};
 ghost use Rattle.irs_rules.specs.TermsRules.{BreaksK13};
 
@@ -59,7 +58,7 @@ fn is_last_inside(s: &Stream) -> bool
 }
 
 fn given_or(given: Option<Day>, day: Day) -> Day
-    ensures { result ≡ given_or given day }
+    ensures { result ≡ unwrap_or given day }
 {
     match given {
         None => day,

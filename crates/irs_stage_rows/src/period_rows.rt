@@ -1,9 +1,9 @@
 //! What is reported of calculation periods: the rule that is broken, or the regular span with its
 //! anchor, and their boundaries. Where there are many, it is the number of periods, and the first
 //! and the last boundary.
-ghost use Rattle.std.specs.Prelude.{◌≡◌, ◌≤ℤ◌, ◌<ℤ◌, IfSome, IsTrue};
+ghost use Rattle.std.specs.Prelude.{◌≡◌, ◌≤ℤ◌, ◌<ℤ◌, IfSome, IsTrue, unwrap_or};
 ghost use Rattle.irs_terms.specs.Lawful.{IsLawfulStream};
-ghost use Rattle.irs_terms.specs.TermDates.{DatesInOrder, given_or, FrequencySuits};
+ghost use Rattle.irs_terms.specs.TermDates.{DatesInOrder, FrequencySuits};
 ghost use Rattle.irs_terms.specs.declared.frequency.Unit.TheVariants.{D};
 ghost use Rattle.irs_periods.specs.Spans.{SpanKept, Regular};
 
@@ -20,7 +20,7 @@ use std::alloc::Global;
 const FEW: usize = 100;
 
 fn given(d: Option<Day>, other: Day) -> Day
-    ensures { result ≡ given_or d other }
+    ensures { result ≡ unwrap_or d other }
 {
     match d {
         Some(given) => given,
@@ -39,7 +39,7 @@ fn starts_before_effective(s: &Stream) -> bool
 
 fn are_in_order(begin: Day, termination: Day, first: Option<Day>, last: Option<Day>) -> bool
     ensures first { IsTrue result → IfSome first (λ f. (begin ≤ℤ f) × (f ≤ℤ termination)) }
-    ensures last { IsTrue result → IfSome last (λ l. (given_or first begin ≤ℤ l) × (l ≤ℤ termination)) }
+    ensures last { IsTrue result → IfSome last (λ l. (unwrap_or first begin ≤ℤ l) × (l ≤ℤ termination)) }
 {
     let from = given(first, begin);
     let to = given(last, termination);

@@ -3,47 +3,37 @@ use Rattle.std.specs.Prelude.{ℕ, Bool, true, false, not, ◌&&◌, ◌||◌, L
 use Rattle.std.specs.Prelude.{IfSome, ◌≡◌, ◌⊎◌}
 use Rattle.std.specs.Ordering.{int_eq}
 use Rattle.irs_terms.specs.declared.codes.ConvCode.{ConvCode}
-use Rattle.irs_terms.specs.declared.codes.ConvCode.TheVariants.{Following, ModFollowing, Preceding, ModPreceding}
-use Rattle.irs_terms.specs.declared.codes.ConvCode.TheVariants.{Nearest, Unadjusted}
+use Rattle.irs_terms.specs.declared.codes.ConvCode.TheVariants.{Unadjusted}
 use Rattle.irs_terms.specs.declared.codes.DayKind.{DayKind}
-use Rattle.irs_terms.specs.declared.codes.DayKind.TheVariants.{Business, Calendar, Unsaid}
+use Rattle.irs_terms.specs.declared.codes.DayKind.TheVariants.{Business, Unsaid}
 use Rattle.irs_terms.specs.declared.adjustments.Offset.{Offset}
 use Rattle.irs_terms.specs.declared.adjustments.Centers.{Centers}
-use Rattle.irs_terms.specs.declared.adjustments.Centers.TheVariants.{Listed, Absent as NoCenters}
-use Rattle.irs_terms.specs.declared.adjustments.Centers.TheVariants.{Dangling as NamesNoList}
+use Rattle.irs_terms.specs.declared.adjustments.Centers.TheVariants.{Listed, Absent as NoCenters, Dangling as NoList}
 use Rattle.irs_terms.specs.declared.adjustments.Adjustments.{Adjustments}
 use Rattle.irs_terms.specs.declared.dates.FixTerms.{FixTerms}
 use Rattle.irs_terms.specs.declared.dates.ResetTerms.{ResetTerms}
 use Rattle.irs_terms.specs.declared.adjustments.AdjustableDate.{AdjustableDate}
 use Rattle.irs_terms.specs.declared.stream.Stream.{Stream}
 use Rattle.irs_terms.specs.declared.codes.RefState.{RefState}
-use Rattle.irs_terms.specs.declared.codes.RefState.TheVariants.{Good}
-use Rattle.irs_terms.specs.declared.adjustments.Centers.TheVariants as of_centers
-use Rattle.irs_terms.specs.declared.codes.RefState.TheVariants as ref_state
+use Rattle.irs_terms.specs.declared.codes.RefState.TheVariants.{Dangling as NoTarget}
 
 -- ---- the centres an element of a stream takes its business days from
 -- It lists them or has them by reference. There are none where it needs no days.
 
 -- the names of the centres that an element lists, or has by its reference
 abbrev pub listed_names : Centers → Option (List (List ℕ))
-listed_names of_centers.Absent = None
 listed_names (Listed names) = Some names
-listed_names of_centers.Dangling = None
+listed_names _ = None
 
 -- an adjustment needs days where its convention isn't NONE
 abbrev pub adjusts_days : ConvCode → Bool
-adjusts_days Following = true
-adjusts_days ModFollowing = true
-adjusts_days Preceding = true
-adjusts_days ModPreceding = true
-adjusts_days Nearest = true
 adjusts_days Unadjusted = false
+adjusts_days _ = true
 
 -- the offset counts business days
 abbrev pub is_business : DayKind → Bool
 is_business Business = true
-is_business Calendar = false
-is_business Unsaid = false
+is_business _ = false
 
 -- an offset needs days where it is a Business offset other than 0
 abbrev pub counts_days : Offset → Bool
@@ -80,9 +70,8 @@ fixing_names (Some terms) = fixing_names_of terms.fixing
 
 -- there is a list of centres, or a reference to one
 abbrev pub HasCenters : Centers → Type 0
-HasCenters of_centers.Absent = ⊥
-HasCenters (Listed names) = Unit {0}
-HasCenters of_centers.Dangling = Unit {0}
+HasCenters NoCenters = ⊥
+HasCenters _ = Unit {0}
 
 -- where days are needed there are centres
 abbrev pub HasCentersFor : Bool → Centers → Type 0
@@ -113,8 +102,7 @@ IsSaid offset = (offset.days ≡ pos 0) ⊎ (offset.kind ≡ Unsaid → ⊥)
 
 -- that of fixing dates, where there are any
 abbrev pub IsSaidFixing : Option FixTerms → Type 0
-IsSaidFixing None = Unit {0}
-IsSaidFixing (Some fixing) = IsSaid fixing.offset
+IsSaidFixing fixing = IfSome fixing (λ terms. IsSaid terms.offset)
 
 -- that of a stream's fixing dates
 abbrev pub IsSaidReset : Stream → Type 0
@@ -125,15 +113,13 @@ IsSaidReset s = IfSome s.reset (λ t. IsSaidFixing t.fixing)
 
 -- a reference that is given names its target
 abbrev pub NamesTarget : RefState → Type 0
-NamesTarget ref_state.Absent = Unit {0}
-NamesTarget Good = Unit {0}
-NamesTarget ref_state.Dangling = ⊥
+NamesTarget NoTarget = ⊥
+NamesTarget _ = Unit {0}
 
 -- a businessCentersReference that is given names exactly one list of centres
 abbrev pub NamesOneList : Centers → Type 0
-NamesOneList NoCenters = Unit {0}
-NamesOneList (Listed names) = Unit {0}
-NamesOneList NamesNoList = ⊥
+NamesOneList NoList = ⊥
+NamesOneList _ = Unit {0}
 
 -- that of a date that may be given
 abbrev pub StartNamesOneList : Option AdjustableDate → Type 0

@@ -9,10 +9,10 @@ use Rattle.irs_base.specs.Limits.{most_observation_offset, most_rate, most_steps
 use Rattle.irs_terms.specs.declared.frequency.Unit.TheVariants.{T}
 use Rattle.irs_terms.specs.declared.frequency.Frequency.{Frequency}
 use Rattle.irs_terms.specs.declared.codes.RollCode.{RollCode}
-use Rattle.irs_terms.specs.declared.codes.RollCode.TheVariants.{Eom, Dom, Imm, OnWeekday, NoRoll}
+use Rattle.irs_terms.specs.declared.codes.RollCode.TheVariants.{Dom}
 use Rattle.irs_terms.specs.declared.adjustments.Offset.{Offset}
 use Rattle.irs_terms.specs.declared.adjustments.Centers.{Centers}
-use Rattle.irs_terms.specs.declared.adjustments.Centers.TheVariants.{Absent, Listed, Dangling}
+use Rattle.irs_terms.specs.declared.adjustments.Centers.TheVariants.{Listed}
 use Rattle.irs_terms.specs.declared.adjustments.AdjustableDate.{AdjustableDate}
 use Rattle.irs_terms.specs.declared.step_list.StepValues.{StepValues}
 use Rattle.irs_terms.specs.declared.dates.PayTerms.{PayTerms}
@@ -62,11 +62,8 @@ IsLawfulTenor f = IsLawfulFrequency f × (f.unit ≡ T → ⊥)
 
 -- a day number from 1 to 30
 abbrev pub IsLawfulRoll : RollCode → Type 0
-IsLawfulRoll Eom = Unit {0}
 IsLawfulRoll (Dom n) = (1 ≤ n) × (n ≤ 30)
-IsLawfulRoll Imm = Unit {0}
-IsLawfulRoll (OnWeekday name) = Unit {0}
-IsLawfulRoll NoRoll = Unit {0}
+IsLawfulRoll _ = Unit {0}
 
 -- -60 to 60 days
 abbrev pub IsLawfulOffset : Offset → Type 0
@@ -82,9 +79,8 @@ IsLawfulNames names = (1 ≤ length names) × (length names ≤ most_centers) ×
 
 -- at most 16 names of centres
 abbrev pub IsLawfulCenters : Centers → Type 0
-IsLawfulCenters Absent = Unit {0}
 IsLawfulCenters (Listed names) = IsLawfulNames names
-IsLawfulCenters Dangling = Unit {0}
+IsLawfulCenters _ = Unit {0}
 
 -- a day of the range, with lawful centres
 abbrev pub IsLawfulAdjustableDate : AdjustableDate → Type 0

@@ -1,6 +1,6 @@
 -- The dates and frequencies of a stream's terms, and what fits together.
 use Rattle.std.specs.Prelude.{ℤ, unwrap_or, ℕ, Option, Some, None, IfSome, ◌≤ℤ◌, ◌<ℤ◌, ◌≡◌, ◌*◌, ◌==◌, Bool, false, ◌<◌}
-use Rattle.std.specs.Prelude.{IsTrue, ◌≤◌, ◌≢◌, ◌⊎◌, IsSome, IsNone, IsSomeAnd, zero, suc, List, [], ◌∷◌, slice_get}
+use Rattle.std.specs.Prelude.{IsTrue, ◌≤◌, ◌≢◌, ◌⊎◌, IsSome, IsNone, IsSomeAnd, zero, suc, List, ◌∷◌, slice_get}
 use Rattle.irs_base.specs.Elements.{effective_date, first_period_start_date}
 use Rattle.irs_terms.specs.declared.adjustments.AdjustableDate.{AdjustableDate}
 use Rattle.irs_terms.specs.declared.stream.Stream.{Stream}
@@ -13,7 +13,7 @@ use Rattle.irs_terms.specs.declared.codes.RollCode.{RollCode}
 use Rattle.irs_terms.specs.declared.codes.RollCode.TheVariants.{Eom, Dom, Imm, OnWeekday, NoRoll}
 use Rattle.irs_terms.specs.declared.codes.Relative.TheVariants.{End}
 use Rattle.irs_terms.specs.declared.codes.StubKind.{StubKind}
-use Rattle.irs_terms.specs.declared.codes.StubKind.TheVariants.{ShortInitial, LongInitial, ShortFinal, LongFinal}
+use Rattle.irs_terms.specs.declared.codes.StubKind.TheVariants.{ShortInitial, LongInitial}
 use Rattle.irs_terms.specs.declared.dates.PayTerms.{PayTerms}
 use Rattle.irs_terms.specs.declared.amounts.Leg.{Leg}
 use Rattle.irs_terms.specs.declared.amounts.Leg.TheVariants.{Fixed, Floating}
@@ -46,11 +46,6 @@ first_day_element s = first_day_element_by s.first_start
 abbrev pub termination_of : Stream → ℤ
 termination_of s = s.termination.day
 
--- the day that is given, or else this one
-abbrev pub given_or : Option ℤ → ℤ → ℤ
-given_or None d = d
-given_or (Some given) d = given
-
 -- the termination date is after the effective date
 abbrev pub EndsAfterStart : Stream → Type 0
 EndsAfterStart s = s.effective.day <ℤ termination_of s
@@ -67,7 +62,7 @@ FirstRegularInside s = IfSome s.first_regular (λ f. (first_day_of s ≤ℤ f) �
 -- regular date, or before the first day where none is given.
 abbrev pub LastRegularInside : Stream → Type 0
 LastRegularInside s =
-    IfSome s.last_regular (λ l. (given_or s.first_regular (first_day_of s) ≤ℤ l) × (l ≤ℤ termination_of s))
+    IfSome s.last_regular (λ l. (unwrap_or s.first_regular (first_day_of s) ≤ℤ l) × (l ≤ℤ termination_of s))
 
 -- K13 isn't broken: the dates of the term and of its regular part are in order
 pub record DatesInOrder (s : Stream) : Type 0 where
@@ -93,46 +88,32 @@ length_of f = length_by f.unit f.count
 -- both are as long: 7D is 1W, 12M is 1Y, and the term is the term
 abbrev pub is_same_length : Length → Length → Bool
 is_same_length (Days a) (Days b) = a == b
-is_same_length (Days a) (Months b) = false
-is_same_length (Days a) (Term b) = false
-is_same_length (Months a) (Days b) = false
 is_same_length (Months a) (Months b) = a == b
-is_same_length (Months a) (Term b) = false
-is_same_length (Term a) (Days b) = false
-is_same_length (Term a) (Months b) = false
 is_same_length (Term a) (Term b) = a == b
+is_same_length _ _ = false
 
 -- frequencies of the same length: 12M and 1Y, 7D and 1W
 abbrev pub same_length : Frequency → Frequency → Bool
 same_length a b = is_same_length (length_of a) (length_of b)
-
--- a whole multiple, with how many times it is
-abbrev pub IsTimes : ℕ → ℕ → ℕ → Type 0
-IsTimes whole part times = whole ≡ times * part
 
 -- ---- how the payment and the reset frequency of a stream fit its calculation frequency (FpML paymentFrequency,
 -- resetFrequency, calculationPeriodFrequency)
 
 -- a whole multiple
 abbrev pub IsWholeMultiple : ℕ → ℕ → Type 0
-IsWholeMultiple whole part = (times : ℕ) × IsTimes whole part times
+IsWholeMultiple whole part = (times : ℕ) × (whole ≡ times * part)
 
 -- a whole multiple, more than once
 abbrev pub IsLargerMultiple : ℕ → ℕ → Type 0
-IsLargerMultiple whole part = (times : ℕ) × (1 < times) × IsTimes whole part times
+IsLargerMultiple whole part = (times : ℕ) × (1 < times) × (whole ≡ times * part)
 
 -- A payment has whole calculation periods: days are a whole multiple of days, and months of months.
 -- A single payment for the whole term has them all. Where the one period is the term, so is the payment.
 abbrev pub HasWholePeriods : Length → Length → Type 0
 HasWholePeriods (Days pay) (Days calc) = IsWholeMultiple pay calc
-HasWholePeriods (Days pay) (Months calc) = ⊥
-HasWholePeriods (Days pay) (Term calc) = ⊥
-HasWholePeriods (Months pay) (Days calc) = ⊥
 HasWholePeriods (Months pay) (Months calc) = IsWholeMultiple pay calc
-HasWholePeriods (Months pay) (Term calc) = ⊥
-HasWholePeriods (Term pay) (Days calc) = pay ≡ 1
-HasWholePeriods (Term pay) (Months calc) = pay ≡ 1
-HasWholePeriods (Term pay) (Term calc) = pay ≡ 1
+HasWholePeriods (Term pay) _ = pay ≡ 1
+HasWholePeriods _ _ = ⊥
 
 -- K15 isn't broken: the payment frequency suits the calculation frequency
 abbrev pub PaymentSuits : Stream → Type 0
@@ -142,14 +123,8 @@ PaymentSuits s = HasWholePeriods (length_of s.pay.freq) (length_of s.freq)
 -- number above 1 of calculation frequencies
 abbrev pub GroupsPeriods : Length → Length → Type 0
 GroupsPeriods (Days pay) (Days calc) = IsLargerMultiple pay calc
-GroupsPeriods (Days pay) (Months calc) = ⊥
-GroupsPeriods (Days pay) (Term calc) = ⊥
-GroupsPeriods (Months pay) (Days calc) = ⊥
 GroupsPeriods (Months pay) (Months calc) = IsLargerMultiple pay calc
-GroupsPeriods (Months pay) (Term calc) = ⊥
-GroupsPeriods (Term pay) (Days calc) = ⊥
-GroupsPeriods (Term pay) (Months calc) = ⊥
-GroupsPeriods (Term pay) (Term calc) = ⊥
+GroupsPeriods _ _ = ⊥
 
 -- K20 isn't broken: the reset frequency, where there is one, is as long as the calculation frequency
 abbrev pub ResetSuits : Stream → Type 0
@@ -163,16 +138,13 @@ abbrev pub RollsMonths : RollCode → Type 0
 RollsMonths Eom = Unit {0}
 RollsMonths (Dom number) = (1 ≤ number) × (number ≤ 30)
 RollsMonths Imm = Unit {0}
-RollsMonths (OnWeekday name) = ⊥
-RollsMonths NoRoll = ⊥
+RollsMonths _ = ⊥
 
 -- a roll for weeks: a weekday, or none
 abbrev pub RollsWeeks : RollCode → Type 0
-RollsWeeks Eom = ⊥
-RollsWeeks (Dom number) = ⊥
-RollsWeeks Imm = ⊥
 RollsWeeks (OnWeekday name) = Unit {0}
 RollsWeeks NoRoll = Unit {0}
+RollsWeeks _ = ⊥
 
 -- months and years ask for a roll of months, weeks for one of weeks, days for none, and the term for nothing
 abbrev pub SuitsBy : FrequencyUnit → RollCode → Type 0
@@ -205,11 +177,9 @@ StartsLater s = IsSomeAnd s.first_regular (λ d. d ≢ first_day_of s)
 
 -- the stub type is ShortInitial or LongInitial
 abbrev pub IsInitialKind : Option StubKind → Type 0
-IsInitialKind None = ⊥
 IsInitialKind (Some ShortInitial) = Unit {0}
 IsInitialKind (Some LongInitial) = Unit {0}
-IsInitialKind (Some ShortFinal) = ⊥
-IsInitialKind (Some LongFinal) = ⊥
+IsInitialKind _ = ⊥
 
 -- no regular date is given, and the stub type is that of an initial stub
 abbrev pub HasInitialKind : Stream → Type 0
@@ -256,9 +226,8 @@ LastPaymentStands s = IfSome s.pay.last (IsLastPayment s)
 
 -- each step is after the one before it
 abbrev pub StepsRise : List Step → Type 0
-StepsRise [] = Unit {0}
-StepsRise (s ∷ []) = Unit {0}
 StepsRise (s ∷ t ∷ ss) = (s.day <ℤ t.day) × StepsRise (t ∷ ss)
+StepsRise _ = Unit {0}
 
 -- the steps of a fixed rate rise, and so do those of the multiplier and of the spread
 abbrev pub LegStepsRise : Leg → Type 0
