@@ -16,7 +16,7 @@ use Rattle.irs_answers.specs.declared.forms.Form.TheVariants.{Json, Xml}
 use Rattle.irs_answers.specs.declared.forms.ReadErr.{ReadErr}
 use Rattle.irs_answers.specs.declared.forms.ReadErr.TheVariants as reading
 use Rattle.irs_read.specs.Documents.{DocumentFault, swap_of_document, Means}
-use Rattle.irs_read.proofs.LawfulSwaps.{document_lawful, means_read}
+use Rattle.irs_read.proofs.LawfulSwaps.{document_lawful}
 use Rattle.irs_read.proofs.Outcomes.{one_meaning as meant_once}
 use Rattle.irs_read.specs.Readings.{streams_in}
 use Rattle.irs_rules.specs.TermsRules.{terms_of, BreaksTerms}
@@ -166,7 +166,7 @@ one_swap v = record {
 
 -- a document means a lawful swap
 pub means_lawful : (v : Data) (s : Swap) → Means v s → IsLawfulSwap s
-means_lawful v s m = document_lawful v m.at s m.clean m.found (means_read v s m)
+means_lawful v s m = document_lawful v m.at s m.clean m.found m.says
 
 one_side : (t : Task) (v : Data) → IsOne (sides_of t v)
 one_side t v = record {

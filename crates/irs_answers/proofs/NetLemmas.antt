@@ -1,11 +1,9 @@
 -- The sides that were read are those of the schedule's streams, and the rows of the net as text.
-use Rattle.std.proofs.Common.{◌≡◌, List, [], ◌∷◌, length, Option, Some, None, true, Result, Ok, refl, sym, ◌∙◌, ap}
+use Rattle.std.proofs.Common.{◌≡◌, List, [], ◌∷◌, length, Option, Some, None, true, Result, Ok, refl, sym, ◌∙◌}
 use Rattle.std.proofs.Common.{subst, arith}
-use Rattle.std.proofs.lemmas.List.{length-map}
 use Rattle.irs_base.specs.Lists.{Pairs}
-use Rattle.irs_read.proofs.LawfulSwaps.{means_read}
+use Rattle.irs_read.proofs.EachSaid.{each_long}
 use Rattle.irs_read.specs.Readings.{streams_in}
-use Rattle.irs_read.specs.Private.Meaning.{swap_in}
 use Rattle.irs_read.specs.Documents.{Means}
 use Rattle.irs_resets.specs.Rates.{RateTable}
 use Rattle.irs_calendar.specs.declared.sections.Section.{Section}
@@ -37,8 +35,7 @@ swap_long v swap sides h k =
     let at : k.swap ≡ h.at = same_ok k.swap h.at (sym k.found ∙ h.found) in
     let many : sides.count ≡ length (streams_in h.at) =
     subst (λ (d : Data). sides.count ≡ length (streams_in d)) at k.are.count in
-    let mapped : length (swap_in h.at).streams ≡ length (streams_in h.at) = length-map (streams_in h.at) _ in
-    many ∙ sym mapped ∙ sym (ap (λ (s : Swap). length s.streams) (means_read v swap h))
+    many ∙ sym (each_long _ (streams_in h.at) swap.streams h.says)
 
 sided : (v : Data) (swap : Swap) (cal : List Section) (table : RateTable) (parts : List Part) (o : Option Sides)
     → Means v swap → IsSchedule swap cal table parts → SidesIf true v o → IsSided o parts

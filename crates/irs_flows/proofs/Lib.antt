@@ -5,3 +5,4 @@ pub mod FlowRules
 pub mod FlowClean
 pub mod FlowOutcomes
 pub mod FlowsWithin
+pub mod EachFlows

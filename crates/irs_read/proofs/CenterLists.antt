@@ -1,63 +1,158 @@
--- Texts that are kept as they are, and lists of centres: what is read of a clean one is what it says, and nothing
--- else is.
+-- Lists of centres: those of clean streams say names, and no others.
+use Prim.Native.String.{String}
 use Rattle.irs_base.specs.Limits.{most_centers}
-use Rattle.irs_elements.specs.Elements.{leaf_text_in}
-use Rattle.irs_elements.specs.Lines.{object}
+use Rattle.irs_elements.specs.Elements.{member, values_in}
 use Rattle.irs_elements.specs.Leaves.{is_center_name}
 use Rattle.irs_elements.specs.declared.table.Count.TheVariants.{OneTo}
-use Rattle.irs_elements.specs.declared.table.Leaf.{Leaf as LeafKind}
-use Rattle.irs_elements.specs.declared.table.Leaf.TheVariants.{CenterName}
-use Rattle.irs_read.proofs.Clean.{leaf_at}
-use Rattle.irs_read.proofs.Fills.{Agree, Reads, each_fills, leaf_said, whole}
-use Rattle.irs_read.proofs.Rows.{LeafRow, Path, is_leaf, row_of}
-use Rattle.irs_read.specs.Private.Meaning.{names_in, word_in}
-use Rattle.irs_read.specs.Readings.{each, text}
+use Rattle.irs_elements.specs.declared.table.Leaf.TheVariants.{CenterName, Convention}
+use Rattle.irs_read.proofs.LeafKinds.{center_names}
+use Rattle.irs_read.proofs.Rows.{At, AtMost, LeafRow, May, Must, Path, RowIs, facts, is_leaf, most_of, row_of}
+use Rattle.irs_read.proofs.Tells.{Fills, ListIs, Told, each_fills, few, leaf_fills, perhaps, some, told}
+use Rattle.irs_read.specs.Readings.{found_value, has_id, lists_in, lists_of, the_one}
 use Rattle.irs_read.specs.StreamElements.{center_list, center_name}
-use Rattle.irs_read.specs.declared.table.TheConstants.{ROWS}
-use Rattle.std.proofs.Common.{◌≡◌, ℕ, Bool, true, false, true≢false, List, [], ◌∷◌, Option, Some, None, is_some}
-use Rattle.std.proofs.Common.{option_and_then}
-use Rattle.std.proofs.Common.{unwrap_or, slice_get, refl, sym, if◌then◌else◌}
+use Rattle.irs_terms.specs.Lawful.{IsLawfulName, IsLawfulNames}
+use Rattle.serde_json.specs.Data.{Data}
+use Rattle.std.proofs.Common.{◌≡◌, ℕ, suc, ◌<◌, ◌≤◌, Bool, true, false, ◌==◌, List, [], ◌∷◌, ◌++◌, length, cond, count_by}
+use Rattle.std.proofs.Common.{find, Option, Some, None, slice_get, codes, refl, arith, if◌then◌else◌}
 
--- a text that passes a test is there
-pub guard_is : (b : Bool) (s : List ℕ) → b ≡ is_some (if b then Some s else None)
-guard_is true s = refl
-guard_is false s = refl
+-- what the table says of a list of centres at the end of a path
+abbrev pub CenterRows : Path → Type 0
+CenterRows p = LeafRow p "businessCenter" CenterName × (most_of ("businessCenter" ∷ p) ≡ most_centers)
 
-guarded : (b : Bool) (s t : List ℕ) → (if b then Some s else None) ≡ Some t → t ≡ s
-guarded true s t e = cc
-guarded false s t e = cc
-
-guard_some : (b : Bool) (s : List ℕ) → is_some (if b then Some s else None) ≡ true
-    → (if b then Some s else None) ≡ Some s
-guard_some true s e = refl
-guard_some false s e = absurd (true≢false (sym e))
-
-word_some : (test : List ℕ → Bool) (o : Option (List ℕ))
-    → is_some (option_and_then (λ s. if test s then Some s else None) o) ≡ true
-    → option_and_then (λ s. if test s then Some s else None) o ≡ Some (unwrap_or o [])
-word_some test None e = absurd (true≢false (sym e))
-word_some test (Some s) e = guard_some (test s) s e
-
-word_only : (test : List ℕ → Bool) (o : Option (List ℕ)) (t : List ℕ)
-    → option_and_then (λ s. if test s then Some s else None) o ≡ Some t → t ≡ unwrap_or o []
-word_only test None t e = cc
-word_only test (Some s) t e = guarded (test s) s t e
-
--- a leaf whose text is kept, where it passes a test
-pub word_reads : (p : Path) (kind : LeafKind) (test : List ℕ → Bool)
-    → Agree kind (λ s. if test s then Some s else None) → leaf_at (slice_get ROWS (row_of p)) ≡ Some kind
-    → Reads p (text kind (λ s. if test s then Some s else None)) (λ d. word_in (Some d))
-word_reads p kind test agree is = record {
-  gives =
-      λ d clean. word_some test (leaf_text_in (Some d))
-      (leaf_said p kind (λ s. if test s then Some s else None) agree is d clean);
-  only = λ d t e. word_only test (leaf_text_in (Some d)) t e;
-}
+names_lawful : (n m : ℕ) (all : List (List ℕ)) → 0 < n → n ≤ m → m ≡ most_centers → ListIs IsLawfulName n all
+    → IsLawfulNames all
+names_lawful n m all low high most h = (omega (arith, h.many), omega (arith, h.many), h.each)
 
 -- the list of centres at the end of a path
-pub names_reads : (p : Path) → LeafRow p "businessCenter" CenterName → Reads p center_list names_in
-names_reads p row =
-    whole p object (each "businessCenter" (OneTo most_centers) center_name) names_in
-    (each_fills p "businessCenter" (OneTo most_centers) center_name (λ x. word_in (Some x)) row
-    (word_reads ("businessCenter" ∷ p) CenterName is_center_name (λ s. guard_is (is_center_name s) s)
-    (is_leaf p "businessCenter" row)))
+pub list_fills : (p : Path) → CenterRows p → Fills p center_list.says IsLawfulNames
+list_fills p at =
+    each_fills {L = IsLawfulName} {M = IsLawfulNames} p "businessCenter" (OneTo most_centers) center_name at.0
+    (λ d clean all h. names_lawful (length (values_in (codes "businessCenter") (Some d)))
+    (most_of ("businessCenter" ∷ p)) all (some p "businessCenter" at.0 d clean)
+    (few p "businessCenter" at.0 d clean) at.1 h)
+    (leaf_fills ("businessCenter" ∷ p) CenterName (λ s. if is_center_name s then Some s else None) center_names
+    (is_leaf p "businessCenter" at.0))
+
+-- a list of centres, if there is one, says lawful names
+abbrev pub GoodList : Option Data → Type 0
+GoodList o = Told center_list.says IsLawfulNames o
+
+-- so does each of several
+abbrev pub GoodLists : List (Option Data) → Type 0
+GoodLists [] = Unit {0}
+GoodLists (o ∷ os) = GoodList o × GoodLists os
+
+-- what the table says of adjustments at the end of a path
+abbrev pub AdjustingRows : Path → Type 0
+AdjustingRows p =
+    LeafRow p "businessDayConvention" Convention × May p "businessCenters" × CenterRows ("businessCenters" ∷ p)
+
+-- below what may be absent too
+below : {must : Bool} (p : Path) (name : String) → RowIs p name must None → (o : Option Data) → AtMost p o
+    → AtMost (name ∷ p) (member (codes name) o)
+below p name row None clean = tt
+below p name row (Some d) clean = perhaps p name row d clean
+
+-- the list of business centres in adjustments
+abbrev Centers : Option Data → Option Data
+Centers o = member (codes "businessCenters") o
+
+-- the list below clean adjustments
+pub good_below : (p : Path) → AdjustingRows p → (o : Option Data) → AtMost p o → GoodList (Centers o)
+good_below p at o clean =
+    told (list_fills ("businessCenters" ∷ p) at.2) (Centers o) (below p "businessCenters" at.1 o clean)
+
+-- ---- the lists of a stream
+
+-- `calculationPeriodDates`
+abbrev pub dates_path : Path
+dates_path = "calculationPeriodDates" ∷ []
+
+-- `paymentDates`
+abbrev pub payments_path : Path
+payments_path = "paymentDates" ∷ []
+
+-- `resetDates`
+abbrev pub resets_path : Path
+resets_path = "resetDates" ∷ []
+
+-- the list in the adjustments with this name, below what is clean
+adjusted_good : {must : Bool} (p : Path) (name : String) → RowIs p name must None → AdjustingRows (name ∷ p)
+    → (o : Option Data) → AtMost p o → GoodList (Centers (member (codes name) o))
+adjusted_good p name row at o clean = good_below (name ∷ p) at (member (codes name) o) (below p name row o clean)
+
+-- the list in the adjustments of the date with this name
+dated_good : {must : Bool} (name : String) → RowIs dates_path name must None → Must (name ∷ dates_path) "dateAdjustments"
+    → AdjustingRows ("dateAdjustments" ∷ name ∷ dates_path) → (dates : Option Data) → AtMost dates_path dates
+    → GoodList (Centers (member (codes "dateAdjustments") (member (codes name) dates)))
+dated_good name row adj at dates clean =
+    adjusted_good (name ∷ dates_path) "dateAdjustments" adj at (member (codes name) dates)
+    (below dates_path name row dates clean)
+
+-- the lists of the dates
+dates_good : (o : Option Data) → AtMost dates_path o
+    → GoodList (Centers (member (codes "dateAdjustments") (member (codes "effectiveDate") o)))
+    × GoodList (Centers (member (codes "dateAdjustments") (member (codes "terminationDate") o)))
+    × GoodList (Centers (member (codes "calculationPeriodDatesAdjustments") o))
+    × GoodList (Centers (member (codes "dateAdjustments") (member (codes "firstPeriodStartDate") o)))
+unfolding facts row_of most_of
+dates_good o clean = (
+  dated_good "effectiveDate" refl refl (refl, refl, (refl, refl)) o clean,
+  dated_good "terminationDate" refl refl (refl, refl, (refl, refl)) o clean,
+  adjusted_good dates_path "calculationPeriodDatesAdjustments" refl (refl, refl, (refl, refl)) o clean,
+  dated_good "firstPeriodStartDate" refl refl (refl, refl, (refl, refl)) o clean,
+)
+
+-- those of the payments
+payments_good : (o : Option Data) → AtMost payments_path o
+    → GoodList (Centers (member (codes "paymentDatesAdjustments") o))
+unfolding facts row_of most_of
+payments_good o clean = adjusted_good payments_path "paymentDatesAdjustments" refl (refl, refl, (refl, refl)) o clean
+
+-- those of the resets
+resets_good : (o : Option Data) → AtMost resets_path o
+    → GoodList (Centers (member (codes "fixingDates") o)) × GoodList (Centers (member (codes "resetDatesAdjustments") o))
+unfolding facts row_of most_of
+resets_good o clean = (
+  adjusted_good resets_path "fixingDates" refl (refl, refl, (refl, refl)) o clean,
+  adjusted_good resets_path "resetDatesAdjustments" refl (refl, refl, (refl, refl)) o clean,
+)
+
+lists_good : (d : Data) → At [] d → GoodLists (lists_in d)
+unfolding facts row_of
+lists_good d clean =
+    let dates = dates_good _ (perhaps [] "calculationPeriodDates" refl d clean) in
+    let resets = resets_good _ (perhaps [] "resetDates" refl d clean) in
+    let pay = payments_good _ (perhaps [] "paymentDates" refl d clean) in
+    (dates.0, (dates.1, (dates.2, (dates.3, (pay, (resets.0, (resets.1, tt)))))))
+
+good_append : (os ps : List (Option Data)) → GoodLists os → GoodLists ps → GoodLists (os ++ ps)
+good_append [] ps g h = h
+good_append (o ∷ os) ps g h = (g.0, good_append os ps g.1 h)
+
+-- the lists of centres of clean streams
+pub all_good : (ds : List Data) → ((j : ℕ) (x : Data) → slice_get ds j ≡ Some x → At [] x) → GoodLists (lists_of ds)
+all_good [] clean = tt
+all_good (d ∷ ds) clean =
+    good_append (lists_in d) (lists_of ds) (lists_good d (clean 0 d refl)) (all_good ds (λ j x e. clean (suc j) x e))
+
+-- ---- the list that a reference names
+
+found_by : (b : Bool) (o : Option Data) (r : Option (Option Data)) → GoodList o → GoodList (found_value r)
+    → GoodList (found_value (cond b (Some o) r))
+found_by true o r g h = g
+found_by false o r g h = h
+
+good_found : (p : Option Data → Bool) (lists : List (Option Data)) → GoodLists lists
+    → GoodList (found_value (find p lists))
+good_found p [] g = tt
+good_found p (o ∷ os) g = found_by (p o) o (find p os) g.0 (good_found p os g.1)
+
+one_by : (b : Bool) (o : Option Data) → GoodList o → GoodList (if b then o else None)
+one_by true o g = g
+one_by false o g = tt
+
+-- the list that a text names
+pub one_good : (id : List ℕ) (lists : List (Option Data)) → GoodLists lists → GoodList (the_one id lists)
+one_good id lists g =
+    one_by (count_by (has_id id) lists == 1) (found_value (find (has_id id) lists)) (good_found (has_id id) lists g)

@@ -6,7 +6,7 @@ use Rattle.irs_elements.proofs.Exact.{both_true}
 use Rattle.irs_elements.proofs.Steps.{choice_kept}
 use Rattle.irs_elements.specs.Elements.{FaultAt, IsMemberRow, absent_index, index_in, is_chosen, inside, is_element}
 use Rattle.irs_elements.specs.Elements.{is_required, missing, most, name_at, own, place, shape, too_many, under, unmet}
-use Rattle.irs_elements.specs.Elements.{member, once, values_in, values_of}
+use Rattle.irs_elements.specs.Elements.{once, values_in, values_of}
 use Rattle.irs_elements.specs.Leaves.{has_value, leaf_rule, out_of_profile, text_of_leaf, text_rule}
 use Rattle.irs_elements.specs.declared.table.Choice.{Choice}
 use Rattle.irs_elements.specs.declared.table.Choice.TheVariants.{ExactlyOne}
@@ -286,12 +286,6 @@ module _ (rows : List Row) (names : List (List ℕ)) where
   pub clean_once : (r c : ℕ) (d : Data) → is_child rows r c ≡ true → Clean r d
       → IfSome (once (name_at names c) d) (Clean c)
   clean_once r c d e clean = clean_found r c d (child_of (name_at names c) d) (joint r c d e clean) refl
-
-  -- the members of a clean value are clean
-  pub clean_member : (r c : ℕ) (o : Option Data) → is_child rows r c ≡ true → IfSome o (Clean r)
-      → IfSome (member (name_at names c) o) (Clean c)
-  clean_member r c None e clean = tt
-  clean_member r c (Some d) e clean = clean_once r c d e clean
 
   -- a required element is present, with at least one value
   required : (r c : ℕ) (d : Data) → required_at (slice_get rows c) ≡ true → Joint r c d

@@ -1,20 +1,20 @@
--- The swap that a document without a broken rule says is lawful.
+-- A document that breaks no rule means one swap, and that one is lawful.
+use Rattle.irs_base.specs.Lists.{Pairs}
 use Rattle.irs_base.specs.Elements.{swap_stream}
 use Rattle.irs_base.specs.declared.places.Broken.{Broken}
 use Rattle.irs_base.specs.declared.places.Rule.TheVariants.{K2, K3, K7}
 use Rattle.irs_elements.specs.Elements.{own, place}
 use Rattle.irs_json.specs.Leaves.{element_names}
 use Rattle.irs_read.proofs.Clean.{clean_from, le_or_lt}
-use Rattle.irs_read.proofs.Fills.{each_gives, each_only}
 use Rattle.irs_read.proofs.Rows.{At, at_top}
-use Rattle.irs_read.proofs.StreamReads.{stream_gives, stream_only}
+use Rattle.irs_read.proofs.StreamReads.{stream_tells}
+use Rattle.irs_read.proofs.Tells.{ListIs, Tells, each_tells, shape}
 use Rattle.irs_read.specs.Documents.{Means, DocumentFault, below, the_swap, EachStated, IsStated, stream_names}
 use Rattle.irs_read.specs.Documents.{stream_rows, swap_rows, StreamsFault, SwapFault, in_stream, many_streams}
 use Rattle.irs_read.specs.Documents.{no_stream, outside}
 use Rattle.irs_read.specs.StreamElements.{StreamSays, SwapSays}
-use Rattle.irs_read.proofs.Streams.{GoodLists, all_good, stream_lawful}
-use Rattle.irs_read.specs.Private.Meaning.{stream_in, swap_in}
-use Rattle.irs_read.specs.Readings.{streams_in, lists_of}
+use Rattle.irs_read.proofs.CenterLists.{GoodLists, all_good}
+use Rattle.irs_read.specs.Readings.{lists_of, streams_in}
 use Rattle.irs_read.proofs.StatedTables.{stated}
 use Rattle.irs_read.proofs.TableLaws.{code_names, stream_fault}
 use Rattle.irs_read.specs.declared.table.TheConstants.{ROWS, SWAP}
@@ -22,11 +22,8 @@ use Rattle.irs_terms.specs.Lawful.{IsLawfulSwap, IsLawfulStream}
 use Rattle.irs_base.specs.Limits.{most_streams}
 use Rattle.irs_terms.specs.declared.stream_list.Swap.{Swap}
 use Rattle.serde_json.specs.Data.{Data}
-use Rattle.std.proofs.Common.{◌≡◌, ℕ, zero, suc, ◌+◌, ◌<◌, ◌≤◌, Bool, true, false, ◌⊎◌, inl, inr, List, [], map, length}
-use Rattle.std.proofs.Common.{get_or, Some, Ok, is_some, slice_get, All, refl, sym, subst, arith}
-use Rattle.std.proofs.lemmas.List.{length-map}
-use Rattle.std.proofs.lemmas.List.Elements.{All-map}
-use Rattle.std.proofs.lemmas.Option.{slice_get-get_or}
+use Rattle.std.proofs.Common.{◌≡◌, ℕ, zero, suc, ◌+◌, ◌<◌, ◌≤◌, Bool, true, false, ◌⊎◌, inl, inr, List, [], length}
+use Rattle.std.proofs.Common.{Some, Ok, is_some, slice_get, refl, sym, subst, arith}
 
 object_by : (d : Data) (b : Bool) → is_some (element_names d) ≡ b → ((f : Broken) → SwapFault d f → ⊥)
     → is_some (element_names d) ≡ true
@@ -48,77 +45,45 @@ each_clean ds lo hi none j x e =
     at_top x
     (clean_from ROWS code_names 0 (j + 1) 0 x _ refl (λ f q. none f (in_stream f lo hi (j, (x, (e, stream_fault q))))))
 
-streams_lawful : (ds : List Data) → ((f : Broken) → StreamsFault ds f → ⊥)
-    → (1 ≤ length ds) × ((length ds ≤ most_streams) × All IsLawfulStream (map (stream_in (lists_of ds)) ds))
-streams_lawful ds none =
+-- the streams of a swap that breaks no rule are one to eight, and break none
+record Streams (ds : List Data) : Type 0 where
+  low : 1 ≤ length ds
+  high : length ds ≤ most_streams
+  clean : (j : ℕ) (x : Data) → slice_get ds j ≡ Some x → At [] x
+
+streams_by : (ds : List Data) → ((f : Broken) → StreamsFault ds f → ⊥) → Streams ds
+streams_by ds none =
     let lo = some_by ds (length ds) refl none in
     let hi = few_by ds (le_or_lt (length ds) most_streams) none in
-    let clean = each_clean ds lo hi none in
-    let good : GoodLists (lists_of ds) = all_good ds clean in (
-      lo,
-      (
-        hi,
-        All-map IsLawfulStream (stream_in (lists_of ds)) ds
-            (λ k d lt. stream_lawful (lists_of ds) (get_or ds k d) good
-            (clean k (get_or ds k d) (slice_get-get_or ds k d lt))),
-      ),
-    )
+    record { low = lo; high = hi; clean = each_clean ds lo hi none }
 
-swap_lawful : (d : Data) → ((f : Broken) → SwapFault d f → ⊥) → IsLawfulSwap (swap_in d)
-swap_lawful d none =
-    let there = object_by d (is_some (element_names d)) refl none in
-    let (lo, (hi, all)) = streams_lawful (streams_in d) (λ f q. none f (inr (there, q))) in (
-      omega (arith, lo, length-map (streams_in d) (stream_in (lists_of (streams_in d)))),
-      omega (arith, hi, length-map (streams_in d) (stream_in (lists_of (streams_in d)))),
-      all,
-    )
-
--- the swap of a document without faults is lawful
-pub document_lawful : (d at : Data) (s : Swap) → ((f : Broken) → DocumentFault d f → ⊥) → the_swap d ≡ Ok at
-    → s ≡ swap_in at → IsLawfulSwap s
-document_lawful d at s none found says = subst IsLawfulSwap (sym says) (swap_lawful at (λ f q. none f (below at f found q)))
-
--- the streams of a swap that breaks no rule break none, and their lists of centres are good
-streams_clean : (d : Data) → ((f : Broken) → SwapFault d f → ⊥)
-    → ((j : ℕ) (x : Data) → slice_get (streams_in d) j ≡ Some x → At [] x) × GoodLists (lists_of (streams_in d))
-streams_clean d none =
+-- a swap that breaks no rule says one swap, and that one is lawful
+pub swap_tells : (d : Data) → ((f : Broken) → SwapFault d f → ⊥) → Tells (SwapSays d) IsLawfulSwap
+swap_tells d none =
     let there = object_by d (is_some (element_names d)) refl none in
     let ds = streams_in d in
-    let clear : (f : Broken) → StreamsFault ds f → ⊥ = λ f q. none f (inr (there, q)) in
-    let lo = some_by ds (length ds) refl clear in
-    let hi = few_by ds (le_or_lt (length ds) most_streams) clear in
-    let clean = each_clean ds lo hi clear in
-    (clean, all_good ds clean)
+    let lists = lists_of ds in
+    let found = streams_by ds (λ f q. none f (inr (there, q))) in
+    let good : GoodLists lists = all_good ds found.clean in
+    let each : Tells (Pairs (StreamSays lists) ds) (ListIs IsLawfulStream (length ds)) =
+    each_tells (StreamSays lists) ds (λ j x e. stream_tells lists good x (found.clean j x e)) in
+    shape {M = IsLawfulSwap} each (λ (s : Swap). s.streams) (λ all. record { streams = all }) (λ s. refl) (λ all. refl)
+    (λ all h. (omega (arith, found.low, h.many), omega (arith, found.high, h.many), h.each))
 
--- a swap that breaks no rule says what is read of it
-pub swap_gives : (d : Data) → ((f : Broken) → SwapFault d f → ⊥) → SwapSays d (swap_in d)
-swap_gives d none =
-    let (clean, good) = streams_clean d none in
-    let lists = lists_of (streams_in d) in
-    each_gives (StreamSays lists) (stream_in lists) (streams_in d)
-    (λ j x e. stream_gives lists good x (clean j x e))
+-- so does a document that breaks no rule
+pub document_tells : (d at : Data) → the_swap d ≡ Ok at → ((f : Broken) → DocumentFault d f → ⊥)
+    → Tells (SwapSays at) IsLawfulSwap
+document_tells d at found none = swap_tells at (λ f q. none f (below at f found q))
 
--- and nothing else
-pub swap_only : (d : Data) → ((f : Broken) → SwapFault d f → ⊥) → (s : Swap) → SwapSays d s → s ≡ swap_in d
-swap_only d none s says =
-    let (clean, good) = streams_clean d none in
-    let lists = lists_of (streams_in d) in
-    let same = each_only (StreamSays lists) (stream_in lists) (stream_only lists good) (streams_in d) s.streams says in
-    λ i. record { streams = same i }
-
--- so a document means what is read of its swap
+-- what its swap says is what the document means, and is lawful
 pub document_means : (d at : Data) (s : Swap) → ((f : Broken) → DocumentFault d f → ⊥) → the_swap d ≡ Ok at
-    → s ≡ swap_in at → Means d s
-document_means d at s none found is = record {
-  clean = none;
-  at = at;
-  found = found;
-  says = subst (SwapSays at) (sym is) (swap_gives at (λ f q. none f (below at f found q)));
-}
+    → SwapSays at s → Means d s
+document_means d at s none found says = record { clean = none; at = at; found = found; says = says }
 
--- the swap that a document means is what is read of its swap
-pub means_read : (d : Data) (s : Swap) (m : Means d s) → s ≡ swap_in m.at
-means_read d s m = swap_only m.at (λ f q. m.clean f (below m.at f m.found q)) s m.says
+pub document_lawful : (d at : Data) (s : Swap) → ((f : Broken) → DocumentFault d f → ⊥) → the_swap d ≡ Ok at
+    → SwapSays at s → IsLawfulSwap s
+document_lawful d at s none found says =
+    let t = document_tells d at found none in subst IsLawfulSwap (sym (t.only s says)) t.lawful
 
 -- nothing is missing in the streams of a swap that breaks no rule
 swap_stated : (d : Data) → ((f : Broken) → SwapFault d f → ⊥) → (j : ℕ) (x : Data)

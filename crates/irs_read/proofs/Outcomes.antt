@@ -1,14 +1,14 @@
 -- Reading a document has one outcome: it means one swap, or one rule is the first that it breaks.
-use Rattle.std.proofs.Common.{◌≡◌, Result, Ok, Err, refl, sym, ap, ◌∙◌}
+use Rattle.std.proofs.Common.{◌≡◌, Result, Ok, Err, sym, ap, subst, ◌∙◌}
 use Rattle.std.specs.Borrow.{Bor}
 use Rattle.std.specs.Prelude.{IfErr, IfOk}
 use Rattle.irs_base.specs.Outcomes.{First, is_before, Determined, answered, refused}
 use Rattle.irs_base.specs.declared.places.Broken.{Broken}
 use Rattle.irs_base.proofs.FaultOrder.{broken_ties}
 use Rattle.irs_base.proofs.Firsts.{one_first}
-use Rattle.irs_read.proofs.LawfulSwaps.{document_means, means_read}
+use Rattle.irs_read.proofs.LawfulSwaps.{document_means, document_tells}
 use Rattle.irs_read.specs.Documents.{DocumentFault, Way, the_swap, swap_of_document, Means}
-use Rattle.irs_read.specs.Private.Meaning.{swap_in}
+use Rattle.irs_read.specs.StreamElements.{SwapSays}
 use Rattle.irs_terms.specs.declared.stream_list.Swap.{Swap}
 use Rattle.serde_json.specs.Data.{Data}
 use Rattle.serde_json.specs.View.{view}
@@ -22,15 +22,17 @@ end_or d (Err f) = d
 -- a document means one swap at most
 pub one_meaning : (d : Data) (s t : Swap) → Means d s → Means d t → s ≡ t
 one_meaning d s t p q =
-    means_read d s p ∙ ap swap_in (ap (end_or d) (sym p.found ∙ q.found)) ∙ sym (means_read d t q)
+    let told = document_tells d q.at q.found q.clean in
+    told.only s (subst (λ (x : Data). SwapSays x s) (ap (end_or d) (sym p.found ∙ q.found)) p.says)
+    ∙ sym (told.only t q.says)
 
 -- the document breaks no rule, and its swap is there
 clean_determined : (d at : Data) → the_swap d ≡ Ok at → ((f : Broken) → DocumentFault d f → ⊥)
     → Determined (swap_of_document d)
 clean_determined d at found clean =
-    let means : Means d (swap_in at) = document_means d at (swap_in at) clean found refl in
-    answered (swap_in at)
-    (record { is = means; only = λ s h. one_meaning d s (swap_in at) h means })
+    let told = document_tells d at found clean in
+    let means = document_means d at told.is clean found told.says in
+    answered told.is (record { is = means; only = λ s h. one_meaning d s told.is h means })
     (λ f first. clean f first.0)
 
 -- a rule is the first that the document breaks

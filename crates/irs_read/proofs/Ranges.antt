@@ -1,5 +1,4 @@
--- The values of leaves lie in their ranges, their defaults too.
-use Rattle.irs_base.specs.Days.{IsDay, first_day}
+-- The values of leaves lie in their ranges.
 use Rattle.irs_elements.proofs.Exact.{both_true}
 use Rattle.irs_elements.specs.Codes.{among, day_number_at, day_roll_at, first_there, is_first_digit, named_roll_at}
 use Rattle.irs_elements.specs.Codes.{roll_at}
@@ -9,9 +8,6 @@ use Rattle.irs_elements.specs.Numbers.{leaf_rate_at, whole_at, within}
 use Rattle.irs_elements.specs.Elements.{leaf_text_in}
 use Rattle.irs_elements.specs.Leaves.{currency_at, is_capital, is_currency}
 use Rattle.irs_read.specs.Readings.{said}
-use Rattle.irs_read.specs.Private.Meaning.{scale_at}
-use Rattle.irs_read.specs.declared.leaf_values.Scale.{Scale}
-use Rattle.irs_read.specs.declared.leaf_values.Scale.TheVariants.{Notionals, Rates}
 use Rattle.irs_terms.specs.Lawful.{IsLawfulCurrency, IsLawfulRoll, IsNotional, IsObservationDays, IsRate}
 use Rattle.irs_base.specs.Limits.{most_multiplier, most_notional, most_observation_offset, most_offset, most_rate}
 use Rattle.irs_terms.specs.declared.codes.RollCode.TheVariants.{Dom, Eom, Imm, NoRoll, OnWeekday}
@@ -21,7 +17,7 @@ use Rattle.irs_terms.specs.declared.frequency.Unit.TheVariants.{D, W, M, Y, T as
 use Rattle.serde_json.specs.Data.{Data}
 use Rattle.std.proofs.Common.{◌≡◌, ℕ, ◌+◌, ◌-◌, ◌*◌, ◌≤◌, nat_le, Bool, true, false, ◌&&◌, ◌==◌, List, [], ◌∷◌, length}
 use Rattle.std.proofs.Common.{ℤ, pos, negsuc, neg_ℤ, ◌≤ℤ◌, int_le, unsigned_abs, Option, Some, None, IfSome, option_map}
-use Rattle.std.proofs.Common.{option_and_then, unwrap_or, slice_index_or, All, refl, arith, if◌then◌else◌, bytes_eq}
+use Rattle.std.proofs.Common.{option_and_then, slice_index_or, All, refl, arith, if◌then◌else◌, bytes_eq}
 use Rattle.std.proofs.Common.{codes}
 use Rattle.std.proofs.lemmas.Bool.Decides.{nat_tests}
 use Rattle.std.proofs.lemmas.Int.{ints}
@@ -38,21 +34,10 @@ pub said_in : {A : Type 0} (P : A → Type 0) (at : List ℕ → Option A) → (
     → (o : Option Data) → IfSome (said at o) P
 said_in P at h o = then_in P at h (leaf_text_in o)
 
--- a value or its default is in the range
-pub or_in : {A : Type 0} (P : A → Type 0) (o : Option A) (a : A) → IfSome o P → P a → P (unwrap_or o a)
-or_in P None a h p = p
-or_in P (Some x) a h p = h
-
--- ---- days
+-- ---- numbers
 
 int_le_is : (a b : ℤ) → int_le a b ≡ true → a ≤ℤ b
 int_le_is a b e = grind (arith, ints)
-
--- the first day of the range is a day
-pub first_is_day : IsDay first_day
-first_is_day = (omega (arith, ints), omega (arith, ints))
-
--- ---- numbers
 
 -- the number is from low to high
 abbrev Between : ℤ → ℤ → ℤ → Type 0
@@ -90,21 +75,6 @@ pub rate_range : (s : List ℕ) → IfSome (leaf_rate_at s) IsRate
 rate_range s =
     if_some _ IsRate (λ z h. size most_rate z h) (leaf_rate_at s)
     (within_range (neg_ℤ (pos most_rate)) (pos most_rate) (dec_at 9 s))
-
--- the range of a schedule's values
-abbrev pub InScale : Scale → ℤ → Type 0
-InScale Notionals = IsNotional
-InScale Rates = IsRate
-
--- a value that is read is in the range of its scale
-pub scale_range : (scale : Scale) (s : List ℕ) → IfSome (scale_at scale s) (InScale scale)
-scale_range Notionals s = notional_range s
-scale_range Rates s = rate_range s
-
--- 0 is in the range of each scale
-pub zero_range : (scale : Scale) → InScale scale (pos 0)
-zero_range Notionals = (omega (arith, ints), omega (arith, ints))
-zero_range Rates = omega arith
 
 one_up : (m : ℕ) (z : ℤ) → Between (pos 1) (pos m) z → (1 ≤ unsigned_abs z) × (unsigned_abs z ≤ m)
 one_up m (pos n) h = (omega (arith, ints, h), omega (arith, ints, h))

@@ -1,16 +1,14 @@
 -- The texts of leaves that name a centre or an index are lawful.
 use Rattle.irs_base.specs.Limits.{most_index, most_name}
 use Rattle.irs_elements.specs.Leaves.{text_of_leaf, is_center_name, is_index_name, is_no_control, is_visible}
-use Rattle.irs_elements.specs.declared.table.Leaf.TheVariants.{CenterName, IndexName}
 use Rattle.irs_json.specs.Leaves.{child_of, Leaf, word, whole, truth, bare_leaf, is_beside, leaf_among, leaf_of}
 use Rattle.irs_json.specs.Leaves.{whole_leaf, element_names, is_white_space, trim, trim_back, trim_front}
-use Rattle.irs_read.proofs.Clean.{Said}
-use Rattle.irs_read.specs.Private.Meaning.{word_in}
+use Rattle.irs_read.specs.Readings.{said}
 use Rattle.irs_terms.specs.Lawful.{IsLawfulIndex, IsLawfulName}
 use Rattle.serde_json.specs.Data.{Data, null, boolean, number, string, array, object, Num, unsigned, negative, float}
 use Rattle.std.proofs.Common.{◌≡◌, ◌≢◌, ℕ, zero, suc, ◌+◌, ◌-◌, ◌/◌, ◌%◌, ◌≤◌, nat_lt, nat_le, Bool, true, false, ◌&&◌}
 use Rattle.std.proofs.Common.{◌==◌, true≢false, ◌⊎◌, inl, inr, List, [], ◌∷◌, ◌++◌, length, reverse, get_or, ℤ, pos}
-use Rattle.std.proofs.Common.{negsuc, Option, Some, None, option_map, option_and_then, unwrap_or, slice_index_or}
+use Rattle.std.proofs.Common.{negsuc, Option, Some, None, IfSome, option_map, option_and_then, slice_index_or}
 use Rattle.std.proofs.Common.{decimal, codes, refl, sym, ap, subst, ◌∙◌, arith, if◌then◌else◌, length-append}
 use Rattle.std.proofs.Math.Seq.{get_or-append_seam}
 use Rattle.std.proofs.lemmas.Bool.Decides.{nat_tests}
@@ -174,7 +172,8 @@ split true true false e = cc
 split true false c e = cc
 split false b c e = cc
 
-name_lawful : (s : List ℕ) → is_center_name s ≡ true → IsLawfulName s
+-- a name that passes its test is lawful
+pub name_lawful : (s : List ℕ) → is_center_name s ≡ true → IsLawfulName s
 name_lawful s e =
     let (some, (few, all)) = split (nat_lt 0 (length s)) (nat_le (length s) most_name) (list_all is_visible s) e in (
       more (length s) some,
@@ -193,16 +192,19 @@ index_lawful s e ends =
       ends.1,
     )
 
-word_is : (d : Data) (l : Leaf) → leaf_of d ≡ Some l → word_in (Some d) ≡ text_of_leaf l
-word_is d l e = ap (λ (o : Option Leaf). unwrap_or (option_map text_of_leaf o) []) e
+-- a text that passes a test
+pub guarded_in : (L : List ℕ → Type 0) (b : Bool) (s : List ℕ) → (b ≡ true → L s)
+    → IfSome (if b then Some s else None) L
+guarded_in L true s h = h refl
+guarded_in L false s h = tt
 
--- a centre that is read has a lawful name
-pub center_lawful : (d : Data) → Said CenterName d → IsLawfulName (word_in (Some d))
-center_lawful d said =
-    subst IsLawfulName (sym (word_is d said.says said.found)) (name_lawful (text_of_leaf said.says) said.valued)
+index_by : (d : Data) (o : Option Leaf) → leaf_of d ≡ o
+    → IfSome (option_and_then (λ s. if is_index_name s then Some s else None) (option_map text_of_leaf o)) IsLawfulIndex
+index_by d None e = tt
+index_by d (Some l) e =
+    guarded_in IsLawfulIndex (is_index_name (text_of_leaf l)) (text_of_leaf l)
+    (λ t. index_lawful (text_of_leaf l) t (leaf_ends d l e))
 
--- an index that is read has a lawful name
-pub index_word : (d : Data) → Said IndexName d → IsLawfulIndex (word_in (Some d))
-index_word d said =
-    subst IsLawfulIndex (sym (word_is d said.says said.found))
-    (index_lawful (text_of_leaf said.says) said.valued (leaf_ends d said.says said.found))
+-- an index that is said has a lawful name
+pub index_said : (d : Data) → IfSome (said (λ s. if is_index_name s then Some s else None) (Some d)) IsLawfulIndex
+index_said d = index_by d (leaf_of d) refl

@@ -1,65 +1,111 @@
 //! The blocks of a stream: frequencies, offsets, adjustments, schedules of values.
-ghost use Rattle.irs_elements.specs.Elements.{seen, values_in};
-ghost use Rattle.irs_read.specs.Private.Meaning.{adjustments_in, centers_by, dated_in, frequency_in, maybe_dated_in};
-ghost use Rattle.irs_read.specs.Private.Meaning.{named_centers as named_centers_in, names_in, offset_in};
-ghost use Rattle.irs_read.specs.Private.Meaning.{own_centers as own_centers_in, schedule_in};
-ghost use Rattle.irs_read.specs.Private.Meaning.{schedule_or as schedule_or_in, step_in, tenor_in};
+ghost use Rattle.irs_base.specs.Lists.{Pairs};
+ghost use Rattle.irs_elements.specs.Elements.{once as once_of, seen, values_in};
+ghost use Rattle.irs_read.specs.Private.Sayings.{IsSaid, Maybe, One, Or, number_by};
+ghost use Rattle.irs_read.specs.Readings.{Says};
+ghost use Rattle.irs_read.specs.StreamElements.{adjustable, adjusting as adjusting_by, adjustments as adjustments_by};
+ghost use Rattle.irs_read.specs.StreamElements.{always, center_list, centers as centers_by, frequency as frequency_by};
+ghost use Rattle.irs_read.specs.StreamElements.{offset as offset_by, rate, schedule as schedule_by, step as step_by};
+ghost use Rattle.irs_read.specs.StreamElements.{tenor as tenor_by, unadjusted};
 ghost use Rattle.serde_json.specs.View.{view};
-ghost use Rattle.std.specs.Prelude.{◌≡◌, IfOk, Some, codes, map};
+ghost use Rattle.std.specs.Prelude.{◌≡◌, IfOk, Some, codes, map, pos};
 
 use crate::leaf_values::{
-    Scale, convention, day, day_kind, multiplier, number, offset_days, tenor_unit, unit, word,
+    Scale, center, convention, day, day_kind, multiplier, number, offset_days, tenor_unit, unit,
 };
 use crate::references::the_named;
 use irs_base::Memory;
-use irs_elements::{member, once, values, values_at};
+use irs_elements::{once, values_at};
 use irs_json::Value;
 use irs_terms::{
     AdjustableDate, Adjustments, Centers, ConvCode, DayKind, Frequency, Names, Offset, Step,
-    StepList, StepValues, Unit,
+    StepList, StepValues,
 };
 use std::alloc::Global;
 
 /// A frequency.
-pub fn frequency(v: Option<&Value>) -> Frequency
-    ensures { result ≡ frequency_in (seen v.entry) }
+pub fn frequency(v: &Value) -> Frequency
+    requires { IsSaid (frequency_by.says (view v.now)) }
+    ensures { frequency_by.says (view v.now) result }
 {
-    let count = multiplier(member(v, "periodMultiplier")).unwrap_or(1);
-    let unit = unit(member(v, "period")).unwrap_or(Unit::D);
+    let count = multiplier(v, "periodMultiplier");
+    let unit = unit(v, "period");
     Frequency { count, unit }
+}
+
+/// A frequency that must occur.
+pub fn frequency_at(v: &Value, name: &str) -> Frequency
+    requires { IsSaid (One frequency_by.says (once_of name.now (view v.now))) }
+    ensures { One frequency_by.says (once_of name.now (view v.now)) result }
+{
+    match once(v, name) {
+        None => unreachable!(),
+        Some(v) => frequency(v),
+    }
 }
 
 /// A tenor.
-pub fn tenor(v: &Value) -> Frequency
-    ensures { result ≡ tenor_in (view v.now) }
+fn tenor(v: &Value) -> Frequency
+    requires { IsSaid (tenor_by.says (view v.now)) }
+    ensures { tenor_by.says (view v.now) result }
 {
-    let count = multiplier(once(v, "periodMultiplier")).unwrap_or(1);
-    let unit = tenor_unit(once(v, "period")).unwrap_or(Unit::D);
+    let count = multiplier(v, "periodMultiplier");
+    let unit = tenor_unit(v, "period");
     Frequency { count, unit }
 }
 
-/// An offset in days, 0 where it is absent.
-pub fn offset(v: Option<&Value>) -> Offset
-    ensures { result ≡ offset_in (seen v.entry) }
+/// A tenor, if it is present.
+pub fn maybe_tenor(v: &Value, name: &str) -> Option<Frequency>
+    requires { IsSaid (Maybe tenor_by.says (once_of name.now (view v.now))) }
+    ensures { Maybe tenor_by.says (once_of name.now (view v.now)) result }
 {
-    let days = offset_days(member(v, "periodMultiplier")).unwrap_or(0);
-    let kind = day_kind(member(v, "dayType")).unwrap_or(DayKind::Unsaid);
+    match once(v, name) {
+        None => None,
+        Some(v) => Some(tenor(v)),
+    }
+}
+
+/// An offset in days.
+pub fn offset(v: &Value) -> Offset
+    requires { IsSaid (offset_by.says (view v.now)) }
+    ensures { offset_by.says (view v.now) result }
+{
+    let days = offset_days(v, "periodMultiplier");
+    let kind = day_kind(v, "dayType");
     Offset { days, kind }
+}
+
+/// An offset, 0 days where it is absent.
+pub fn offset_or(v: &Value, name: &str) -> Offset
+    requires { IsSaid (Or offset_by.says (record { days = pos 0; kind = DayKind.Unsaid })
+        (once_of name.now (view v.now))) }
+    ensures { Or offset_by.says (record { days = pos 0; kind = DayKind.Unsaid })
+        (once_of name.now (view v.now)) result }
+{
+    match once(v, name) {
+        None => Offset {
+            days: 0,
+            kind: DayKind::Unsaid,
+        },
+        Some(v) => offset(v),
+    }
 }
 
 /// The names of a list of centres.
 pub fn names(alloc: Global, list: &Value) -> Result<Names, Memory>
-    ensures { IfOk result (λ names. names ≡ names_in (view list.now)) }
+    requires { IsSaid (center_list.says (view list.now)) }
+    ensures { IfOk result (center_list.says (view list.now)) }
 {
     let mut names = Names::new(alloc);
     for name in values_at(list, "businessCenter") {
-        names.push(word(alloc, Some(name))?)?;
+        names.push(center(alloc, name)?)?;
     }
     Ok(names)
 }
 
 fn named_centers(alloc: Global, list: Option<&Value>) -> Result<Centers, Memory>
-    ensures { IfOk result (λ centers. centers ≡ named_centers_in (seen list.entry)) }
+    requires { IsSaid (Says (seen list) center_list.says Centers.Listed (λ c. c ≡ Centers.Dangling)) }
+    ensures { IfOk result (Says (seen list.entry) center_list.says Centers.Listed (λ c. c ≡ Centers.Dangling)) }
 {
     match list {
         None => Ok(Centers::Dangling),
@@ -68,7 +114,8 @@ fn named_centers(alloc: Global, list: Option<&Value>) -> Result<Centers, Memory>
 }
 
 fn own_centers(alloc: Global, list: Option<&Value>) -> Result<Centers, Memory>
-    ensures { IfOk result (λ centers. centers ≡ own_centers_in (seen list.entry)) }
+    requires { IsSaid (Says (seen list) center_list.says Centers.Listed (λ c. c ≡ Centers.Absent)) }
+    ensures { IfOk result (Says (seen list.entry) center_list.says Centers.Listed (λ c. c ≡ Centers.Absent)) }
 {
     match list {
         None => Ok(Centers::Absent),
@@ -77,98 +124,153 @@ fn own_centers(alloc: Global, list: Option<&Value>) -> Result<Centers, Memory>
 }
 
 // The centres of the list that is referenced, else of the list that is given here.
-fn centers(
-    alloc: Global,
-    lists: &[Option<&Value>],
-    reference: Option<&Value>,
-    own: Option<&Value>,
-) -> Result<Centers, Memory>
-    ensures { IfOk result (λ centers. centers
-        ≡ centers_by (map seen lists.now) (seen reference.entry) (seen own.entry)) }
+fn centers(alloc: Global, lists: &[Option<&Value>], v: &Value) -> Result<Centers, Memory>
+    requires { IsSaid ((centers_by (map seen lists.now)).says (view v.now)) }
+    ensures { IfOk result ((centers_by (map seen lists.now)).says (view v.now)) }
 {
-    match reference {
-        None => own_centers(alloc, own),
+    match once(v, "businessCentersReference") {
+        None => own_centers(alloc, once(v, "businessCenters")),
         Some(reference) => named_centers(alloc, the_named(lists, reference)),
     }
 }
 
-/// Adjustments, NONE without centres where they are absent.
-pub fn adjustments(
-    alloc: Global,
-    lists: &[Option<&Value>],
-    v: Option<&Value>,
-) -> Result<Adjustments, Memory>
-    ensures { IfOk result (λ adj. adj ≡ adjustments_in (map seen lists.now) (seen v.entry)) }
+/// The members of adjustments.
+pub fn adjusting(alloc: Global, lists: &[Option<&Value>], v: &Value) -> Result<Adjustments, Memory>
+    requires { IsSaid ((adjusting_by (map seen lists.now)).says (view v.now)) }
+    ensures { IfOk result ((adjusting_by (map seen lists.now)).says (view v.now)) }
 {
-    let code = convention(member(v, "businessDayConvention")).unwrap_or(ConvCode::Unadjusted);
-    let reference = member(v, "businessCentersReference");
-    let centers = centers(alloc, lists, reference, member(v, "businessCenters"))?;
+    let code = convention(v, "businessDayConvention");
+    let centers = centers(alloc, lists, v)?;
     Ok(Adjustments { code, centers })
 }
 
-/// A date with its adjustments.
+/// Adjustments that must occur.
+pub fn adjustments(
+    alloc: Global,
+    lists: &[Option<&Value>],
+    v: &Value,
+    name: &str,
+) -> Result<Adjustments, Memory>
+    requires { IsSaid (One (adjustments_by (map seen lists.now)).says (once_of name.now (view v.now))) }
+    ensures { IfOk result (One (adjustments_by (map seen lists.now)).says (once_of name.now (view v.now))) }
+{
+    match once(v, name) {
+        None => unreachable!(),
+        Some(v) => adjusting(alloc, lists, v),
+    }
+}
+
+/// Adjustments, NONE without centres where they are absent.
+pub fn adjustments_or(
+    alloc: Global,
+    lists: &[Option<&Value>],
+    v: &Value,
+    name: &str,
+) -> Result<Adjustments, Memory>
+    requires { IsSaid (Or (adjustments_by (map seen lists.now)).says unadjusted (once_of name.now (view v.now))) }
+    ensures { IfOk result (Or (adjustments_by (map seen lists.now)).says unadjusted (once_of name.now (view v.now))) }
+{
+    match once(v, name) {
+        None => Ok(Adjustments {
+            code: ConvCode::Unadjusted,
+            centers: Centers::Absent,
+        }),
+        Some(v) => adjusting(alloc, lists, v),
+    }
+}
+
+fn adjustable_date(
+    alloc: Global,
+    lists: &[Option<&Value>],
+    v: &Value,
+) -> Result<AdjustableDate, Memory>
+    requires { IsSaid ((adjustable (map seen lists.now)).says (view v.now)) }
+    ensures { IfOk result ((adjustable (map seen lists.now)).says (view v.now)) }
+{
+    let day = day(v, "unadjustedDate");
+    let adj = adjustments(alloc, lists, v, "dateAdjustments")?;
+    Ok(AdjustableDate { day, adj })
+}
+
+/// A date with its adjustments that must occur.
 pub fn dated(
     alloc: Global,
     lists: &[Option<&Value>],
-    v: Option<&Value>,
+    v: &Value,
+    name: &str,
 ) -> Result<AdjustableDate, Memory>
-    ensures { IfOk result (λ dated. dated ≡ dated_in (map seen lists.now) (seen v.entry)) }
+    requires { IsSaid (One (adjustable (map seen lists.now)).says (once_of name.now (view v.now))) }
+    ensures { IfOk result (One (adjustable (map seen lists.now)).says (once_of name.now (view v.now))) }
 {
-    let day = day(member(v, "unadjustedDate"));
-    let adj = adjustments(alloc, lists, member(v, "dateAdjustments"))?;
-    Ok(AdjustableDate { day, adj })
+    match once(v, name) {
+        None => unreachable!(),
+        Some(v) => adjustable_date(alloc, lists, v),
+    }
 }
 
 /// A date with its adjustments, if it is present.
 pub fn maybe_dated(
     alloc: Global,
     lists: &[Option<&Value>],
-    v: Option<&Value>,
+    v: &Value,
+    name: &str,
 ) -> Result<Option<AdjustableDate>, Memory>
-    ensures { IfOk result (λ dated. dated ≡ maybe_dated_in (map seen lists.now) (seen v.entry)) }
+    requires { IsSaid (Maybe (adjustable (map seen lists.now)).says (once_of name.now (view v.now))) }
+    ensures { IfOk result (Maybe (adjustable (map seen lists.now)).says (once_of name.now (view v.now))) }
 {
-    match v {
+    match once(v, name) {
         None => Ok(None),
-        Some(_) => Ok(Some(dated(alloc, lists, v)?)),
+        Some(v) => Ok(Some(adjustable_date(alloc, lists, v)?)),
     }
 }
 
 fn step(scale: Scale, v: &Value) -> Step
-    ensures { result ≡ step_in scale (view v.now) }
+    requires { IsSaid ((step_by (number_by scale)).says (view v.now)) }
+    ensures { (step_by (number_by scale)).says (view v.now) result }
 {
-    let day = day(once(v, "stepDate"));
-    let value = number(scale, once(v, "stepValue"));
+    let day = day(v, "stepDate");
+    let value = number(scale, v, "stepValue");
     Step { day, value }
 }
 
-fn steps(alloc: Global, scale: Scale, v: Option<&Value>) -> Result<StepList, Memory>
-    ensures { IfOk result (λ steps. steps ≡ map (step_in scale) (values_in (codes "step") (seen v.entry))) }
+fn steps(alloc: Global, scale: Scale, v: &Value) -> Result<StepList, Memory>
+    requires { IsSaid (Pairs (step_by (number_by scale)).says (values_in (codes "step") (Some (view v.now)))) }
+    ensures { IfOk result
+        (Pairs (step_by (number_by scale)).says (values_in (codes "step") (Some (view v.now)))) }
 {
     let mut steps = StepList::new(alloc);
-    for found in values(v, "step") {
+    for found in values_at(v, "step") {
         steps.push(step(scale, found))?;
     }
     Ok(steps)
 }
 
 /// A schedule of values.
-pub fn schedule(alloc: Global, scale: Scale, v: Option<&Value>) -> Result<StepValues, Memory>
-    ensures { IfOk result (λ values. values ≡ schedule_in scale (seen v.entry)) }
+pub fn schedule(alloc: Global, scale: Scale, v: &Value) -> Result<StepValues, Memory>
+    requires { IsSaid ((schedule_by (number_by scale)).says (view v.now)) }
+    ensures { IfOk result ((schedule_by (number_by scale)).says (view v.now)) }
 {
-    let initial = number(scale, member(v, "initialValue"));
+    let initial = number(scale, v, "initialValue");
     let steps = steps(alloc, scale, v)?;
     Ok(StepValues { initial, steps })
 }
 
 /// A schedule of rates, or one value without steps where it is absent.
-pub fn schedule_or(alloc: Global, initial: i128, v: Option<&Value>) -> Result<StepValues, Memory>
-    ensures { IfOk result (λ values. values ≡ schedule_or_in initial (seen v.entry)) }
+pub fn schedule_or(
+    alloc: Global,
+    initial: i128,
+    v: &Value,
+    name: &str,
+) -> Result<StepValues, Memory>
+    requires { IsSaid (Or (schedule_by rate).says (always initial) (once_of name.now (view v.now))) }
+    ensures { IfOk result
+        (Or (schedule_by rate).says (always initial) (once_of name.now (view v.now))) }
 {
-    match v {
+    match once(v, name) {
         None => Ok(StepValues {
             initial,
             steps: StepList::new(alloc),
         }),
-        Some(_) => schedule(alloc, Scale::Rates, v),
+        Some(v) => schedule(alloc, Scale::Rates, v),
     }
 }

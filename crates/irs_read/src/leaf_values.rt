@@ -1,18 +1,18 @@
-//! The values of leaves, and their defaults.
+//! The values of leaves. Each is read only where the document says one, or where it is absent and may be.
 ghost use Rattle.irs_elements.specs.Codes.{calculation_method_at, compounding_at, convention_at, day_count_at};
-ghost use Rattle.irs_elements.specs.Codes.{day_kind_at, direction_at};
-ghost use Rattle.irs_elements.specs.Codes.{relative_at, roll_at, stub_kind_at, tenor_unit_at, treatment_at, truth_at};
-ghost use Rattle.irs_elements.specs.Codes.{period_unit_at};
-ghost use Rattle.irs_elements.specs.Leaves.{leaf_date_at, currency_at};
-ghost use Rattle.irs_elements.specs.Elements.{seen};
-ghost use Rattle.irs_elements.specs.Numbers.{multiplier_at, observation_days_at, offset_at, precision_at, leaf_rate_at};
-ghost use Rattle.irs_read.specs.Private.Meaning.{day_in, number_in, relative_in, scale_at, treatment_in, truth_in};
-ghost use Rattle.irs_read.specs.Private.Meaning.{word_in};
-ghost use Rattle.irs_read.specs.Readings.{said};
-ghost use Rattle.std.specs.Prelude.{◌≡◌, IfOk};
+ghost use Rattle.irs_elements.specs.Codes.{day_kind_at, direction_at, period_unit_at, relative_at, roll_at};
+ghost use Rattle.irs_elements.specs.Codes.{stub_kind_at, tenor_unit_at, treatment_at};
+ghost use Rattle.irs_elements.specs.Elements.{leaf_text_in, once as once_of, seen};
+ghost use Rattle.irs_elements.specs.Leaves.{currency_at};
+ghost use Rattle.irs_elements.specs.Numbers.{multiplier_at, observation_days_at, offset_at, precision_at};
+ghost use Rattle.irs_read.specs.Private.Sayings.{IsSaid, Maybe, One, Or, TextSays, number_by};
+ghost use Rattle.irs_read.specs.StreamElements.{center_name, date, index_name, notional as notional_by, rate as rate_by};
+ghost use Rattle.irs_read.specs.StreamElements.{truth as truth_by};
+ghost use Rattle.serde_json.specs.View.{view};
+ghost use Rattle.std.specs.Prelude.{◌≡◌, IfOk, Some, is_some, true};
 
 use irs_base::{Day, Direction, Memory, Text};
-use irs_elements::{codes, leaf_text, numbers, words};
+use irs_elements::{codes, leaf_text, numbers, once, words};
 use irs_json::Value;
 use irs_terms::{
     CalculationMethod, CompCode, ConvCode, Currency, DayCountCode, DayKind, Relative, RollCode,
@@ -20,6 +20,20 @@ use irs_terms::{
 };
 use itoa::Buffer;
 use std::alloc::Global;
+
+// The value of the text of a leaf that is there and has one.
+macro_rules! must {
+    ($v:expr, $text:ident => $value:expr) => {{
+        let mut digits = Buffer::new();
+        match leaf_text($v, &mut digits) {
+            None => unreachable!(),
+            Some($text) => match $value {
+                None => unreachable!(),
+                Some(value) => value,
+            },
+        }
+    }};
+}
 
 /// The value of the text of a leaf; `None` where there is no leaf, or its text has no value.
 #[macro_export]
@@ -29,6 +43,20 @@ macro_rules! leaf_value {
         match leaf_text($v, &mut digits) {
             None => None,
             Some($text) => $value,
+        }
+    }};
+}
+
+// The value of the text of a leaf that has one, and another where there is no leaf.
+macro_rules! or_else {
+    ($v:expr, $absent:expr, $text:ident => $value:expr) => {{
+        let mut digits = Buffer::new();
+        match leaf_text($v, &mut digits) {
+            None => $absent,
+            Some($text) => match $value {
+                None => unreachable!(),
+                Some(value) => value,
+            },
         }
     }};
 }
@@ -43,218 +71,240 @@ pub enum Scale {
 }
 
 /// A date.
-pub fn maybe_day(v: Option<&Value>) -> Option<Day>
-    ensures { result ≡ said leaf_date_at (seen v.entry) }
+pub fn day(v: &Value, name: &str) -> Day
+    requires { IsSaid (One date.says (once_of name.now (view v.now))) }
+    ensures { One date.says (once_of name.now (view v.now)) result }
 {
-    leaf_value!(v, text => numbers::day(text.as_bytes()))
+    must!(once(v, name), text => numbers::day(text.as_bytes()))
+}
+
+/// A date that may be absent.
+pub fn maybe_day(v: &Value, name: &str) -> Option<Day>
+    requires { IsSaid (Maybe date.says (once_of name.now (view v.now))) }
+    ensures { Maybe date.says (once_of name.now (view v.now)) result }
+{
+    leaf_value!(once(v, name), text => numbers::day(text.as_bytes()))
 }
 
 /// `periodMultiplier` of a frequency.
-pub fn multiplier(v: Option<&Value>) -> Option<u16>
-    ensures { result ≡ said multiplier_at (seen v.entry) }
+pub fn multiplier(v: &Value, name: &str) -> u16
+    requires { IsSaid (One (TextSays multiplier_at) (once_of name.now (view v.now))) }
+    ensures { One (TextSays multiplier_at) (once_of name.now (view v.now)) result }
 {
-    leaf_value!(v, text => numbers::multiplier(text.as_bytes()))
+    must!(once(v, name), text => numbers::multiplier(text.as_bytes()))
 }
 
 /// `periodMultiplier` of an offset.
-pub fn offset_days(v: Option<&Value>) -> Option<i16>
-    ensures { result ≡ said offset_at (seen v.entry) }
+pub fn offset_days(v: &Value, name: &str) -> i16
+    requires { IsSaid (One (TextSays offset_at) (once_of name.now (view v.now))) }
+    ensures { One (TextSays offset_at) (once_of name.now (view v.now)) result }
 {
-    leaf_value!(v, text => numbers::offset(text.as_bytes()))
+    must!(once(v, name), text => numbers::offset(text.as_bytes()))
 }
 
 /// `offsetDays` of an observation shift, a lookback or a lockout.
-pub fn observation_days(v: Option<&Value>) -> Option<u8>
-    ensures { result ≡ said observation_days_at (seen v.entry) }
+pub fn observation_days(v: &Value, name: &str) -> u8
+    requires { IsSaid (One (TextSays observation_days_at) (once_of name.now (view v.now))) }
+    ensures { One (TextSays observation_days_at) (once_of name.now (view v.now)) result }
 {
-    leaf_value!(v, text => numbers::observation_days(text.as_bytes()))
+    must!(once(v, name), text => numbers::observation_days(text.as_bytes()))
 }
 
 /// `precision`.
-pub fn precision(v: Option<&Value>) -> Option<u8>
-    ensures { result ≡ said precision_at (seen v.entry) }
+pub fn precision(v: &Value, name: &str) -> u8
+    requires { IsSaid (One (TextSays precision_at) (once_of name.now (view v.now))) }
+    ensures { One (TextSays precision_at) (once_of name.now (view v.now)) result }
 {
-    leaf_value!(v, text => numbers::precision(text.as_bytes()))
+    must!(once(v, name), text => numbers::precision(text.as_bytes()))
 }
 
 /// A rate.
-pub fn small_rate(v: Option<&Value>) -> Option<i64>
-    ensures { result ≡ said leaf_rate_at (seen v.entry) }
+pub fn small_rate(v: &Value, name: &str) -> i64
+    requires { IsSaid (One rate_by.says (once_of name.now (view v.now))) }
+    ensures { One rate_by.says (once_of name.now (view v.now)) result }
 {
-    leaf_value!(v, text => numbers::small_rate(text.as_bytes()))
+    must!(once(v, name), text => numbers::small_rate(text.as_bytes()))
+}
+
+/// A rate that may be absent.
+pub fn maybe_rate(v: &Value, name: &str) -> Option<i64>
+    requires { IsSaid (Maybe rate_by.says (once_of name.now (view v.now))) }
+    ensures { Maybe rate_by.says (once_of name.now (view v.now)) result }
+{
+    leaf_value!(once(v, name), text => numbers::small_rate(text.as_bytes()))
 }
 
 /// A truth value.
-pub fn maybe_truth(v: Option<&Value>) -> Option<bool>
-    ensures { result ≡ said truth_at (seen v.entry) }
+pub fn truth(v: &Value, name: &str) -> bool
+    requires { IsSaid (One truth_by.says (once_of name.now (view v.now))) }
+    ensures { One truth_by.says (once_of name.now (view v.now)) result }
 {
-    leaf_value!(v, text => codes::truth(text))
+    must!(once(v, name), text => codes::truth(text))
 }
 
 /// `businessDayConvention`.
-pub fn convention(v: Option<&Value>) -> Option<ConvCode>
-    ensures { result ≡ said convention_at (seen v.entry) }
+pub fn convention(v: &Value, name: &str) -> ConvCode
+    requires { IsSaid (One (TextSays convention_at) (once_of name.now (view v.now))) }
+    ensures { One (TextSays convention_at) (once_of name.now (view v.now)) result }
 {
-    leaf_value!(v, text => codes::convention(text))
+    must!(once(v, name), text => codes::convention(text))
 }
 
 /// `period` of a frequency.
-pub fn unit(v: Option<&Value>) -> Option<Unit>
-    ensures { result ≡ said period_unit_at (seen v.entry) }
+pub fn unit(v: &Value, name: &str) -> Unit
+    requires { IsSaid (One (TextSays period_unit_at) (once_of name.now (view v.now))) }
+    ensures { One (TextSays period_unit_at) (once_of name.now (view v.now)) result }
 {
-    leaf_value!(v, text => codes::unit(text))
+    must!(once(v, name), text => codes::unit(text))
 }
 
 /// `period` of a tenor.
-pub fn tenor_unit(v: Option<&Value>) -> Option<Unit>
-    ensures { result ≡ said tenor_unit_at (seen v.entry) }
+pub fn tenor_unit(v: &Value, name: &str) -> Unit
+    requires { IsSaid (One (TextSays tenor_unit_at) (once_of name.now (view v.now))) }
+    ensures { One (TextSays tenor_unit_at) (once_of name.now (view v.now)) result }
 {
-    leaf_value!(v, text => codes::tenor_unit(text))
+    must!(once(v, name), text => codes::tenor_unit(text))
 }
 
-/// `dayType`.
-pub fn day_kind(v: Option<&Value>) -> Option<DayKind>
-    ensures { result ≡ said day_kind_at (seen v.entry) }
+/// `dayType`; absent is unsaid.
+pub fn day_kind(v: &Value, name: &str) -> DayKind
+    requires { IsSaid (Or (TextSays day_kind_at) DayKind.Unsaid (once_of name.now (view v.now))) }
+    ensures { Or (TextSays day_kind_at) DayKind.Unsaid (once_of name.now (view v.now)) result }
 {
-    leaf_value!(v, text => codes::day_kind(text))
+    or_else!(once(v, name), DayKind::Unsaid, text => codes::day_kind(text))
 }
 
 /// `stubPeriodType`.
-pub fn stub_kind(v: Option<&Value>) -> Option<StubKind>
-    ensures { result ≡ said stub_kind_at (seen v.entry) }
+pub fn stub_kind(v: &Value, name: &str) -> Option<StubKind>
+    requires { IsSaid (Maybe (TextSays stub_kind_at) (once_of name.now (view v.now))) }
+    ensures { Maybe (TextSays stub_kind_at) (once_of name.now (view v.now)) result }
 {
-    leaf_value!(v, text => codes::stub_kind(text))
+    leaf_value!(once(v, name), text => codes::stub_kind(text))
 }
 
 /// `rollConvention`.
-pub fn roll(v: Option<&Value>) -> Option<RollCode>
-    ensures { result ≡ said roll_at (seen v.entry) }
+pub fn roll(v: &Value, name: &str) -> RollCode
+    requires { IsSaid (One (TextSays roll_at) (once_of name.now (view v.now))) }
+    ensures { One (TextSays roll_at) (once_of name.now (view v.now)) result }
 {
-    leaf_value!(v, text => codes::roll(text))
+    must!(once(v, name), text => codes::roll(text))
 }
 
-/// `payRelativeTo` and `resetRelativeTo`.
-pub fn maybe_relative(v: Option<&Value>) -> Option<Relative>
-    ensures { result ≡ said relative_at (seen v.entry) }
+/// `payRelativeTo`.
+pub fn relative(v: &Value, name: &str) -> Relative
+    requires { IsSaid (One (TextSays relative_at) (once_of name.now (view v.now))) }
+    ensures { One (TextSays relative_at) (once_of name.now (view v.now)) result }
 {
-    leaf_value!(v, text => codes::relative(text))
+    must!(once(v, name), text => codes::relative(text))
+}
+
+/// `resetRelativeTo`; absent is the start.
+pub fn relative_or_start(v: &Value, name: &str) -> Relative
+    requires { IsSaid (Or (TextSays relative_at) Relative.Start (once_of name.now (view v.now))) }
+    ensures { Or (TextSays relative_at) Relative.Start (once_of name.now (view v.now)) result }
+{
+    or_else!(once(v, name), Relative::Start, text => codes::relative(text))
 }
 
 /// `dayCountFraction`.
-pub fn day_count(v: Option<&Value>) -> Option<DayCountCode>
-    ensures { result ≡ said day_count_at (seen v.entry) }
+pub fn day_count(v: &Value, name: &str) -> DayCountCode
+    requires { IsSaid (One (TextSays day_count_at) (once_of name.now (view v.now))) }
+    ensures { One (TextSays day_count_at) (once_of name.now (view v.now)) result }
 {
-    leaf_value!(v, text => codes::day_count(text))
+    must!(once(v, name), text => codes::day_count(text))
 }
 
-/// `compoundingMethod`.
-pub fn compounding(v: Option<&Value>) -> Option<CompCode>
-    ensures { result ≡ said compounding_at (seen v.entry) }
+/// `compoundingMethod`; absent is none.
+pub fn compounding(v: &Value, name: &str) -> CompCode
+    requires { IsSaid (Or (TextSays compounding_at) CompCode.Simple (once_of name.now (view v.now))) }
+    ensures { Or (TextSays compounding_at) CompCode.Simple (once_of name.now (view v.now)) result }
 {
-    leaf_value!(v, text => codes::compounding(text))
+    or_else!(once(v, name), CompCode::Simple, text => codes::compounding(text))
 }
 
 /// `calculationMethod`.
-pub fn calculation_method(v: Option<&Value>) -> Option<CalculationMethod>
-    ensures { result ≡ said calculation_method_at (seen v.entry) }
+pub fn calculation_method(v: &Value, name: &str) -> CalculationMethod
+    requires { IsSaid (One (TextSays calculation_method_at) (once_of name.now (view v.now))) }
+    ensures { One (TextSays calculation_method_at) (once_of name.now (view v.now)) result }
 {
-    leaf_value!(v, text => codes::calculation_method(text))
+    must!(once(v, name), text => codes::calculation_method(text))
 }
 
-/// `negativeInterestRateTreatment`.
-pub fn maybe_treatment(v: Option<&Value>) -> Option<Treatment>
-    ensures { result ≡ said treatment_at (seen v.entry) }
+/// `negativeInterestRateTreatment`; absent leaves a rate below 0 as it is.
+pub fn treatment(v: &Value, name: &str) -> Treatment
+    requires { IsSaid (Or (TextSays treatment_at) Treatment.AsIs (once_of name.now (view v.now))) }
+    ensures { Or (TextSays treatment_at) Treatment.AsIs (once_of name.now (view v.now)) result }
 {
-    leaf_value!(v, text => codes::treatment(text))
+    or_else!(once(v, name), Treatment::AsIs, text => codes::treatment(text))
 }
 
 /// `roundingDirection`.
-pub fn direction(v: Option<&Value>) -> Option<Direction>
-    ensures { result ≡ said direction_at (seen v.entry) }
+pub fn direction(v: &Value, name: &str) -> Direction
+    requires { IsSaid (One (TextSays direction_at) (once_of name.now (view v.now))) }
+    ensures { One (TextSays direction_at) (once_of name.now (view v.now)) result }
 {
-    leaf_value!(v, text => codes::direction(text))
+    must!(once(v, name), text => codes::direction(text))
 }
 
 /// `currency`.
-pub fn currency(v: Option<&Value>) -> Option<Currency>
-    ensures { result ≡ said currency_at (seen v.entry) }
+pub fn currency(v: &Value, name: &str) -> Currency
+    requires { IsSaid (One (TextSays currency_at) (once_of name.now (view v.now))) }
+    ensures { One (TextSays currency_at) (once_of name.now (view v.now)) result }
 {
-    leaf_value!(v, text => words::currency(text.as_bytes()))
+    must!(once(v, name), text => words::currency(text.as_bytes()))
 }
 
-/// A required date.
-pub fn day(v: Option<&Value>) -> Day
-    ensures { result ≡ day_in (seen v.entry) }
+// A notional of a schedule.
+fn notional(v: &Value, name: &str) -> i128
+    requires { IsSaid (One notional_by.says (once_of name.now (view v.now))) }
+    ensures { One notional_by.says (once_of name.now (view v.now)) result }
 {
-    match maybe_day(v) {
-        None => Day::earliest(),
-        Some(day) => day,
-    }
+    must!(once(v, name), text => numbers::notional(text.as_bytes()))
 }
 
-/// A truth value, false where it is absent.
-pub fn truth(v: Option<&Value>) -> bool
-    ensures { result ≡ truth_in (seen v.entry) }
+// A rate of a schedule.
+fn rate(v: &Value, name: &str) -> i128
+    requires { IsSaid (One rate_by.says (once_of name.now (view v.now))) }
+    ensures { One rate_by.says (once_of name.now (view v.now)) result }
 {
-    match maybe_truth(v) {
-        None => false,
-        Some(b) => b,
-    }
+    must!(once(v, name), text => numbers::rate(text.as_bytes()))
 }
 
-/// Whether a date is relative to the start or the end of its period; absent is the start.
-pub fn relative(v: Option<&Value>) -> Relative
-    ensures { result ≡ relative_in (seen v.entry) }
-{
-    match maybe_relative(v) {
-        None => Relative::Start,
-        Some(end) => end,
-    }
-}
-
-/// The treatment of a rate below 0; absent leaves the rate as it is.
-pub fn treatment(v: Option<&Value>) -> Treatment
-    ensures { result ≡ treatment_in (seen v.entry) }
-{
-    match maybe_treatment(v) {
-        None => Treatment::AsIs,
-        Some(treatment) => treatment,
-    }
-}
-
-// A number of a schedule.
-fn number_of(scale: Scale, text: &[u8]) -> Option<i128>
-    ensures { result ≡ scale_at scale text.now }
+/// A number of a schedule.
+pub fn number(scale: Scale, v: &Value, name: &str) -> i128
+    requires { IsSaid (One (number_by scale).says (once_of name.now (view v.now))) }
+    ensures { One (number_by scale).says (once_of name.now (view v.now)) result }
 {
     match scale {
-        Scale::Notionals => numbers::notional(text),
-        Scale::Rates => numbers::rate(text),
+        Scale::Notionals => notional(v, name),
+        Scale::Rates => rate(v, name),
     }
 }
 
-fn maybe_number(scale: Scale, v: Option<&Value>) -> Option<i128>
-    ensures { result ≡ said (scale_at scale) (seen v.entry) }
-{
-    leaf_value!(v, text => number_of(scale, text.as_bytes()))
-}
-
-/// A required number of a schedule.
-pub fn number(scale: Scale, v: Option<&Value>) -> i128
-    ensures { result ≡ number_in scale (seen v.entry) }
-{
-    match maybe_number(scale, v) {
-        None => 0,
-        Some(n) => n,
-    }
-}
-
-/// The text of a leaf, empty where there is none.
-pub fn word(alloc: Global, v: Option<&Value>) -> Result<Text, Memory>
-    ensures { IfOk result (λ t. t ≡ word_in (seen v.entry)) }
+// The text of a leaf that is there.
+fn word(alloc: Global, v: Option<&Value>) -> Result<Text, Memory>
+    requires { is_some (leaf_text_in (seen v)) ≡ true }
+    ensures { IfOk result (λ t. leaf_text_in (seen v.entry) ≡ Some t) }
 {
     let mut digits = Buffer::new();
     match leaf_text(v, &mut digits) {
-        None => Text::from_bytes(alloc, b""),
+        None => unreachable!(),
         Some(text) => Text::from_bytes(alloc, text.as_bytes()),
     }
+}
+
+/// The name of a business centre.
+pub fn center(alloc: Global, v: &Value) -> Result<Text, Memory>
+    requires { IsSaid (center_name.says (view v.now)) }
+    ensures { IfOk result (center_name.says (view v.now)) }
+{
+    word(alloc, Some(v))
+}
+
+/// `floatingRateIndex`.
+pub fn index(alloc: Global, v: &Value, name: &str) -> Result<Text, Memory>
+    requires { IsSaid (One index_name.says (once_of name.now (view v.now))) }
+    ensures { IfOk result (One index_name.says (once_of name.now (view v.now))) }
+{
+    word(alloc, once(v, name))
 }

@@ -1,11 +1,12 @@
 //! References by `@href`: a reference names the element that has its text as `@id`. What is in the
 //! profile are references to business centres of any stream of the swap, and to dates of the stream.
-ghost use Rattle.irs_elements.specs.Elements.{member as member_of, seen};
+ghost use Rattle.irs_elements.specs.Elements.{member as member_of, once as once_of, seen};
 ghost use Rattle.irs_read.specs.Readings.{attribute as attribute_of, found_value, has_id as has_id_of, href_of};
 ghost use Rattle.irs_read.specs.Readings.{lists_in, lists_of, the_one};
-ghost use Rattle.irs_read.specs.Private.Meaning.{reference_in};
+ghost use Rattle.irs_read.specs.Private.Sayings.{Or};
+ghost use Rattle.irs_read.specs.StreamElements.{reference as reference_by};
 ghost use Rattle.serde_json.specs.View.{view};
-ghost use Rattle.std.specs.Prelude.{◌≡◌, ◌++◌, IfOk, codes, count_by, find, map, option_map};
+ghost use Rattle.std.specs.Prelude.{◌≡◌, ◌++◌, IfOk, Some, codes, count_by, find, map, option_map};
 
 use irs_base::Memory;
 use irs_elements::{member, once};
@@ -47,12 +48,12 @@ fn href(reference: &Value) -> &str
 }
 
 /// How a reference resolves that must name the target.
-pub fn reference(target: Option<&Value>, reference: Option<&Value>) -> RefState
-    ensures { result ≡ reference_in (seen target.entry) (seen reference.entry) }
+pub fn reference(target: &Value, v: &Value, name: &str) -> RefState
+    ensures { Or (reference_by (Some (view target.now))).says RefState.Absent (once_of name.now (view v.now)) result }
 {
-    match reference {
+    match once(v, name) {
         None => RefState::Absent,
-        Some(reference) => if has_id(target, href(reference)) {
+        Some(reference) => if has_id(Some(target), href(reference)) {
             RefState::Good
         } else {
             RefState::Dangling

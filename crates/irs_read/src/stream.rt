@@ -1,42 +1,35 @@
-//! The stream that a value says, where it breaks no rule.
-ghost use Rattle.irs_elements.specs.Elements.{member as member_of, seen};
-ghost use Rattle.irs_read.specs.Private.Meaning.{adjustments_in, dated_in, exchanges_in, fix_in, float_in, leg_by};
-ghost use Rattle.irs_read.specs.Private.Meaning.{maybe_dated_in, number_in, pay_in, reset_in, rounding_in, schedule_in};
-ghost use Rattle.irs_read.specs.Private.Meaning.{stream_in, stream_parts, stub_by, stub_in, stubs_in, swap_in};
-ghost use Rattle.irs_read.specs.Private.Meaning.{tenor_in};
-ghost use Rattle.irs_read.specs.StreamElements.{places_by};
+//! The stream that a value says.
+ghost use Rattle.irs_base.specs.Lists.{Pairs};
+ghost use Rattle.irs_elements.specs.Elements.{once as once_of, seen};
+ghost use Rattle.irs_read.specs.Private.Sayings.{FixingsSaid, InterestSaid, IsSaid, Maybe, One, Or, RoundingSaid};
+ghost use Rattle.irs_read.specs.Private.Sayings.{StreamParts, TermSaid, no_exchange};
 ghost use Rattle.irs_read.specs.Readings.{lists_of};
+ghost use Rattle.irs_read.specs.StreamElements.{StreamSays, SwapSays};
+ghost use Rattle.irs_read.specs.StreamElements.{exchanges as exchanges_by, fixing_dates as fixing_dates_by};
+ghost use Rattle.irs_read.specs.StreamElements.{floating, leg as leg_by, payment_dates, places_by};
+ghost use Rattle.irs_read.specs.StreamElements.{reset_dates, rounding_read, schedule as schedule_by, stub as stub_by};
+ghost use Rattle.irs_read.specs.StreamElements.{rate, stubs as stubs_by};
 ghost use Rattle.serde_json.specs.View.{view};
-ghost use Rattle.irs_read.specs.declared.leaf_values.Scale.TheVariants.{Notionals};
-ghost use Rattle.std.specs.Prelude.{◌≡◌, IfOk, codes, map, option_map};
+ghost use Rattle.std.specs.Prelude.{◌≡◌, IfOk, Some, is_some, map, true};
 
 use crate::blocks::{
-    adjustments, dated, frequency, maybe_dated, offset, schedule, schedule_or, tenor,
+    adjusting, adjustments, adjustments_or, dated, frequency, frequency_at, maybe_dated,
+    maybe_tenor, offset, offset_or, schedule, schedule_or,
 };
 use crate::leaf_values::{
-    Scale, compounding, currency, day_count, direction, maybe_day, precision, relative, roll,
-    small_rate, stub_kind, treatment, truth, word,
+    Scale, compounding, currency, day_count, direction, index, maybe_day, maybe_rate, precision,
+    relative, relative_or_start, roll, small_rate, stub_kind, treatment, truth,
 };
 use crate::parameters::maybe_parameters;
 use crate::references::{lists, reference};
 use irs_base::{Direction, Memory};
-use irs_elements::{member, once, values_at};
+use irs_elements::{once, values_at};
 use irs_json::Value;
 use irs_terms::{
-    AdjustableDate, Adjustments, CompCode, Currency, DayCountCode, ExchangeFlags, FixTerms,
-    FloatTerms, Frequency, Leg, PayTerms, ResetTerms, RollCode, Rounding, StepValues, Stream,
-    StreamList, StubRate, StubTerms, Swap,
+    AdjustableDate, Adjustments, ExchangeFlags, FixTerms, FloatTerms, Leg, PayTerms, RefState,
+    ResetTerms, Rounding, StepValues, Stream, StreamList, StubRate, StubTerms, Swap,
 };
 use std::alloc::Global;
-
-fn maybe_tenor(v: Option<&Value>) -> Option<Frequency>
-    ensures { result ≡ option_map tenor_in (seen v.entry) }
-{
-    match v {
-        None => None,
-        Some(v) => Some(tenor(v)),
-    }
-}
 
 // The default number of decimals of a rate: 7 if daily rates give it, else 9.
 fn default_places(parameters: Option<&Value>) -> u8
@@ -48,47 +41,63 @@ fn default_places(parameters: Option<&Value>) -> u8
     }
 }
 
-// How a rate is rounded; absent is Nearest at these decimals.
-fn rounding(default: u8, v: Option<&Value>) -> Rounding
-    ensures { result ≡ rounding_in default (seen v.entry) }
+fn rounding(v: &Value) -> Rounding
+    requires { IsSaid (rounding_read.says (view v.now)) }
+    ensures { rounding_read.says (view v.now) result }
 {
-    let dir = direction(member(v, "roundingDirection")).unwrap_or(Direction::Nearest);
-    let places = precision(member(v, "precision")).unwrap_or(default);
+    let dir = direction(v, "roundingDirection");
+    let places = precision(v, "precision");
     Rounding { dir, places }
+}
+
+// How a rate is rounded; absent is Nearest at the default number of decimals.
+fn rounding_or(v: &Value) -> Rounding
+    requires { IsSaid (RoundingSaid (view v.now)) }
+    ensures { RoundingSaid (view v.now) result }
+{
+    match once(v, "finalRateRounding") {
+        None => Rounding {
+            dir: Direction::Nearest,
+            places: default_places(once(v, "calculationParameters")),
+        },
+        Some(v) => rounding(v),
+    }
 }
 
 // The terms of a floating rate.
 fn float_terms(alloc: Global, v: &Value) -> Result<FloatTerms, Memory>
-    ensures { IfOk result (λ terms. terms ≡ float_in (view v.now)) }
+    requires { IsSaid (floating.says (view v.now)) }
+    ensures { IfOk result (floating.says (view v.now)) }
 {
-    let index = word(alloc, once(v, "floatingRateIndex"))?;
-    let tenor = maybe_tenor(once(v, "indexTenor"));
-    let multipliers = once(v, "floatingRateMultiplierSchedule");
-    let multiplier = schedule_or(alloc, 1_000_000_000, multipliers)?;
-    let spread = schedule_or(alloc, 0, once(v, "spreadSchedule"))?;
-    let initial_rate = small_rate(once(v, "initialRate"));
-    let stated = once(v, "calculationParameters");
-    let rounding = rounding(default_places(stated), once(v, "finalRateRounding"));
-    let treatment = treatment(once(v, "negativeInterestRateTreatment"));
-    let parameters = maybe_parameters(alloc, stated)?;
     Ok(FloatTerms {
-        index,
-        tenor,
-        multiplier,
-        spread,
-        initial_rate,
-        rounding,
-        treatment,
-        parameters,
+        index: index(alloc, v, "floatingRateIndex")?,
+        tenor: maybe_tenor(v, "indexTenor"),
+        multiplier: schedule_or(alloc, 1_000_000_000, v, "floatingRateMultiplierSchedule")?,
+        spread: schedule_or(alloc, 0, v, "spreadSchedule")?,
+        initial_rate: maybe_rate(v, "initialRate"),
+        rounding: rounding_or(v),
+        treatment: treatment(v, "negativeInterestRateTreatment"),
+        parameters: maybe_parameters(alloc, v, "calculationParameters")?,
     })
 }
 
-// The floating rate if it is present, else the fixed rate.
-fn leg(alloc: Global, float: Option<&Value>, fixed: Option<&Value>) -> Result<Leg, Memory>
-    ensures { IfOk result (λ leg. leg ≡ leg_by (seen float.entry) (seen fixed.entry)) }
+fn fixed_rates(alloc: Global, v: &Value, name: &str) -> Result<StepValues, Memory>
+    requires { IsSaid (One (schedule_by rate).says (once_of name.now (view v.now))) }
+    ensures { IfOk result (One (schedule_by rate).says (once_of name.now (view v.now))) }
 {
-    match float {
-        None => Ok(Leg::Fixed(schedule(alloc, Scale::Rates, fixed)?)),
+    match once(v, name) {
+        None => unreachable!(),
+        Some(v) => schedule(alloc, Scale::Rates, v),
+    }
+}
+
+// The floating rate if it is present, else the fixed rate.
+fn leg(alloc: Global, v: &Value) -> Result<Leg, Memory>
+    requires { IsSaid (leg_by.says (view v.now)) }
+    ensures { IfOk result (leg_by.says (view v.now)) }
+{
+    match once(v, "floatingRateCalculation") {
+        None => Ok(Leg::Fixed(fixed_rates(alloc, v, "fixedRateSchedule")?)),
         Some(float) => Ok(Leg::Floating(float_terms(alloc, float)?)),
     }
 }
@@ -96,164 +105,186 @@ fn leg(alloc: Global, float: Option<&Value>, fixed: Option<&Value>) -> Result<Le
 fn pay_terms(
     alloc: Global,
     lists: &[Option<&Value>],
-    dates: Option<&Value>,
-    v: Option<&Value>,
+    dates: &Value,
+    v: &Value,
 ) -> Result<PayTerms, Memory>
-    ensures { IfOk result (λ terms. terms ≡ pay_in (map seen lists.now) (seen dates.entry) (seen v.entry)) }
+    requires { IsSaid ((payment_dates (map seen lists.now) (Some (view dates.now))).says (view v.now)) }
+    ensures { IfOk result ((payment_dates (map seen lists.now) (Some (view dates.now))).says (view v.now)) }
 {
-    let calc_ref = reference(dates, member(v, "calculationPeriodDatesReference"));
-    let freq = frequency(member(v, "paymentFrequency"));
-    let first = maybe_day(member(v, "firstPaymentDate"));
-    let last = maybe_day(member(v, "lastRegularPaymentDate"));
-    let relative = relative(member(v, "payRelativeTo"));
-    let offset = offset(member(v, "paymentDaysOffset"));
-    let adj = adjustments(alloc, lists, member(v, "paymentDatesAdjustments"))?;
     Ok(PayTerms {
-        calc_ref,
-        freq,
-        first,
-        last,
-        relative,
-        offset,
-        adj,
+        calc_ref: reference(dates, v, "calculationPeriodDatesReference"),
+        freq: frequency_at(v, "paymentFrequency"),
+        first: maybe_day(v, "firstPaymentDate"),
+        last: maybe_day(v, "lastRegularPaymentDate"),
+        relative: relative(v, "payRelativeTo"),
+        offset: offset_or(v, "paymentDaysOffset"),
+        adj: adjustments_or(alloc, lists, v, "paymentDatesAdjustments")?,
     })
 }
 
-fn fix_terms(alloc: Global, lists: &[Option<&Value>], v: &Value) -> Result<FixTerms, Memory>
-    ensures { IfOk result (λ terms. terms ≡ fix_in (map seen lists.now) (view v.now)) }
-{
-    let offset = offset(Some(v));
-    let adj = adjustments(alloc, lists, Some(v))?;
-    Ok(FixTerms { offset, adj })
-}
-
-fn maybe_fix_terms(
+fn pay_at(
     alloc: Global,
     lists: &[Option<&Value>],
-    v: Option<&Value>,
-) -> Result<Option<FixTerms>, Memory>
-    ensures { IfOk result (λ terms. terms ≡ option_map (fix_in (map seen lists.now)) (seen v.entry)) }
+    dates: &Value,
+    v: &Value,
+    name: &str,
+) -> Result<PayTerms, Memory>
+    requires { IsSaid (One (payment_dates (map seen lists.now) (Some (view dates.now))).says
+        (once_of name.now (view v.now))) }
+    ensures { IfOk result (One (payment_dates (map seen lists.now) (Some (view dates.now))).says
+        (once_of name.now (view v.now))) }
 {
-    match v {
-        None => Ok(None),
-        Some(v) => Ok(Some(fix_terms(alloc, lists, v)?)),
+    match once(v, name) {
+        None => unreachable!(),
+        Some(v) => pay_terms(alloc, lists, dates, v),
+    }
+}
+
+// The offset and the adjustments of fixing dates, and how their reference to the resets resolves.
+fn fixing_dates(
+    alloc: Global,
+    lists: &[Option<&Value>],
+    resets: &Value,
+    v: &Value,
+) -> Result<(FixTerms, RefState), Memory>
+    requires { IsSaid ((fixing_dates_by (map seen lists.now) (Some (view resets.now))).says (view v.now)) }
+    ensures { IfOk result ((fixing_dates_by (map seen lists.now) (Some (view resets.now))).says (view v.now)) }
+{
+    let offset = offset(v);
+    let adj = adjusting(alloc, lists, v)?;
+    let target = reference(resets, v, "dateRelativeTo");
+    Ok((FixTerms { offset, adj }, target))
+}
+
+// The same, if they are present.
+fn maybe_fixings(
+    alloc: Global,
+    lists: &[Option<&Value>],
+    v: &Value,
+) -> Result<(Option<FixTerms>, RefState), Memory>
+    requires { IsSaid (FixingsSaid (map seen lists.now) (view v.now)) }
+    ensures { IfOk result (FixingsSaid (map seen lists.now) (view v.now)) }
+{
+    match once(v, "fixingDates") {
+        None => Ok((None, RefState::Absent)),
+        Some(fixings) => {
+            let (terms, target) = fixing_dates(alloc, lists, v, fixings)?;
+            Ok((Some(terms), target))
+        }
     }
 }
 
 fn reset_terms(
     alloc: Global,
     lists: &[Option<&Value>],
-    dates: Option<&Value>,
+    dates: &Value,
     v: &Value,
 ) -> Result<ResetTerms, Memory>
-    ensures { IfOk result (λ terms. terms ≡ reset_in (map seen lists.now) (seen dates.entry) (view v.now)) }
+    requires { IsSaid ((reset_dates (map seen lists.now) (Some (view dates.now))).says (view v.now)) }
+    ensures { IfOk result ((reset_dates (map seen lists.now) (Some (view dates.now))).says (view v.now)) }
 {
-    let calc_ref = reference(dates, once(v, "calculationPeriodDatesReference"));
-    let fixings = once(v, "fixingDates");
-    let fixing_ref = reference(Some(v), member(fixings, "dateRelativeTo"));
-    let relative = relative(once(v, "resetRelativeTo"));
-    let fixing = maybe_fix_terms(alloc, lists, fixings)?;
-    let freq = frequency(once(v, "resetFrequency"));
-    let adj = adjustments(alloc, lists, once(v, "resetDatesAdjustments"))?;
+    let (fixing, fixing_ref) = maybe_fixings(alloc, lists, v)?;
     Ok(ResetTerms {
-        calc_ref,
+        calc_ref: reference(dates, v, "calculationPeriodDatesReference"),
         fixing_ref,
-        relative,
+        relative: relative_or_start(v, "resetRelativeTo"),
         fixing,
-        freq,
-        adj,
+        freq: frequency_at(v, "resetFrequency"),
+        adj: adjustments_or(alloc, lists, v, "resetDatesAdjustments")?,
     })
 }
 
-fn maybe_reset_terms(
+fn maybe_resets(
     alloc: Global,
     lists: &[Option<&Value>],
-    dates: Option<&Value>,
-    v: Option<&Value>,
+    dates: &Value,
+    v: &Value,
+    name: &str,
 ) -> Result<Option<ResetTerms>, Memory>
-    ensures { IfOk result (λ terms. terms
-        ≡ option_map (reset_in (map seen lists.now) (seen dates.entry)) (seen v.entry)) }
+    requires { IsSaid (Maybe (reset_dates (map seen lists.now) (Some (view dates.now))).says
+        (once_of name.now (view v.now))) }
+    ensures { IfOk result (Maybe (reset_dates (map seen lists.now) (Some (view dates.now))).says
+        (once_of name.now (view v.now))) }
 {
-    match v {
+    match once(v, name) {
         None => Ok(None),
         Some(v) => Ok(Some(reset_terms(alloc, lists, dates, v)?)),
     }
 }
 
 // The index of a stub if it is present, else its rate.
-fn stub_by_index(
-    alloc: Global,
-    float: Option<&Value>,
-    rate: Option<&Value>,
-) -> Result<StubRate, Memory>
-    ensures { IfOk result (λ stub. stub ≡ stub_by (seen float.entry) (seen rate.entry)) }
+fn stub(alloc: Global, v: &Value) -> Result<StubRate, Memory>
+    requires { IsSaid (stub_by.says (view v.now)) }
+    ensures { IfOk result (stub_by.says (view v.now)) }
 {
-    match float {
-        None => Ok(StubRate::Fixed(stub_rate(rate))),
+    match once(v, "floatingRate") {
+        None => Ok(StubRate::Fixed(small_rate(v, "stubRate"))),
         Some(float) => {
-            let index = word(alloc, once(float, "floatingRateIndex"))?;
-            Ok(StubRate::Index(index, maybe_tenor(once(float, "indexTenor"))))
+            let index = index(alloc, float, "floatingRateIndex")?;
+            Ok(StubRate::Index(index, maybe_tenor(float, "indexTenor")))
         }
     }
 }
 
-fn stub_rate(v: Option<&Value>) -> i64
-    ensures { result ≡ number_in Scale.Rates (seen v.entry) }
+fn maybe_stub(alloc: Global, v: &Value, name: &str) -> Result<Option<StubRate>, Memory>
+    requires { IsSaid (Maybe stub_by.says (once_of name.now (view v.now))) }
+    ensures { IfOk result (Maybe stub_by.says (once_of name.now (view v.now))) }
 {
-    match small_rate(v) {
-        None => 0,
-        Some(rate) => rate,
-    }
-}
-
-fn stub(alloc: Global, v: &Value) -> Result<StubRate, Memory>
-    ensures { IfOk result (λ stub. stub ≡ stub_in (view v.now)) }
-{
-    stub_by_index(alloc, once(v, "floatingRate"), once(v, "stubRate"))
-}
-
-fn maybe_stub(alloc: Global, v: Option<&Value>) -> Result<Option<StubRate>, Memory>
-    ensures { IfOk result (λ stub. stub ≡ option_map stub_in (seen v.entry)) }
-{
-    match v {
+    match once(v, name) {
         None => Ok(None),
         Some(v) => Ok(Some(stub(alloc, v)?)),
     }
 }
 
-fn stub_terms(alloc: Global, dates: Option<&Value>, v: &Value) -> Result<StubTerms, Memory>
-    ensures { IfOk result (λ terms. terms ≡ stubs_in (seen dates.entry) (view v.now)) }
+fn stub_terms(alloc: Global, dates: &Value, v: &Value) -> Result<StubTerms, Memory>
+    requires { IsSaid ((stubs_by (Some (view dates.now))).says (view v.now)) }
+    ensures { IfOk result ((stubs_by (Some (view dates.now))).says (view v.now)) }
 {
-    let calc_ref = reference(dates, once(v, "calculationPeriodDatesReference"));
-    let initial = maybe_stub(alloc, once(v, "initialStub"))?;
-    let last = maybe_stub(alloc, once(v, "finalStub"))?;
     Ok(StubTerms {
-        calc_ref,
-        initial,
-        last,
+        calc_ref: reference(dates, v, "calculationPeriodDatesReference"),
+        initial: maybe_stub(alloc, v, "initialStub")?,
+        last: maybe_stub(alloc, v, "finalStub")?,
     })
 }
 
-fn maybe_stub_terms(
+fn maybe_stubs(
     alloc: Global,
-    dates: Option<&Value>,
-    v: Option<&Value>,
+    dates: &Value,
+    v: &Value,
+    name: &str,
 ) -> Result<Option<StubTerms>, Memory>
-    ensures { IfOk result (λ terms. terms ≡ option_map (stubs_in (seen dates.entry)) (seen v.entry)) }
+    requires { IsSaid (Maybe (stubs_by (Some (view dates.now))).says (once_of name.now (view v.now))) }
+    ensures { IfOk result (Maybe (stubs_by (Some (view dates.now))).says (once_of name.now (view v.now))) }
 {
-    match v {
+    match once(v, name) {
         None => Ok(None),
         Some(v) => Ok(Some(stub_terms(alloc, dates, v)?)),
     }
 }
 
-fn exchanges(v: Option<&Value>) -> ExchangeFlags
-    ensures { result ≡ exchanges_in (seen v.entry) }
+fn exchanges(v: &Value) -> ExchangeFlags
+    requires { IsSaid (exchanges_by.says (view v.now)) }
+    ensures { exchanges_by.says (view v.now) result }
 {
     ExchangeFlags {
-        initial: truth(member(v, "initialExchange")),
-        intermediate: truth(member(v, "intermediateExchange")),
-        last: truth(member(v, "finalExchange")),
+        initial: truth(v, "initialExchange"),
+        intermediate: truth(v, "intermediateExchange"),
+        last: truth(v, "finalExchange"),
+    }
+}
+
+// No principal is exchanged where it isn't said.
+fn exchanges_or(v: &Value, name: &str) -> ExchangeFlags
+    requires { IsSaid (Or exchanges_by.says no_exchange (once_of name.now (view v.now))) }
+    ensures { Or exchanges_by.says no_exchange (once_of name.now (view v.now)) result }
+{
+    match once(v, name) {
+        None => ExchangeFlags {
+            initial: false,
+            intermediate: false,
+            last: false,
+        },
+        Some(v) => exchanges(v),
     }
 }
 
@@ -266,23 +297,15 @@ struct TermDates {
     period_adj: Adjustments,
 }
 
-fn term(alloc: Global, lists: &[Option<&Value>], dates: Option<&Value>) -> Result<TermDates, Memory>
-    ensures effective { IfOk result (λ term. term.effective
-        ≡ dated_in (map seen lists.now) (member_of (codes "effectiveDate") (seen dates.entry))) }
-    ensures first_start { IfOk result (λ term. term.first_start
-        ≡ maybe_dated_in (map seen lists.now) (member_of (codes "firstPeriodStartDate") (seen dates.entry))) }
-    ensures termination { IfOk result (λ term. term.termination
-        ≡ dated_in (map seen lists.now) (member_of (codes "terminationDate") (seen dates.entry))) }
-    ensures period_adj { IfOk result (λ term. term.period_adj
-        ≡ adjustments_in (map seen lists.now)
-        (member_of (codes "calculationPeriodDatesAdjustments") (seen dates.entry))) }
+fn term(alloc: Global, lists: &[Option<&Value>], dates: &Value) -> Result<TermDates, Memory>
+    requires { IsSaid (TermSaid (map seen lists.now) (view dates.now)) }
+    ensures { IfOk result (TermSaid (map seen lists.now) (view dates.now)) }
 {
-    let periods = member(dates, "calculationPeriodDatesAdjustments");
     Ok(TermDates {
-        effective: dated(alloc, lists, member(dates, "effectiveDate"))?,
-        first_start: maybe_dated(alloc, lists, member(dates, "firstPeriodStartDate"))?,
-        termination: dated(alloc, lists, member(dates, "terminationDate"))?,
-        period_adj: adjustments(alloc, lists, periods)?,
+        effective: dated(alloc, lists, dates, "effectiveDate")?,
+        first_start: maybe_dated(alloc, lists, dates, "firstPeriodStartDate")?,
+        termination: dated(alloc, lists, dates, "terminationDate")?,
+        period_adj: adjustments(alloc, lists, dates, "calculationPeriodDatesAdjustments")?,
     })
 }
 
@@ -291,78 +314,79 @@ fn term(alloc: Global, lists: &[Option<&Value>], dates: Option<&Value>) -> Resul
 struct InterestTerms {
     notional: StepValues,
     leg: Leg,
-    stubs: Option<StubTerms>,
 }
 
-fn amounts(
-    alloc: Global,
-    notionals: Option<&Value>,
-    calc: Option<&Value>,
-    dates: Option<&Value>,
-    stubs: Option<&Value>,
-) -> Result<InterestTerms, Memory>
-    ensures notional { IfOk result (λ amounts. amounts.notional ≡ schedule_in Notionals (seen notionals.entry)) }
-    ensures leg { IfOk result (λ amounts. amounts.leg
-        ≡ leg_by (member_of (codes "floatingRateCalculation") (seen calc.entry))
-        (member_of (codes "fixedRateSchedule") (seen calc.entry))) }
-    ensures stubs { IfOk result (λ amounts. amounts.stubs
-        ≡ option_map (stubs_in (seen dates.entry)) (seen stubs.entry)) }
+fn amounts(alloc: Global, notionals: &Value, calc: &Value) -> Result<InterestTerms, Memory>
+    requires { IsSaid (InterestSaid (view notionals.now) (view calc.now)) }
+    ensures { IfOk result (InterestSaid (view notionals.now) (view calc.now)) }
 {
-    let float = member(calc, "floatingRateCalculation");
     Ok(InterestTerms {
         notional: schedule(alloc, Scale::Notionals, notionals)?,
-        leg: leg(alloc, float, member(calc, "fixedRateSchedule"))?,
-        stubs: maybe_stub_terms(alloc, dates, stubs)?,
+        leg: leg(alloc, calc)?,
     })
 }
 
-// The stream of which these are the dates, the frequency and the calculation.
+// The stream of which these are the dates, the frequency, the calculation and the notionals.
 fn stream_of(
     alloc: Global,
     lists: &[Option<&Value>],
     v: &Value,
-    dates: Option<&Value>,
-    freq: Option<&Value>,
-    calc: Option<&Value>,
+    dates: &Value,
+    freq: &Value,
+    calc: &Value,
+    notionals: &Value,
 ) -> Result<Stream, Memory>
-    ensures { IfOk result (λ stream. stream
-        ≡ stream_parts (map seen lists.now) (view v.now) (seen dates.entry) (seen freq.entry) (seen calc.entry)) }
+    requires { IsSaid (StreamParts (map seen lists.now) (view v.now) (view dates.now) (view freq.now) (view calc.now)
+        (view notionals.now)) }
+    ensures { IfOk result (StreamParts (map seen lists.now) (view v.now) (view dates.now) (view freq.now)
+        (view calc.now) (view notionals.now)) }
 {
-    let notionals = member(member(calc, "notionalSchedule"), "notionalStepSchedule");
     let term = term(alloc, lists, dates)?;
-    let pay = pay_terms(alloc, lists, dates, once(v, "paymentDates"))?;
-    let reset = maybe_reset_terms(alloc, lists, dates, once(v, "resetDates"))?;
-    let stubs = once(v, "stubCalculationPeriodAmount");
-    let amounts = amounts(alloc, notionals, calc, dates, stubs)?;
+    let amounts = amounts(alloc, notionals, calc)?;
     Ok(Stream {
         effective: term.effective,
         first_start: term.first_start,
         termination: term.termination,
         period_adj: term.period_adj,
-        first_regular: maybe_day(member(dates, "firstRegularPeriodStartDate")),
-        last_regular: maybe_day(member(dates, "lastRegularPeriodEndDate")),
-        stub: stub_kind(member(dates, "stubPeriodType")),
+        first_regular: maybe_day(dates, "firstRegularPeriodStartDate"),
+        last_regular: maybe_day(dates, "lastRegularPeriodEndDate"),
+        stub: stub_kind(dates, "stubPeriodType"),
         freq: frequency(freq),
-        roll: roll(member(freq, "rollConvention")).unwrap_or(RollCode::NoRoll),
-        pay,
-        reset,
+        roll: roll(freq, "rollConvention"),
+        pay: pay_at(alloc, lists, dates, v, "paymentDates")?,
+        reset: maybe_resets(alloc, lists, dates, v, "resetDates")?,
         notional: amounts.notional,
-        currency: currency(member(notionals, "currency")).unwrap_or(Currency { letters: *b"XXX" }),
+        currency: currency(notionals, "currency"),
         leg: amounts.leg,
-        day_count: day_count(member(calc, "dayCountFraction")).unwrap_or(DayCountCode::OneOne),
-        compounding: compounding(member(calc, "compoundingMethod")).unwrap_or(CompCode::Simple),
-        stubs: amounts.stubs,
-        exchanges: exchanges(once(v, "principalExchanges")),
+        day_count: day_count(calc, "dayCountFraction"),
+        compounding: compounding(calc, "compoundingMethod"),
+        stubs: maybe_stubs(alloc, dates, v, "stubCalculationPeriodAmount")?,
+        exchanges: exchanges_or(v, "principalExchanges"),
     })
 }
 
-fn stream(alloc: Global, lists: &[Option<&Value>], v: &Value) -> Result<Stream, Memory>
-    ensures { IfOk result (λ stream. stream ≡ stream_in (map seen lists.now) (view v.now)) }
+// A member that is there.
+fn there<'a>(v: &'a Value, name: &str) -> &'a Value
+    requires { is_some (once_of name.now (view v.now)) ≡ true }
+    ensures { once_of name.now (view v.now) ≡ Some (view result.now) }
 {
-    let dates = once(v, "calculationPeriodDates");
-    let freq = member(dates, "calculationPeriodFrequency");
-    let calc = member(once(v, "calculationPeriodAmount"), "calculation");
-    stream_of(alloc, lists, v, dates, freq, calc)
+    match once(v, name) {
+        None => unreachable!(),
+        Some(v) => v,
+    }
+}
+
+fn stream(alloc: Global, lists: &[Option<&Value>], v: &Value) -> Result<Stream, Memory>
+    requires { IsSaid (StreamSays (map seen lists.now) (view v.now)) }
+    ensures { IfOk result (StreamSays (map seen lists.now) (view v.now)) }
+{
+    let dates = there(v, "calculationPeriodDates");
+    let freq = there(dates, "calculationPeriodFrequency");
+    let amount = there(v, "calculationPeriodAmount");
+    let calc = there(amount, "calculation");
+    let notional = there(calc, "notionalSchedule");
+    let notionals = there(notional, "notionalStepSchedule");
+    stream_of(alloc, lists, v, dates, freq, calc, notionals)
 }
 
 fn each_stream(
@@ -370,7 +394,8 @@ fn each_stream(
     lists: &[Option<&Value>],
     streams: &[Value],
 ) -> Result<StreamList, Memory>
-    ensures { IfOk result (λ list. list ≡ map (stream_in (map seen lists.now)) (map view streams.now)) }
+    requires { IsSaid (Pairs (StreamSays (map seen lists.now)) (map view streams.now)) }
+    ensures { IfOk result (Pairs (StreamSays (map seen lists.now)) (map view streams.now)) }
 {
     let mut list = StreamList::new(alloc);
     for found in streams {
@@ -380,15 +405,17 @@ fn each_stream(
 }
 
 fn streams(alloc: Global, found: &[Value]) -> Result<StreamList, Memory>
-    ensures { IfOk result (λ list. list ≡ map (stream_in (lists_of (map view found.now))) (map view found.now)) }
+    requires { IsSaid (Pairs (StreamSays (lists_of (map view found.now))) (map view found.now)) }
+    ensures { IfOk result (Pairs (StreamSays (lists_of (map view found.now))) (map view found.now)) }
 {
     let lists = lists(alloc, found)?;
     each_stream(alloc, &lists, found)
 }
 
-/// The swap that a value says, where it breaks no rule.
+/// The swap that a value says.
 pub fn swap_of(alloc: Global, v: &Value) -> Result<Swap, Memory>
-    ensures { IfOk result (λ swap. swap ≡ swap_in (view v.now)) }
+    requires { IsSaid (SwapSays (view v.now)) }
+    ensures { IfOk result (SwapSays (view v.now)) }
 {
     let streams = streams(alloc, values_at(v, "swapStream"))?;
     Ok(Swap { streams })

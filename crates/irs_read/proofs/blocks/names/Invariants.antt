@@ -1,8 +1,9 @@
+use Rattle.irs_base.specs.Lists.{Pairs}
 use Rattle.irs_read.proofs.blocks.names.Given as goal
-use Rattle.irs_read.specs.Private.Meaning.{word_in}
+use Rattle.irs_read.specs.StreamElements.{center_name}
 use Rattle.serde_json.specs.View.{view}
-use Rattle.std.proofs.Common.{◌≡◌, Some, map, take}
+use Rattle.std.proofs.Common.{map, take}
 
--- the names so far are those of the items so far
+-- the names so far are those that the items so far say
 abbrev pub invariant-loop-name : goal.invariant-loop-name
-invariant-loop-name l = l.names ≡ map (λ x. word_in (Some x)) (map view (take l.name-index l.name-items))
+invariant-loop-name l = Pairs center_name.says (map view (take l.name-index l.name-items)) l.names

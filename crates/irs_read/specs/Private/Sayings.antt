@@ -1,0 +1,124 @@
+-- What the private readers give: each gives what its part of the document says (`StreamElements`). Each is called only
+-- where something is said, so none has a value for what must occur and is absent.
+use Rattle.irs_base.specs.declared.rounding.Direction.TheVariants.{Nearest}
+use Rattle.irs_elements.specs.Codes.{compounding_at, day_count_at, roll_at, stub_kind_at}
+use Rattle.irs_elements.specs.Elements.{once}
+use Rattle.irs_elements.specs.Leaves.{currency_at}
+use Rattle.irs_elements.specs.declared.table.Leaf.TheVariants.{Compounding as CompoundingKind, CurrencyName, DayCount, Roll}
+use Rattle.irs_elements.specs.declared.table.Leaf.TheVariants.{StubType}
+use Rattle.irs_read.specs.Readings.{ReadPart, Says, Value, maybe, one, or, said, text, ◌also◌, ◌gives◌}
+use Rattle.irs_read.specs.StreamElements.{adjustable, adjustments, date, exchanges, fixing_dates, frequency, leg}
+use Rattle.irs_read.specs.StreamElements.{notional, payment_dates, places_by, rate, reset_dates, rounding_read, schedule}
+use Rattle.irs_read.specs.StreamElements.{stubs}
+use Rattle.irs_read.specs.declared.stream.InterestTerms.{InterestTerms}
+use Rattle.irs_read.specs.declared.stream.TermDates.{TermDates}
+use Rattle.irs_read.specs.declared.leaf_values.Scale.{Scale}
+use Rattle.irs_read.specs.declared.leaf_values.Scale.TheVariants.{Notionals, Rates}
+use Rattle.irs_terms.specs.declared.amounts.ExchangeFlags.{ExchangeFlags}
+use Rattle.irs_terms.specs.declared.amounts.Rounding.{Rounding}
+use Rattle.irs_terms.specs.declared.codes.RefState.{RefState}
+use Rattle.irs_terms.specs.declared.codes.RefState.TheVariants.{Absent as NoReference}
+use Rattle.irs_terms.specs.declared.dates.FixTerms.{FixTerms}
+use Rattle.irs_terms.specs.declared.codes.CompCode.TheVariants.{Simple}
+use Rattle.irs_terms.specs.declared.stream.Stream.{Stream}
+use Rattle.serde_json.specs.Data.{Data}
+use Rattle.std.specs.Prelude.{◌≡◌, ℕ, false, List, ℤ, Option, Some, None, codes}
+
+-- something is said
+abbrev pub IsSaid : {A : Type 0} → (A → Type 0) → Type 0
+IsSaid {A} P = (a : A) × P a
+
+-- the text of a leaf has this value
+abbrev pub TextSays : {A : Type 0} → (List ℕ → Option A) → Data → A → Type 0
+TextSays at x a = said at (Some x) ≡ Some a
+
+-- what is said of a member that occurs
+abbrev pub One : {A : Type 0} → (Data → A → Type 0) → Option Data → A → Type 0
+One says o = Says o says (λ a. a) (λ _. ⊥)
+
+-- of one that may be absent
+abbrev pub Maybe : {A : Type 0} → (Data → A → Type 0) → Option Data → Option A → Type 0
+Maybe says o = Says o says Some (λ a. a ≡ None)
+
+-- of one that has this value where it is absent
+abbrev pub Or : {A : Type 0} → (Data → A → Type 0) → A → Option Data → A → Type 0
+Or says absent o = Says o says (λ a. a) (λ a. a ≡ absent)
+
+-- the values of a schedule are notionals or rates
+abbrev pub number_by : Scale → Value ℤ
+number_by Notionals = notional
+number_by Rates = rate
+
+-- no principal is exchanged
+abbrev pub no_exchange : ExchangeFlags
+no_exchange = record { initial = false; intermediate = false; last = false }
+
+-- the fixing dates of resets, and how their reference resolves, if they are there
+abbrev pub FixingsSaid : List (Option Data) → Data → Option FixTerms × RefState → Type 0
+FixingsSaid lists d =
+    Says {B = Option FixTerms × RefState} (once (codes "fixingDates") d) (fixing_dates lists (Some d)).says
+    (λ f. (Some f.0, f.1)) (λ f. f ≡ (None, NoReference))
+
+-- how the rate of a `floatingRateCalculation` is rounded
+abbrev pub RoundingSaid : Data → Rounding → Type 0
+RoundingSaid d =
+    Or rounding_read.says (record { dir = Nearest; places = places_by (once (codes "calculationParameters") d) })
+    (once (codes "finalRateRounding") d)
+
+-- when a stream runs
+abbrev pub TermSaid : List (Option Data) → Data → TermDates → Type 0
+TermSaid lists d t =
+    One (adjustable lists).says (once (codes "effectiveDate") d) t.effective
+    × (One (adjustable lists).says (once (codes "terminationDate") d) t.termination
+    × (One (adjustments lists).says (once (codes "calculationPeriodDatesAdjustments") d) t.period_adj
+    × Maybe (adjustable lists).says (once (codes "firstPeriodStartDate") d) t.first_start))
+
+-- what interest is paid on, and the rates
+abbrev pub InterestSaid : Data → Data → InterestTerms → Type 0
+InterestSaid notionals calc t = (schedule notional).says notionals t.notional × leg.says calc t.leg
+
+-- ---- a stream, by the objects that hold its parts
+
+-- `calculationPeriodDates`
+abbrev pub period_terms : List (Option Data) → ReadPart Stream
+period_terms lists =
+    one "effectiveDate" (adjustable lists) gives (λ (s : Stream). s.effective)
+    also one "terminationDate" (adjustable lists) gives (λ (s : Stream). s.termination)
+    also one "calculationPeriodDatesAdjustments" (adjustments lists) gives (λ (s : Stream). s.period_adj)
+    also maybe "firstPeriodStartDate" (adjustable lists) gives (λ (s : Stream). s.first_start)
+    also maybe "firstRegularPeriodStartDate" date gives (λ (s : Stream). s.first_regular)
+    also maybe "lastRegularPeriodEndDate" date gives (λ (s : Stream). s.last_regular)
+    also maybe "stubPeriodType" (text StubType stub_kind_at) gives (λ (s : Stream). s.stub)
+
+-- `calculationPeriodFrequency`
+abbrev pub frequency_terms : ReadPart Stream
+frequency_terms =
+    frequency gives (λ (s : Stream). s.freq)
+    also one "rollConvention" (text Roll roll_at) gives (λ (s : Stream). s.roll)
+
+-- `notionalStepSchedule`
+abbrev pub notional_terms : ReadPart Stream
+notional_terms =
+    schedule notional gives (λ (s : Stream). s.notional)
+    also one "currency" (text CurrencyName currency_at) gives (λ (s : Stream). s.currency)
+
+-- `calculation`
+abbrev pub rate_terms : ReadPart Stream
+rate_terms =
+    leg gives (λ (s : Stream). s.leg)
+    also one "dayCountFraction" (text DayCount day_count_at) gives (λ (s : Stream). s.day_count)
+    also or "compoundingMethod" (text CompoundingKind compounding_at) Simple gives (λ (s : Stream). s.compounding)
+
+-- the stream itself
+abbrev pub whole_terms : List (Option Data) → Option Data → ReadPart Stream
+whole_terms lists dates =
+    one "paymentDates" (payment_dates lists dates) gives (λ (s : Stream). s.pay)
+    also maybe "resetDates" (reset_dates lists dates) gives (λ (s : Stream). s.reset)
+    also maybe "stubCalculationPeriodAmount" (stubs dates) gives (λ (s : Stream). s.stubs)
+    also or "principalExchanges" exchanges no_exchange gives (λ (s : Stream). s.exchanges)
+
+-- all of it
+abbrev pub StreamParts : List (Option Data) → Data → Data → Data → Data → Data → Stream → Type 0
+StreamParts lists d dates freq calc notionals s =
+    (period_terms lists).says dates s × (frequency_terms.says freq s × (notional_terms.says notionals s
+    × (rate_terms.says calc s × (whole_terms lists (Some dates)).says d s)))
