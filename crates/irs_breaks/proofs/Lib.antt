@@ -27,3 +27,5 @@ pub mod TablesTold
 pub mod StreamsTold
 pub mod TextLines
 pub mod TextSums
+pub mod PairingThere
+pub mod ListThere

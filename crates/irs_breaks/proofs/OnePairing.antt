@@ -40,24 +40,28 @@ before_back m n h k =
 
 -- ---- lists in order
 
-order_rest : (m : PairedRow) (ms : List PairedRow) → AreRowsInOrder (m ∷ ms) → AreRowsInOrder ms
+-- the rows after the first of ordered rows are in order
+pub order_rest : (m : PairedRow) (ms : List PairedRow) → AreRowsInOrder (m ∷ ms) → AreRowsInOrder ms
 order_rest m ms h p q a b less ata atb = h (suc p) (suc q) a b (omega (arith, less)) ata atb
 
 at_rest : (m n : PairedRow) (ms : List PairedRow) (k : ℕ) → At (m ∷ ms) k n → (m ≡ n) ⊎ Contains ms n
 at_rest m n ms zero at = inl (same_Some m n at)
 at_rest m n ms (suc k) at = inr (contains_at ms k n at)
 
-contains_rest : (m n : PairedRow) (ms : List PairedRow) → Contains (m ∷ ms) n → (m ≡ n) ⊎ Contains ms n
+-- a row of a list is its first row or one of the rest
+pub contains_rest : (m n : PairedRow) (ms : List PairedRow) → Contains (m ∷ ms) n → (m ≡ n) ⊎ Contains ms n
 contains_rest m n ms c = let place = at_contains (m ∷ ms) n c in at_rest m n ms place.0 place.1
 
-contains_first : (m : PairedRow) (ms : List PairedRow) → Contains (m ∷ ms) m
+-- a list contains its first row
+pub contains_first : (m : PairedRow) (ms : List PairedRow) → Contains (m ∷ ms) m
 contains_first m ms = contains_at (m ∷ ms) zero m refl
 
-contains_more : (m n : PairedRow) (ms : List PairedRow) → Contains ms n → Contains (m ∷ ms) n
+-- and each row of the rest
+pub contains_more : (m n : PairedRow) (ms : List PairedRow) → Contains ms n → Contains (m ∷ ms) n
 contains_more m n ms c = let place = at_contains ms n c in contains_at (m ∷ ms) (suc place.0) n place.1
 
 -- the first row comes before each other
-first_before : (m n : PairedRow) (ms : List PairedRow) → AreRowsInOrder (m ∷ ms) → Contains ms n → ComesBefore m n
+pub first_before : (m n : PairedRow) (ms : List PairedRow) → AreRowsInOrder (m ∷ ms) → Contains ms n → ComesBefore m n
 first_before m n ms h c =
     let place = at_contains ms n c in h zero (suc place.0) m n (omega arith) refl place.1
 
