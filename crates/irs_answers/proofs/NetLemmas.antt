@@ -2,7 +2,6 @@
 use Rattle.std.proofs.Common.{◌≡◌, List, [], ◌∷◌, length, Option, Some, None, true, Result, Ok, refl, sym, ◌∙◌}
 use Rattle.std.proofs.Common.{subst, arith}
 use Rattle.irs_base.specs.Lists.{Pairs}
-use Rattle.irs_read.proofs.EachSaid.{each_long}
 use Rattle.irs_read.specs.Readings.{streams_in}
 use Rattle.irs_read.specs.Documents.{Means}
 use Rattle.irs_resets.specs.Rates.{RateTable}
@@ -35,7 +34,7 @@ swap_long v swap sides h k =
     let at : k.swap ≡ h.at = same_ok k.swap h.at (sym k.found ∙ h.found) in
     let many : sides.count ≡ length (streams_in h.at) =
     subst (λ (d : Data). sides.count ≡ length (streams_in d)) at k.are.count in
-    many ∙ sym (each_long _ (streams_in h.at) swap.streams h.says)
+    many ∙ pairs_long _ (streams_in h.at) swap.streams h.says
 
 sided : (v : Data) (swap : Swap) (cal : List Section) (table : RateTable) (parts : List Part) (o : Option Sides)
     → Means v swap → IsSchedule swap cal table parts → SidesIf true v o → IsSided o parts

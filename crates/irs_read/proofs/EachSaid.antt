@@ -1,4 +1,5 @@
 -- Lists of values: what is said of each.
+use Rattle.irs_base.proofs.MemberLemmas.{pairs_push}
 use Rattle.irs_base.specs.Lists.{Pairs}
 use Rattle.irs_read.specs.Private.Sayings.{IsSaid}
 use Rattle.serde_json.specs.Data.{Data}
@@ -7,14 +8,6 @@ use Rattle.serde_json.specs.declared.value.Value.{Value}
 use Rattle.std.proofs.Common.{◌≡◌, ℕ, zero, suc, ◌+◌, ◌<◌, ◌≤◌, List, [], ◌∷◌, ◌++◌, map, take, length, get_or, refl, sym}
 use Rattle.std.proofs.Common.{ap, subst, ◌∙◌, arith}
 use Rattle.std.proofs.lemmas.List.{map-append, take_all, take_more}
-
--- as many are said as there are values
-pub each_long : {A : Type 0} (says : Data → A → Type 0) (xs : List Data) (all : List A) → Pairs says xs all
-    → length all ≡ length xs
-each_long says [] [] h = refl
-each_long says [] (a ∷ rest) h = absurd h
-each_long says (x ∷ xs) [] h = absurd h
-each_long says (x ∷ xs) (a ∷ rest) h = let e = each_long says xs rest h.1 in omega (arith, e)
 
 at_place : {A : Type 0} (says : Data → A → Type 0) (vs : List Value) (all : List A) → Pairs says (map view vs) all
     → (i : ℕ) (v : Value) → i < length vs → v ≡ get_or vs i v → IsSaid (says (view v))
@@ -29,13 +22,6 @@ pub said_at : {A : Type 0} {xs : List Data} (says : Data → A → Type 0) (vs :
 said_at {A = A} says vs e h =
     at_place says vs h.0 (subst (λ (xs : List Data). Pairs says xs h.0) (sym e) h.1)
 
-says_append : {A : Type 0} (says : Data → A → Type 0) (xs : List Data) (all : List A) (x : Data) (a : A)
-    → Pairs says xs all → says x a → Pairs says (xs ++ x ∷ []) (all ++ a ∷ [])
-says_append says [] [] x a h p = (p, tt)
-says_append says [] (b ∷ all) x a h p = absurd h
-says_append says (y ∷ xs) [] x a h p = absurd h
-says_append says (y ∷ xs) (b ∷ all) x a h p = (h.0, says_append says xs all x a h.1 p)
-
 -- one value more
 pub says_more : {A : Type 0} (says : Data → A → Type 0) (vs : List Value) (i : ℕ) (v : Value) (old new : List A) (a : A)
     → i < length vs → v ≡ get_or vs i v → Pairs says (map view (take i vs)) old → says (view v) a
@@ -46,7 +32,7 @@ says_more {A = A} says vs i v old new a lt is h p e =
     ∙ map-append view (take i vs) (v ∷ []) in
     subst (λ (all : List A). Pairs says (map view (take (i + 1) vs)) all) (sym e)
     (subst (λ (xs : List Data). Pairs says xs (old ++ a ∷ [])) (sym more)
-    (says_append says (map view (take i vs)) old (view v) a h p))
+    (pairs_push says (map view (take i vs)) old (view v) a h p))
 
 -- all values
 pub says_all : {A : Type 0} {xs : List Data} (says : Data → A → Type 0) (vs : List Value) (i : ℕ) (all : List A)

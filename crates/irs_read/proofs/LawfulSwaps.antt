@@ -1,6 +1,6 @@
 -- A document that breaks no rule means one swap, and that one is lawful.
-use Rattle.irs_base.specs.Lists.{Pairs}
 use Rattle.irs_base.specs.Elements.{swap_stream}
+use Rattle.irs_base.specs.Lists.{Pairs}
 use Rattle.irs_base.specs.declared.places.Broken.{Broken}
 use Rattle.irs_base.specs.declared.places.Rule.TheVariants.{K2, K3, K7}
 use Rattle.irs_elements.specs.Elements.{own, place}
