@@ -56,7 +56,7 @@ use Rattle.irs_schedule.specs.Parts.{Part}
 use Rattle.irs_schedule.specs.RowsOf.{dated_period, no_period as no_entry, period_at}
 use Rattle.irs_schedule.specs.declared.entries.PeriodEntry.{PeriodEntry}
 use Rattle.irs_schedule.specs.declared.views.CalculationPeriod.{CalculationPeriod}
-use Rattle.irs_accrue.specs.Accruals.{CountedTo, HasRun, IsAccrual, IsAccrued, IsInterest, IsOutside, IsPriced, Runs}
+use Rattle.irs_accrue.specs.Accruals.{CountedTo, HasRun, IsAccrual, IsAccrued, IsInterest, IsOutside, Runs}
 use Rattle.irs_accrue.specs.DailyAccruals.{AccruesAs, AccruesDaily, DailyTerms, EarnsBefore, GivesRate, IsAccrualBy}
 use Rattle.irs_accrue.specs.DailyAccruals.{IsAccrualOf, IsAccrualWith, IsDailyAccrual, before_first, daily_rates_of}
 use Rattle.irs_accrue.specs.DailyAccruals.{daily_terms, method_of, no_amount_yet, observing, on_first, run_of, unobserved}
