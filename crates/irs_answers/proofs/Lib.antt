@@ -32,3 +32,8 @@ pub mod MessageLemmas
 pub mod OneAnswer
 pub mod NoteLemmas
 pub mod ListLemmas
+pub mod Certain
+pub mod AccruedThere
+pub mod ObservedThere
+pub mod DerivedThere
+pub mod AlwaysDue

@@ -158,10 +158,12 @@ pub due_determined : (task : Task) (g : Given) (status : ℕ) (text : List ℕ) 
     → Determined (due task g)
 due_determined task g status text h = determined_by (due task g) (one_outcome task g) (status, text) h
 
+-- a carrier has one outcome
+pub one_carried : (bytes : List ℕ) → IsOne (carrier_of bytes)
+one_carried bytes =
+    then_one Same _ _ (refused_as_agree Same _ _ _ (one_value (xml_text bytes))) (λ v _. answer_agree Same _ _ refl)
+
 -- one status and one text are due for a carrier
 pub one_carrier : (s u : ℕ) (t v : List ℕ) (bytes : List ℕ) → DueCarrier bytes s t → DueCarrier bytes u v
     → (s ≡ u) × (t ≡ v)
-one_carrier s u t v bytes h k =
-    one_given (carrier_of bytes)
-    (then_one Same _ _ (refused_as_agree Same _ _ _ (one_value (xml_text bytes))) (λ v _. answer_agree Same _ _ refl))
-    s u t v h k
+one_carrier s u t v bytes h k = one_given (carrier_of bytes) (one_carried bytes) s u t v h k

@@ -200,6 +200,10 @@ pub record PassesEachStep (t : Task) (g : Given) (f : Facts) : Type 0 where
 abbrev pub IsTextOfEach : Facts → List ℕ → Type 0
 IsTextOfEach f text = (s : List Part) → IsSchedule f.swap f.cal f.table s → text ≡ schedule_text s
 
+-- it can't be otherwise: P in the usual logic of mathematics, where it isn't said which case holds
+abbrev pub IsCertain : Type 0 → Type 0
+IsCertain P = (P → ⊥) → ⊥
+
 -- ---- what the code keeps of what the files of a task say
 
 -- the facts that the code keeps

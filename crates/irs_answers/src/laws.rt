@@ -1,12 +1,12 @@
 //! Laws: the audit of emitted cash flows is yes, every list in the relations of a schedule has the text that
-//! `schedule` prints, and what is due is all that is due.
+//! `schedule` prints, and one outcome is due for every task and its files.
 ghost use Rattle.std.specs.Prelude.{◌≡◌, ◌↔◌, ℕ, List};
 ghost use Rattle.irs_base.specs.Outcomes.{Determined};
 ghost use Rattle.irs_schedule.specs.Parts.{IsWithin, Part};
 ghost use Rattle.irs_emit.specs.Emitted.{emit_text};
 ghost use Rattle.irs_emit_xml.specs.Flows.{flows_text};
-ghost use Rattle.irs_answers.specs.Tasks.{IsAuditedYes};
-ghost use Rattle.irs_answers.specs.Due.{DueFor, Facts, IsTextOfEach, PassesEachStep, due, found_of};
+ghost use Rattle.irs_answers.specs.Tasks.{IsAuditedYes, IsLawfulTask, carrier_of};
+ghost use Rattle.irs_answers.specs.Due.{DueFor, Facts, IsCertain, IsTextOfEach, PassesEachStep, due, found_of};
 ghost use Rattle.irs_answers.specs.Forms.{json_text, xml_text, Given};
 ghost use Rattle.irs_answers.specs.declared.tasks.Task.{Task};
 ghost use Rattle.irs_answers.specs.declared.tasks.Task.TheVariants.{Schedule};
@@ -28,11 +28,16 @@ pub fn every_schedule_has_the_printed_text()
         → DueFor Schedule g status text → (status ≡ 0) × IsTextOfEach f text }
 {}
 
-/// Where a status and a text are due for a task and its files, nothing else is: there is one answer and no refusal, or
-/// one refusal and no answer. What the files say, step by step, is what they say where every step passes. The function
-/// does nothing; its contract is the law.
+/// One outcome is due for every task and its files: there is one answer and no refusal, or one refusal and no answer.
+/// Where a status and a text are due, nothing else is. That something is due can't be otherwise, whatever the files hold,
+/// where the task's parameters lie in their ranges. So it is for the carrier of any bytes. The logic of the prover is
+/// constructive, and deciding whether bytes have a reading would take a reader within it. So these clauses say what the
+/// usual logic of mathematics says, and nothing of a way to find the outcome. What the files say, step by step, is what
+/// they say where every step passes. The function does nothing; its contract is the law.
 pub fn one_outcome_is_due()
     ensures outcome { (task : Task) (g : Given) (status : ℕ) (text : List ℕ) → DueFor task g status text
         → Determined (due task g) }
+    ensures always { (task : Task) (g : Given) → IsLawfulTask task → IsCertain (Determined (due task g)) }
+    ensures carrier { (bytes : List ℕ) → IsCertain (Determined (carrier_of bytes)) }
     ensures passes { (task : Task) (g : Given) (f : Facts) → PassesEachStep task g f ↔ (found_of task g).Answers f }
 {}

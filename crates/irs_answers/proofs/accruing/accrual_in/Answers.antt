@@ -17,6 +17,7 @@ use Rattle.irs_periods.specs.Boundaries.{HasSpan}
 use Rattle.irs_accrue.specs.DailyAccruals.{IsAccrualOf}
 use Rattle.irs_accrue.specs.declared.accruals.Accrual.{Accrual}
 use Rattle.irs_accrue.proofs.OneDaily.{one_accrual_of}
+use Rattle.irs_accrue.proofs.Periods.{has_boundaries}
 use Rattle.irs_answers.specs.Tasks.{AccruesAt, Accruing, accruing}
 use Rattle.irs_answers.specs.Private.Outcomes.{IsAccruing}
 use Rattle.irs_answers.proofs.AccrueLemmas.{only_accrual, stream_span}
@@ -97,7 +98,7 @@ returns-clause-accrues c = λ p there.
     let same : part ≡ p =
     same_Some part p (sym (subst (λ (ps : List Part). slice_get ps i ≡ Some part) c.streams.ensures.value read) ∙ there) in
     let set = applicable_days f.calendars.now s in
-    let one = one_accrual_of s set f.fixings.now part d bounds is.kept.leg_rises in
+    let one = one_accrual_of s set f.fixings.now part d (has_boundaries part bounds) is.kept.leg_rises in
     IfOk-weaker c.accrued_of.result _ (Only (AccruesAt x d (i + 1) p))
     (λ (a : Accrual) h.
     subst (λ (q : Part). Only (AccruesAt x d (i + 1) q) a) same
