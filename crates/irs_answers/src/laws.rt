@@ -35,9 +35,8 @@ pub fn every_schedule_has_the_printed_text()
 /// usual logic of mathematics says, and nothing of a way to find the outcome. What the files say, step by step, is what
 /// they say where every step passes. The function does nothing; its contract is the law.
 pub fn one_outcome_is_due()
-    ensures outcome { (task : Task) (g : Given) (status : ℕ) (text : List ℕ) → DueFor task g status text
-        → Determined (due task g) }
-    ensures always { (task : Task) (g : Given) → IsLawfulTask task → IsCertain (Determined (due task g)) }
+    ensures outcome { (t : Task) (g : Given) (s : ℕ) (text : List ℕ) → DueFor t g s text → Determined (due t g) }
+    ensures always { (t : Task) (g : Given) → IsLawfulTask t → IsCertain (Determined (due t g)) }
     ensures carrier { (bytes : List ℕ) → IsCertain (Determined (carrier_of bytes)) }
-    ensures passes { (task : Task) (g : Given) (f : Facts) → PassesEachStep task g f ↔ (found_of task g).Answers f }
+    ensures passes { (t : Task) (g : Given) (f : Facts) → PassesEachStep t g f ↔ (found_of t g).Answers f }
 {}
