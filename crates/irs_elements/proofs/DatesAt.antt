@@ -1,36 +1,28 @@
 -- The function of a date's text gives the day that the text names.
 use Rattle.irs_base.proofs.PlainDates.{is_plain, plain_is}
-use Rattle.irs_base.specs.Texts.{date_at, IsDateText, IsPlainDate, date_text}
-use Rattle.irs_base.specs.Days.{HasDate, IsDay}
+use Rattle.irs_base.specs.Texts.{date_at, IsDateText, IsPlainDate}
+use Rattle.irs_base.specs.Days.{IsDay}
 use Rattle.irs_elements.proofs.Exact.{both_true}
 use Rattle.irs_elements.specs.Leaves.{leaf_date_at, without_z}
-use Rattle.std.proofs.Common.{◌≡◌, inl, inr, ℕ, Bool, true, false, ◌&&◌, ◌==◌, List, [], ◌∷◌, ◌++◌, length, take, ℤ, pos}
+use Rattle.std.proofs.Common.{◌≡◌, inl, inr, ℕ, Bool, true, false, ◌&&◌, ◌==◌, List, [], ◌∷◌, ◌++◌, length, take, ℤ}
 use Rattle.std.proofs.Common.{slice_index, Option, Some, None, IfSome, IfNone, refl, sym, ap, ◌∙◌, subst, arith}
 use Rattle.std.proofs.Common.{if◌then◌else◌}
 use Rattle.std.proofs.lemmas.Bool.Decides.{nat_tests}
 use Rattle.std.proofs.lemmas.List.{take_all, take_more}
 
-plain_left : (y m day : ℕ) (d : ℤ) → HasDate d (pos y) m day → IsPlainDate (without_z (date_text y m day)) d
-plain_left y m day d has = record { year = y; month = m; day = day; has = has; is = refl }
-
-z_left : (y m day : ℕ) (d : ℤ) → HasDate d (pos y) m day → IsPlainDate (without_z (date_text y m day ++ 90 ∷ [])) d
-z_left y m day d has = record { year = y; month = m; day = day; has = has; is = refl }
-
 dropped : (s : List ℕ) (d : ℤ) → IsDateText s d → IsPlainDate (without_z s) d
 dropped s d (inl p) =
-    subst (λ (x : List ℕ). IsPlainDate (without_z x) d) (sym p.is) (plain_left p.year p.month p.day d p.has)
+    subst (λ (x : List ℕ). IsPlainDate (without_z x) d) (sym p.is)
+    (record { year = p.year; month = p.month; day = p.day; has = p.has; is = refl })
 dropped s d (inr (front, e, p)) =
-    let is : s ≡ date_text p.year p.month p.day ++ 90 ∷ [] = e ∙ ap (λ (x : List ℕ). x ++ 90 ∷ []) p.is in
-    subst (λ (x : List ℕ). IsPlainDate (without_z x) d) (sym is) (z_left p.year p.month p.day d p.has)
-
-is_number : (m n : ℕ) → (m == n) ≡ true → m ≡ n
-is_number m n e = grind (arith, nat_tests)
+    subst (λ (x : List ℕ). IsPlainDate (without_z x) d) (sym (e ∙ ap (λ (x : List ℕ). x ++ 90 ∷ []) p.is))
+    (record { year = p.year; month = p.month; day = p.day; has = p.has; is = refl })
 
 ends_in_z : (s : List ℕ) → ((length s == 11) && (slice_index s 10 == 90)) ≡ true → s ≡ take 10 s ++ 90 ∷ []
 ends_in_z s e =
     let tests = both_true (length s == 11) (slice_index s 10 == 90) e in
-    let len : length s ≡ 11 = is_number (length s) 11 tests.0 in
-    let last : slice_index s 10 ≡ 90 = is_number (slice_index s 10) 90 tests.1 in
+    let len : length s ≡ 11 = grind (arith, nat_tests, tests.0) in
+    let last : slice_index s 10 ≡ 90 = grind (arith, nat_tests, tests.1) in
     sym (take_all 11 s (omega arith)) ∙ take_more s 10 0 (omega arith) ∙ ap (λ (z : ℕ). take 10 s ++ z ∷ []) last
 
 kept_by : (s : List ℕ) (d : ℤ) (b : Bool) → ((length s == 11) && (slice_index s 10 == 90)) ≡ b
@@ -38,12 +30,9 @@ kept_by : (s : List ℕ) (d : ℤ) (b : Bool) → ((length s == 11) && (slice_in
 kept_by s d true e p = inr (take 10 s, ends_in_z s e, p)
 kept_by s d false e p = inl p
 
-kept : (s : List ℕ) (d : ℤ) → IsPlainDate (without_z s) d → IsDateText s d
-kept s d p = kept_by s d ((length s == 11) && (slice_index s 10 == 90)) refl p
-
 none_by : (s : List ℕ) (o : Option ℤ) → date_at (without_z s) ≡ o → ((d : ℤ) → IsDay d → IsDateText s d → ⊥) → None ≡ o
 none_by s None e none = refl
-none_by s (Some d) e none = let p = is_plain (without_z s) d e in absurd (none d p.0 (kept s d p.1))
+none_by s (Some d) e none = let p = is_plain (without_z s) d e in absurd (none d p.0 (kept_by s d _ refl p.1))
 
 -- the text names the day that the function gives, and none where it gives none
 pub day_is : (s : List ℕ) (r : Option ℤ) → IfSome r (λ d. IsDay d × IsDateText s d)

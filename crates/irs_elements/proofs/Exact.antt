@@ -1,5 +1,6 @@
 -- An answer that is right on both sides is the value of a function that is.
-use Rattle.std.proofs.Common.{◌≡◌, Option, Some, None, IfSome, IfNone, Bool, true, false, ◌&&◌, refl, ap}
+pub use Rattle.irs_base.proofs.Orders.{both_true}
+use Rattle.std.proofs.Common.{◌≡◌, Option, Some, None, IfSome, IfNone, option_map, Bool, true, ◌&&◌, refl, ap}
 
 -- the result has P, or there is none and nothing has P
 abbrev pub Exact : {A : Type 0} → (A → Type 0) → Option A → Type 0
@@ -19,24 +20,19 @@ pub exact_of : {A : Type 0} (P : A → Type 0) (r : Option A) → IfSome r P →
 exact_of P None some none = none
 exact_of P (Some v) some none = some
 
--- the two sides apart
-pub exact_some : {A : Type 0} (P : A → Type 0) (r : Option A) → Exact P r → IfSome r P
-exact_some P None h = tt
-exact_some P (Some v) h = h
+-- an exact result is exact for what follows from it, where nothing else does
+pub exact_map : {A B : Type 0} (P : A → Type 0) (Q : B → Type 0) (f : A → B) (o : Option A) → ((v : A) → P v → Q (f v))
+    → (((v : A) → P v → ⊥) → (w : B) → Q w → ⊥) → Exact P o → Exact Q (option_map f o)
+exact_map P Q f None some none h = none h
+exact_map P Q f (Some v) some none h = some v h
 
--- where an exact result is none, nothing has P
-pub exact_none : {A : Type 0} (P : A → Type 0) (r : Option A) → Exact P r → IfNone r ((v : A) → P v → ⊥)
-exact_none P None h = h
-exact_none P (Some v) h = tt
-
--- where both together are true, each is
-pub both_true : (a b : Bool) → a && b ≡ true → (a ≡ true) × (b ≡ true)
-both_true true true e = (refl, refl)
-both_true true false e = cc
-both_true false b e = cc
+-- the two sides of an exact result
+pub exact_both : {A : Type 0} (P : A → Type 0) (r : Option A) → Exact P r
+    → IfSome r P × IfNone r ((v : A) → P v → ⊥)
+exact_both P None h = (tt, h)
+exact_both P (Some v) h = (h, tt)
 
 -- where each is true, both together are
 pub true_both : (a b : Bool) → a ≡ true → b ≡ true → a && b ≡ true
 true_both true true p q = refl
-true_both true false p q = cc
-true_both false b p q = cc
+true_both _ _ p q = cc

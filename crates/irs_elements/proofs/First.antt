@@ -43,16 +43,13 @@ module _ (F : ℕ → Broken → Type 0) where
       → IsFirst (Below (n + 1)) (earlier a b)
   first_more n a b p q = first_same _ _ _ (joined n) (split n) (first_or _ _ _ _ p q)
 
-  widened : (n : ℕ) (f : Broken) → Below n f → Below (n + 1) f
-  widened n f (c, (h, x)) = (c, (omega arith, x))
-
   narrowed : (n : ℕ) → ((f : Broken) → F n f → ⊥) → (f : Broken) → Below (n + 1) f → Below n f
   narrowed n never f x = elim (split n f x) [ inl y ↦ y | inr y ↦ absurd (never f y) ]
 
   -- a row without a fault changes nothing
   pub first_skip : (n : ℕ) (a : Option Broken) → IsFirst (Below n) a → ((f : Broken) → F n f → ⊥)
       → IsFirst (Below (n + 1)) a
-  first_skip n a p never = first_same _ _ _ (widened n) (narrowed n never) p
+  first_skip n a p never = first_same _ _ _ (λ f (c, (h, x)). (c, (omega arith, x))) (narrowed n never) p
 
 -- the same answer
 pub first_is : (P : Broken → Type 0) (a b : Option Broken) → b ≡ a → IsFirst P a → IsFirst P b

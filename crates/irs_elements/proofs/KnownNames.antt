@@ -1,9 +1,13 @@
 -- The rows of an object's members come after its own row, so those before it need not be looked at.
-use Rattle.std.proofs.Common.{◌≡◌, ℕ, zero, suc, ◌+◌, ◌<◌, ◌≤◌, nat_lt, Bool, true, false, ◌&&◌, ◌||◌, ◌==◌, List, []}
-use Rattle.std.proofs.Common.{◌∷◌, length, take, Some, refl, sym, subst, arith}
+use Rattle.std.proofs.Common.{◌≡◌, ℕ, zero, suc, ◌+◌, ◌<◌, ◌≤◌, nat_lt, Bool, true, false, ◌&&◌, ◌==◌, List, []}
+use Rattle.std.proofs.Common.{◌∷◌, ◌∙◌, get_or, length, take, refl, sym, ap, arith}
+use Rattle.std.proofs.Common.{Some}
 use Rattle.std.specs.Prelude.{slice_get}
+use Rattle.std.proofs.lemmas.Option.{same_Some, slice_get-get_or, slice_get_within}
 use Rattle.std.proofs.lemmas.Bool.Decides.{nat_tests}
-use Rattle.std.proofs.lemmas.Option.{same_Some}
+use Rattle.std.proofs.lemmas.List.{take_all}
+use Rattle.std.proofs.lemmas.List.Folds.{list_any_at, list_any_more}
+use Rattle.std.proofs.lemmas.List.FromFn.{get_or-enumerate_from, length-enumerate_from}
 use Rattle.std.specs.List.{enumerate_from, list_any}
 use Rattle.std.specs.Str.{bytes_eq}
 use Rattle.irs_elements.specs.declared.table.Choice.TheVariants.{Free}
@@ -24,68 +28,35 @@ none_before p r fails (suc n) k [] few = refl
 none_before p r fails (suc n) k (row ∷ rows) few =
     rw (fails k row (omega (arith, few))) (none_before p r fails n (k + 1) rows (omega (arith, few)))
 
-or_false : (a b : Bool) → (a || b) ≡ false → (a ≡ false) × (b ≡ false)
-or_false true b e = absurd cc
-or_false false b e = (refl, e)
+module _ (p : Test) (n : ℕ) (rows : List Row) (row : Row) (at : slice_get rows n ≡ Some row) where
+  less : n < length rows
+  less = slice_get_within rows n row at
 
-same_number : (p : Test) (k n : ℕ) (row : Row) (b : Bool) → p (k + suc n, row) ≡ b → p (k + 1 + n, row) ≡ b
-same_number p k n row b e =
-    let same : k + suc n ≡ k + 1 + n = omega arith in subst (λ (m : ℕ). p (m, row) ≡ b) same e
+  -- the row with the number n is the n-th
+  numbered : p (get_or (enumerate_from 0 rows) n (0, row)) ≡ p (n, row)
+  numbered =
+      let same : 0 + n ≡ n = omega arith in
+      let is : get_or rows n row ≡ row = same_Some _ _ (sym (slice_get-get_or rows n row less) ∙ at) in
+      ap p (get_or-enumerate_from 0 rows n (0, row) less) ∙ ap (λ m. p (m, get_or rows n row)) same ∙ ap (λ x. p (n, x)) is
 
-first_number : (p : Test) (k : ℕ) (x row : Row) (b : Bool) → x ≡ row → p (k + 0, row) ≡ b → p (k, x) ≡ b
-first_number p k x row b e h =
-    let same : k + 0 ≡ k = omega arith in
-    subst (λ (y : Row). p (k, y) ≡ b) (sym e) (subst (λ (m : ℕ). p (m, row) ≡ b) same h)
+  within : n < length (enumerate_from 0 rows)
+  within = rw (length-enumerate_from 0 rows) less
 
--- one row more fails the test
-more_fail : (p : Test) (n k : ℕ) (rows : List Row) (row : Row) → slice_get rows n ≡ Some row
-    → list_any p (take n (enumerate_from k rows)) ≡ false → p (k + n, row) ≡ false
-    → list_any p (take (suc n) (enumerate_from k rows)) ≡ false
-more_fail p n k [] row at before fails = absurd cc
-more_fail p zero k (x ∷ xs) row at before fails =
-    rw (first_number p k x row false (same_Some x row at) fails) refl
-more_fail p (suc n) k (x ∷ xs) row at before fails =
-    let both = or_false (p (k, x)) (list_any p (take n (enumerate_from (k + 1) xs))) before in
-    rw both.0 (more_fail p n (k + 1) xs row at both.1 (same_number p k n row false fails))
+  -- a row that fails the test changes nothing
+  pub one_more : list_any p (take n (enumerate_from 0 rows)) ≡ false → p (n, row) ≡ false
+      → list_any p (take (n + 1) (enumerate_from 0 rows)) ≡ false
+  one_more before fails = list_any_more p (enumerate_from 0 rows) n (0, row) within ∙ rw (before, numbered) fails
 
--- a row that fails the test changes nothing
-pub one_more : (p : Test) (n : ℕ) (rows : List Row) (row : Row) → slice_get rows n ≡ Some row
-    → list_any p (take n (enumerate_from 0 rows)) ≡ false → p (n, row) ≡ false
-    → list_any p (take (n + 1) (enumerate_from 0 rows)) ≡ false
-one_more p n rows row at before fails =
-    let next : suc n ≡ n + 1 = omega arith in
-    let same : n ≡ 0 + n = omega arith in
-    subst (λ (m : ℕ). list_any p (take m (enumerate_from 0 rows)) ≡ false) next
-    (more_fail p n 0 rows row at before (subst (λ (m : ℕ). p (m, row) ≡ false) same fails))
-
-or_true : (a b : Bool) → b ≡ true → (a || b) ≡ true
-or_true true b e = refl
-or_true false b e = e
-
--- a row that passes it is found
-found : (p : Test) (n k : ℕ) (rows : List Row) (row : Row) → slice_get rows n ≡ Some row → p (k + n, row) ≡ true
-    → list_any p (enumerate_from k rows) ≡ true
-found p n k [] row at passes = absurd cc
-found p zero k (x ∷ xs) row at passes = rw (first_number p k x row true (same_Some x row at) passes) refl
-found p (suc n) k (x ∷ xs) row at passes =
-    or_true (p (k, x)) (list_any p (enumerate_from (k + 1) xs))
-    (found p n (k + 1) xs row at (same_number p k n row true passes))
-
--- a row that passes the test is found
-pub found_at : (p : Test) (n : ℕ) (rows : List Row) (row : Row) → slice_get rows n ≡ Some row → p (n, row) ≡ true
-    → list_any p (enumerate_from 0 rows) ≡ true
-found_at p n rows row at passes =
-    let same : n ≡ 0 + n = omega arith in
-    found p n 0 rows row at (subst (λ (m : ℕ). p (m, row) ≡ true) same passes)
+  -- a row that passes the test is found
+  pub found_at : p (n, row) ≡ true → list_any p (enumerate_from 0 rows) ≡ true
+  found_at passes = list_any_at p (enumerate_from 0 rows) n (0, row) within (numbered ∙ passes)
 
 -- where all rows were looked at none is left
 pub none_left : (p : Test) (n k : ℕ) (rows : List Row) → length rows ≤ n
     → list_any p (take n (enumerate_from k rows)) ≡ false → list_any p (enumerate_from k rows) ≡ false
-none_left p n k [] few none = refl
-none_left p zero k (x ∷ xs) few none = absurd (omega (arith, few))
-none_left p (suc n) k (x ∷ xs) few none =
-    let both = or_false (p (k, x)) (list_any p (take n (enumerate_from (k + 1) xs))) none in
-    rw both.0 (none_left p n (k + 1) xs (omega (arith, few)) both.1)
+none_left p n k rows few none =
+    let all = take_all n (enumerate_from k rows) (rw (length-enumerate_from k rows) few) in
+    ap (list_any p) (sym all) ∙ none
 
 -- a row where there is none
 abbrev pub some_row : Row

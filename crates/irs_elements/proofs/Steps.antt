@@ -1,7 +1,7 @@
 -- The first fault at each step of the walk.
 use Rattle.std.proofs.Common.{zero, suc, [], ◌∷◌}
 use Rattle.std.proofs.Common.{◌≡◌, ℕ, ◌+◌, ◌<◌, ◌≤◌, Bool, true, false, ◌⊎◌, inl, inr, List, length, map, Option, Some}
-use Rattle.std.proofs.Common.{None, is_none, min, option_map, nat_lt, refl, sym, ap, subst, ◌∙◌, arith}
+use Rattle.std.proofs.Common.{true≢false, None, is_none, min, option_map, nat_lt, refl, sym, ap, subst, ◌∙◌, arith}
 use Rattle.std.specs.Prelude.{slice_get}
 use Rattle.std.proofs.lemmas.Bool.Decides.{nat_tests}
 use Rattle.std.proofs.lemmas.Option.{same_Some, slice_get_within, slice_get-map}
@@ -49,31 +49,27 @@ pub choice_kept : (names : List (List ℕ)) (ch : Choice) (d : Data)
     → ((u : Unmet) → choice_unmet names ch d ≡ Some u → ⊥) → is_chosen names ch d ≡ true
 choice_kept names ch d h = chosen_by (choice_unmet names ch d) h
 
-no_own : (ch : Choice) (d : Data) (ns : List (List ℕ)) (k : Rule) → element_names d ≡ Some ns
-    → own_rule (Object ch) d ≡ Some k → ⊥
-no_own ch d ns k h e = let e' : own_rule (Object ch) d ≡ None = rw h refl in cc
-
-no_element : (k : Kind) → is_refused k ≡ true → is_element k ≡ false
-no_element (Object c) h = cc
-no_element (Leaf k) h = cc
-no_element Passed h = refl
-no_element Refused h = refl
+kept_in : (k : Kind) → is_element k ≡ true → is_refused k ≡ true → ⊥
+kept_in (Object c) e h = cc
+kept_in (Leaf k) e h = cc
+kept_in Passed e h = cc
+kept_in Refused e h = cc
 
 module _ (rows : List Row) (names : List (List ℕ)) (stream : ℕ) where
   -- the four ways in which an object breaks a rule
   abbrev Ways : ℕ → ℕ → Choice → Data → Broken → Type 0
   Ways r i ch d f =
       (((list_any (is_unknown rows names r) (names_among (element_names d)) ≡ true) × (f ≡ place rows stream K4 r i))
-      ⊎ ((u : Unmet) × ((choice_unmet names ch d ≡ Some u) × (f ≡ unmet_place rows stream r i u))))
-      ⊎ (((has_odd d ≡ true) × (f ≡ place rows stream K3 r i))
+      ⊎ ((has_odd d ≡ true) × (f ≡ place rows stream K3 r i)))
+      ⊎ (((u : Unmet) × ((choice_unmet names ch d ≡ Some u) × (f ≡ unmet_place rows stream r i u)))
       ⊎ ((lacks_href ch d ≡ true) × (f ≡ place rows stream K2 r i)))
 
   from_shape : (r i : ℕ) (ch : Choice) (d : Data) (f : Broken) → ShapeFault rows names stream r ch i d f
       → Ways r i ch d f
   from_shape r i ch d f (unknown _ _ _ _ ns e u) =
       inl (inl (ap (λ o. list_any (is_unknown rows names r) (names_among o)) e ∙ u, refl))
-  from_shape r i ch d f (unmet _ _ u _ _ e) = inl (inr (u, (e, refl)))
-  from_shape r i ch d f (odd _ _ _ _ e) = inr (inl (e, refl))
+  from_shape r i ch d f (odd _ _ _ _ e) = inl (inr (e, refl))
+  from_shape r i ch d f (unmet _ _ u _ _ e) = inr (inl (u, (e, refl)))
   from_shape r i ch d f (no_href _ _ _ _ e) = inr (inr (e, refl))
 
   -- a name of the list is a name of an object with that list
@@ -85,16 +81,16 @@ module _ (rows : List Row) (names : List (List ℕ)) (stream : ℕ) where
 
   to_shape : (r i : ℕ) (ch : Choice) (d : Data) (f : Broken) → Ways r i ch d f → ShapeFault rows names stream r ch i d f
   to_shape r i ch d f (inl (inl (u, is))) = rw is (unknown_of r i ch d (element_names d) refl u)
-  to_shape r i ch d f (inl (inr (u, (e, is)))) = rw is (unmet r i u ch d e)
-  to_shape r i ch d f (inr (inl (e, is))) = rw is (odd r i ch d e)
+  to_shape r i ch d f (inl (inr (e, is))) = rw is (odd r i ch d e)
+  to_shape r i ch d f (inr (inl (u, (e, is)))) = rw is (unmet r i u ch d e)
   to_shape r i ch d f (inr (inr (e, is))) = rw is (no_href r i ch d e)
 
   -- the first fault of an object beside those of its members
   abbrev pub shape_answer : ℕ → ℕ → Choice → Data → Option Broken
   shape_answer r i ch d =
       earlier_broken (earlier_broken (fault_if (list_any (is_unknown rows names r) (names_among (element_names d)))
-      (place rows stream K4 r i)) (option_map (unmet_place rows stream r i) (choice_unmet names ch d)))
-      (earlier_broken (fault_if (has_odd d) (place rows stream K3 r i))
+      (place rows stream K4 r i)) (fault_if (has_odd d) (place rows stream K3 r i)))
+      (earlier_broken (option_map (unmet_place rows stream r i) (choice_unmet names ch d))
       (fault_if (lacks_href ch d) (place rows stream K2 r i)))
 
   -- that answer is the first fault of the object's shape
@@ -105,8 +101,8 @@ module _ (rows : List Row) (names : List (List ℕ)) (stream : ℕ) where
       (first_or _ _ _ _
       (first_or _ _ _ _ (first_if (place rows stream K4 r i)
       (list_any (is_unknown rows names r) (names_among (element_names d))))
-      (first_of_rule (unmet_place rows stream r i) (choice_unmet names ch d)))
-      (first_or _ _ _ _ (first_if (place rows stream K3 r i) (has_odd d))
+      (first_if (place rows stream K3 r i) (has_odd d)))
+      (first_or _ _ _ _ (first_of_rule (unmet_place rows stream r i) (choice_unmet names ch d))
       (first_if (place rows stream K2 r i) (lacks_href ch d))))
 
   -- ---- a value by itself
@@ -118,25 +114,21 @@ module _ (rows : List Row) (names : List (List ℕ)) (stream : ℕ) where
   from_own r i kind d h f (shape _ _ ch _ ns _ e s) = let e' = h ch refl in cc
   from_own r i kind d h f (under _ _ c ch _ ns _ row e m u) = let e' = h ch refl in cc
 
-  to_own : (r i : ℕ) (kind : Kind) (d : Data) (f : Broken)
-      → (k : Rule) × ((own_rule kind d ≡ Some k) × (f ≡ place rows stream k r i))
-      → FaultAt rows names stream r kind i d f
-  to_own r i kind d f (k, (e, is)) = rw is (own r i k kind d e)
-
   -- a value that is no object or is not to be one
-  pub own_first : (r i : ℕ) (kind : Kind) (d : Data) → ((ch : Choice) → kind ≡ Object ch → element_names d ≡ None)
-      → IsFirstBroken (FaultAt rows names stream r kind i d)
-      (option_map (λ k. place rows stream k r i) (own_rule kind d))
-  own_first r i kind d h =
-      first_same _ _ _ (to_own r i kind d) (from_own r i kind d h)
-      (first_of_rule (λ k. place rows stream k r i) (own_rule kind d))
+  pub own_first : (r i : ℕ) (kind : Kind) (d : Data) (a : Option Broken)
+      → a ≡ option_map (λ k. place rows stream k r i) (own_rule kind d)
+      → ((ch : Choice) → kind ≡ Object ch → element_names d ≡ None) → IsFirstBroken (FaultAt rows names stream r kind i d) a
+  own_first r i kind d a is h =
+      first_is _ _ a is
+      (first_same _ _ _ (λ f (k, (e, at)). rw at (own r i k kind d e)) (from_own r i kind d h)
+      (first_of_rule (λ k. place rows stream k r i) (own_rule kind d)))
 
   -- ---- an object
 
   from_object : (r i : ℕ) (ch : Choice) (d : Data) (ns : List (List ℕ)) → element_names d ≡ Some ns → (f : Broken)
       → FaultAt rows names stream r (Object ch) i d f
       → ShapeFault rows names stream r ch i d f ⊎ MemberFault rows names stream r i d f
-  from_object r i ch d ns h f (own _ _ k _ _ e) = absurd (no_own ch d ns k h e)
+  from_object r i ch d ns h f (own _ _ k _ _ e) = let e' : own_rule (Object ch) d ≡ None = rw h refl in cc
   from_object r i ch d ns h f (shape _ _ _ _ ms _ e s) = inl s
   from_object r i ch d ns h f (under _ _ c _ _ ms _ row e m u) = inr (c, (row, (m, u)))
 
@@ -164,9 +156,6 @@ module _ (rows : List Row) (names : List (List ℕ)) (stream : ℕ) where
   pub none_before : (r i : ℕ) (d : Data) → IsFirstBroken (Below (RowFault r i d) r) None
   none_before r i d = λ f (c, (h, (row, (m, u)))). absurd (omega (arith, h, m.later))
 
-  to_members : (r i n : ℕ) (d : Data) (f : Broken) → Below (RowFault r i d) n f → MemberFault rows names stream r i d f
-  to_members r i n d f (c, (h, (row, (m, u)))) = (c, (row, (m, u)))
-
   -- each member of row r is before row n
   abbrev pub AreBefore : ℕ → ℕ → Type 0
   AreBefore r n = (c : ℕ) (row : Row) → IsMemberRow rows names r c row → c < n
@@ -179,119 +168,86 @@ module _ (rows : List Row) (names : List (List ℕ)) (stream : ℕ) where
       let before : c < end_at (length rows) ends r = rw (sym m.parent) (hold c row m.found) in
       grind (arith, within, before, past)
 
-  from_members : (r i n : ℕ) (d : Data) → AreBefore r n → (f : Broken) → MemberFault rows names stream r i d f
-      → Below (RowFault r i d) n f
-  from_members r i n d before f (c, (row, (m, u))) = (c, (before c row m, (row, (m, u))))
-
   -- the first fault of all rows is that of the members
   pub members_first : (r i n : ℕ) (d : Data) (a : Option Broken) → AreBefore r n
       → IsFirstBroken (Below (RowFault r i d) n) a
       → IsFirstBroken (MemberFault rows names stream r i d) a
-  members_first r i n d a before p = first_same _ _ _ (to_members r i n d) (from_members r i n d before) p
+  members_first r i n d a before p =
+      first_same _ _ _ (λ f (c, (h, u)). (c, u)) (λ f (c, (row, (m, u))). (c, (before c row m, (row, (m, u))))) p
 
   one_row : (c : ℕ) (row row' : Row) → slice_get rows c ≡ Some row → slice_get rows c ≡ Some row' → row ≡ row'
   one_row c row row' p q = cc
 
-  from_row : (r i c : ℕ) (d : Data) (row : Row) → IsMemberRow rows names r c row → (f : Broken) → RowFault r i d c f
+  from_row : (r i c : ℕ) (d : Data) (row : Row) → slice_get rows c ≡ Some row → (f : Broken) → RowFault r i d c f
       → FaultUnder rows names stream c row i d f
-  from_row r i c d row m f (row', (m', u)) =
-      subst (λ (x : Row). FaultUnder rows names stream c x i d f) (one_row c row' row m'.found m.found) u
-
-  -- the first fault under a row is that of the row
-  pub row_first : (r i c : ℕ) (d : Data) (row : Row) (a : Option Broken) → IsMemberRow rows names r c row
-      → IsFirstBroken (FaultUnder rows names stream c row i d) a → IsFirstBroken (RowFault r i d c) a
-  row_first r i c d row a m p = first_same _ _ _ (λ f u. (row, (m, u))) (from_row r i c d row m) p
+  from_row r i c d row found f (row', (m, u)) =
+      subst (λ (x : Row). FaultUnder rows names stream c x i d f) (one_row c row' row m.found found) u
 
   -- ---- a member
+
+  -- what is wrong with a member, where its value is the one given
+  abbrev IsUnder : ℕ → ℕ → Row → Option Data → Broken → Type 0
+  IsUnder c i row None f =
+      (is_element row.kind ≡ true) × (is_required row.count ≡ true) × (f ≡ place rows stream K2 c (absent_index row.count i))
+  IsUnder c i row (Some m) f =
+      ((is_refused row.kind ≡ true) × (f ≡ place rows stream K5 row.parent i))
+      ⊎ (((is_element row.kind ≡ true) × (most row.count < length (items_of m)) × (f ≡ place rows stream K7 c 0))
+      ⊎ ((is_element row.kind ≡ true) × (length (items_of m) ≤ most row.count)
+      × FaultAmong rows names stream c row.kind (index_in row.count i) (items_of m) f))
+
+  by_child : (c i : ℕ) (row : Row) (d : Data) (f : Broken) → FaultUnder rows names stream c row i d f
+      → IsUnder c i row (child_of (name_at names c) d) f
+  by_child c i row d f (missing _ _ _ _ el rq h) = rw h (el, rq, refl)
+  by_child c i row d f (refused _ _ _ _ m rf h) = rw h (inl (rf, refl))
+  by_child c i row d f (too_many _ _ _ _ m el h t) = rw h (inr (inl (el, t, refl)))
+  by_child c i row d f (inside _ _ j _ _ m x _ el h le at q) = rw h (inr (inr (el, le, (j, (x, (at, q))))))
+
+  is_under : (c i : ℕ) (row : Row) (d : Data) (o : Option Data) → child_of (name_at names c) d ≡ o → (f : Broken)
+      → FaultUnder rows names stream c row i d f → IsUnder c i row o f
+  is_under c i row d o h f u = subst (λ (m : Option Data). IsUnder c i row m f) h (by_child c i row d f u)
 
   -- a member that must occur and is absent breaks K2
   pub under_missing : (c i : ℕ) (row : Row) (d : Data) → is_element row.kind ≡ true → is_required row.count ≡ true
       → child_of (name_at names c) d ≡ None
       → IsFirstBroken (FaultUnder rows names stream c row i d)
       (Some (place rows stream K2 c (absent_index row.count i)))
-  under_missing c i row d el rq ab = first_one _ _ (missing c i row d el rq ab) (only c i row d ab)
-    where
-      only : (c i : ℕ) (row : Row) (d : Data) → child_of (name_at names c) d ≡ None → (g : Broken)
-          → FaultUnder rows names stream c row i d g → g ≡ place rows stream K2 c (absent_index row.count i)
-      only c i row d ab g (missing _ _ _ _ el rq h) = refl
-      only c i row d ab g (refused _ _ _ _ m rf h) = cc
-      only c i row d ab g (too_many _ _ _ _ m el h t) = cc
-      only c i row d ab g (inside _ _ j _ _ m x _ el h le at f) = cc
-
-  -- a member that may be absent, and is, breaks nothing
-  pub under_absent : (c i : ℕ) (row : Row) (d : Data)
-      → ((is_element row.kind ≡ true) → is_required row.count ≡ true → ⊥) → child_of (name_at names c) d ≡ None
-      → IsFirstBroken (FaultUnder rows names stream c row i d) None
-  under_absent c i row d free ab = none c i row d free ab
-    where
-      none : (c i : ℕ) (row : Row) (d : Data) → ((is_element row.kind ≡ true) → is_required row.count ≡ true → ⊥)
-          → child_of (name_at names c) d ≡ None → (g : Broken) → FaultUnder rows names stream c row i d g → ⊥
-      none c i row d free ab g (missing _ _ _ _ el rq h) = free el rq
-      none c i row d free ab g (refused _ _ _ _ m rf h) = cc
-      none c i row d free ab g (too_many _ _ _ _ m el h t) = cc
-      none c i row d free ab g (inside _ _ j _ _ m x _ el h le at f) = cc
+  under_missing c i row d el rq h =
+      first_one _ _ (missing c i row d el rq h) (λ f u. (is_under c i row d None h f u).2)
 
   -- a member that is out of the profile breaks K5
-  pub under_refused : (c i : ℕ) (row : Row) (d m : Data) → is_refused row.kind ≡ true
-      → child_of (name_at names c) d ≡ Some m
+  pub under_refused : (c i : ℕ) (row : Row) (d m : Data) → row.kind ≡ Refused → child_of (name_at names c) d ≡ Some m
       → IsFirstBroken (FaultUnder rows names stream c row i d) (Some (place rows stream K5 row.parent i))
-  under_refused c i row d m rf h =
-      first_one _ _ (refused c i row d m rf h) (only c i row d m (no_element row.kind rf) h)
-    where
-      only : (c i : ℕ) (row : Row) (d m : Data) → is_element row.kind ≡ false → child_of (name_at names c) d ≡ Some m
-          → (g : Broken) → FaultUnder rows names stream c row i d g → g ≡ place rows stream K5 row.parent i
-      only c i row d m nel ab g (missing _ _ _ _ el rq h) = cc
-      only c i row d m nel ab g (refused _ _ _ _ m' rf h) = refl
-      only c i row d m nel ab g (too_many _ _ _ _ m' el h t) = cc
-      only c i row d m nel ab g (inside _ _ j _ _ m' x _ el h le at f) = cc
-
-  -- a member that is passed over breaks nothing
-  pub under_passed : (c i : ℕ) (row : Row) (d : Data) → is_element row.kind ≡ false → is_refused row.kind ≡ false
-      → IsFirstBroken (FaultUnder rows names stream c row i d) None
-  under_passed c i row d nel nrf = none c i row d nel nrf
-    where
-      none : (c i : ℕ) (row : Row) (d : Data) → is_element row.kind ≡ false → is_refused row.kind ≡ false → (g : Broken)
-          → FaultUnder rows names stream c row i d g → ⊥
-      none c i row d nel nrf g (missing _ _ _ _ el rq h) = cc
-      none c i row d nel nrf g (refused _ _ _ _ m' rf h) = cc
-      none c i row d nel nrf g (too_many _ _ _ _ m' el h t) = cc
-      none c i row d nel nrf g (inside _ _ j _ _ m' x _ el h le at f) = cc
+  under_refused c i row d m is h =
+      let out : is_element row.kind ≡ false = rw is refl in
+      first_one _ _ (refused c i row d m (rw is refl) h) (λ f u. elim (is_under c i row d (Some m) h f u) [
+        | inl x ↦ x.1
+        | inr (inl x) ↦ absurd (true≢false (sym x.0 ∙ out))
+        | inr (inr x) ↦ absurd (true≢false (sym x.0 ∙ out))
+      ])
 
   -- a member that occurs too often breaks K7
-  pub under_many : (c i : ℕ) (row : Row) (d m : Data) → is_element row.kind ≡ true → is_refused row.kind ≡ false
-      → child_of (name_at names c) d ≡ Some m
+  pub under_many : (c i : ℕ) (row : Row) (d m : Data) → is_element row.kind ≡ true → child_of (name_at names c) d ≡ Some m
       → most row.count < length (items_of m)
       → IsFirstBroken (FaultUnder rows names stream c row i d) (Some (place rows stream K7 c 0))
-  under_many c i row d m el nrf h t = first_one _ _ (too_many c i row d m el h t) (only c i row d m nrf h t)
-    where
-      only : (c i : ℕ) (row : Row) (d m : Data) → is_refused row.kind ≡ false → child_of (name_at names c) d ≡ Some m
-          → most row.count < length (items_of m)
-          → (g : Broken) → FaultUnder rows names stream c row i d g → g ≡ place rows stream K7 c 0
-      only c i row d m nrf h t g (missing _ _ _ _ el rq h') = cc
-      only c i row d m nrf h t g (refused _ _ _ _ m' rf h') = cc
-      only c i row d m nrf h t g (too_many _ _ _ _ m' el h' t') = refl
-      only c i row d m nrf h t g (inside _ _ j _ _ m' x _ el h' le at f) = let same : m' ≡ m = cc in
-          let le' : length (items_of m) ≤ most row.count = rw (sym same) le in absurd (omega arith)
+  under_many c i row d m el h t =
+      first_one _ _ (too_many c i row d m el h t) (λ f u. elim (is_under c i row d (Some m) h f u) [
+        | inl x ↦ absurd (kept_in row.kind el x.0)
+        | inr (inl x) ↦ x.2
+        | inr (inr x) ↦ absurd (omega (arith, t, x.1))
+      ])
 
   -- a member that occurs as often as it may breaks what its values break
   pub under_lawful : (c i : ℕ) (row : Row) (d m : Data) (a : Option Broken) → is_element row.kind ≡ true
-      → is_refused row.kind ≡ false → child_of (name_at names c) d ≡ Some m
-      → length (items_of m) ≤ most row.count
+      → child_of (name_at names c) d ≡ Some m → length (items_of m) ≤ most row.count
       → IsFirstBroken (FaultAmong rows names stream c row.kind (index_in row.count i) (items_of m)) a
       → IsFirstBroken (FaultUnder rows names stream c row i d) a
-  under_lawful c i row d m a el nrf h le p =
-      first_same _ _ a (λ f (j, (x, (at, f'))). inside c i j row d m x f el h le at f') (inner c i row d m nrf h le) p
-    where
-      inner : (c i : ℕ) (row : Row) (d m : Data) → is_refused row.kind ≡ false → child_of (name_at names c) d ≡ Some m
-          → length (items_of m) ≤ most row.count
-          → (g : Broken) → FaultUnder rows names stream c row i d g
-          → FaultAmong rows names stream c row.kind (index_in row.count i) (items_of m) g
-      inner c i row d m nrf h le g (missing _ _ _ _ el rq h') = cc
-      inner c i row d m nrf h le g (refused _ _ _ _ m' rf h') = cc
-      inner c i row d m nrf h le g (too_many _ _ _ _ m' el h' t') = let same : m' ≡ m = cc in
-          let t : most row.count < length (items_of m) = rw (sym same) t' in absurd (omega arith)
-      inner c i row d m nrf h le g (inside _ _ j _ _ m' x _ el h' le' at f) = let same : items_of m' ≡ items_of m =
-          cc in (j, (x, (rw (sym same) at, f)))
+  under_lawful c i row d m a el h le p =
+      first_same _ _ a (λ f (j, (x, (at, q))). inside c i j row d m x f el h le at q)
+      (λ f u. elim (is_under c i row d (Some m) h f u) [
+        | inl x ↦ absurd (kept_in row.kind el x.0)
+        | inr (inl x) ↦ absurd (omega (arith, le, x.1))
+        | inr (inr x) ↦ x.2
+      ]) p
 
   -- ---- the values of a member
 
@@ -307,14 +263,6 @@ module _ (rows : List Row) (names : List (List ℕ)) (stream : ℕ) where
       first_same _ _ a (λ f (j, (h, (x, (e, f')))). (j, (x, (e, f'))))
       (λ f (j, (x, (e, f'))). (j, (slice_get_within ds j x e, (x, (e, f'))))) p
 
-  -- the first fault of a value is that of its place
-  pub item_first : (c : ℕ) (kind : Kind) (at : ℕ → ℕ) (j : ℕ) (ds : List Data) (x : Data) (a : Option Broken)
-      → slice_get ds j ≡ Some x
-      → IsFirstBroken (FaultAt rows names stream c kind (at j) x) a → IsFirstBroken (ItemFault c kind at ds j) a
-  item_first c kind at j ds x a e p =
-      first_same _ _ a (λ f f'. (x, (e, f'))) (λ f (y, (e', f')). let same : y ≡ x = cc in
-      subst (λ (z : Data). FaultAt rows names stream c kind (at j) z f) same f') p
-
   -- ---- steps of the two loops
 
   -- with one member more the first fault is the earlier of two
@@ -323,8 +271,9 @@ module _ (rows : List Row) (names : List (List ℕ)) (stream : ℕ) where
       → s ≡ earlier_broken a b → IsFirstBroken (Below (RowFault r i d) c) a
       → IsFirstBroken (FaultUnder rows names stream c row i d) b → IsFirstBroken (Below (RowFault r i d) (c + 1)) s
   member_step r i c d row a b s found up later e p q =
+      let member : IsMemberRow rows names r c row = record { found = found; parent = up; later = later } in
       first_is _ _ s e (first_more (RowFault r i d) c a b p
-      (row_first r i c d row b (record { found = found; parent = up; later = later }) q))
+      (first_same _ _ _ (λ f u. (row, (member, u))) (from_row r i c d row found) q))
 
   -- a row that is no member changes nothing
   pub other_step : (r i c : ℕ) (d : Data) (row : Row) (a s : Option Broken) → slice_get rows c ≡ Some row
@@ -334,62 +283,47 @@ module _ (rows : List Row) (names : List (List ℕ)) (stream : ℕ) where
       first_is _ _ s e (first_skip (RowFault r i d) c a p (λ f (row', (m, u)). let same : row' ≡ row =
       one_row c row' row m.found found in apart (rw (sym same) m.parent) m.later))
 
-  -- a leaf that occurs once and breaks no rule
-  no_own_rule : (o : Option Rule) (k : Rule) → is_none o ≡ true → o ≡ Some k → ⊥
-  no_own_rule None k none e = cc
-  no_own_rule (Some x) k none e = cc
+  -- what stands alone and breaks no rule
+  one_right : (k : LeafKind) (ds : List Data) → are_one_right k ds ≡ true
+      → (x : Data) × ((ds ≡ x ∷ []) × (is_none (own_rule (Leaf k) x) ≡ true))
+  one_right k [] right = absurd cc
+  one_right k (x ∷ []) right = (x, (refl, right))
+  one_right k (x ∷ y ∷ ds) right = absurd cc
 
-  leaf_alone : (c i j : ℕ) (k : LeafKind) (ds : List Data) (x : Data) (f : Broken) → are_one_right k ds ≡ true
-      → slice_get ds j ≡ Some x → FaultAt rows names stream c (Leaf k) i x f → ⊥
-  leaf_alone c i j k [] x f right at q = absurd cc
-  leaf_alone c i j k (d ∷ e ∷ ds) x f right at q = absurd cc
-  leaf_alone c i zero k (d ∷ []) x f right at (own _ _ rule _ _ e) =
-      let same : d ≡ x = same_Some d x at in no_own_rule (own_rule (Leaf k) x) rule (rw (sym same) right) e
-  leaf_alone c i (suc j) k (d ∷ []) x f right at q = absurd cc
+  -- a right member is a leaf, and has one value
+  right_leaf : (k : Kind) (o : Option Data) → is_right k o ≡ true
+      → (l : LeafKind) × ((m : Data) × ((k ≡ Leaf l) × (o ≡ Some m) × (are_one_right l (items_of m) ≡ true)))
+  right_leaf (Object c) o right = absurd cc
+  right_leaf (Leaf l) None right = absurd cc
+  right_leaf (Leaf l) (Some m) right = (l, (m, (refl, refl, right)))
+  right_leaf Passed o right = absurd cc
+  right_leaf Refused o right = absurd cc
 
-  one_alone : (k : LeafKind) (ds : List Data) → are_one_right k ds ≡ true → length ds ≡ 1
-  one_alone k [] right = absurd cc
-  one_alone k (d ∷ []) right = refl
-  one_alone k (d ∷ e ∷ ds) right = absurd cc
+  none_of : (o : Option Rule) (k : Rule) → is_none o ≡ true → o ≡ Some k → ⊥
+  none_of None k none e = cc
+  none_of (Some x) k none e = cc
 
-  never_absent : (k : Kind) (m : Option Data) → is_right k m ≡ true → m ≡ None → ⊥
-  never_absent (Object c) m right e = cc
-  never_absent (Leaf k) None right e = cc
-  never_absent (Leaf k) (Some m) right e = cc
-  never_absent Passed m right e = cc
-  never_absent Refused m right e = cc
-
-  never_refused : (k : Kind) (m : Option Data) → is_right k m ≡ true → is_refused k ≡ true → ⊥
-  never_refused (Object c) m right e = cc
-  never_refused (Leaf k) m right e = cc
-  never_refused Passed m right e = cc
-  never_refused Refused m right e = cc
-
-  stands_once : (k : Kind) (m : Data) → is_right k (Some m) ≡ true → length (items_of m) ≡ 1
-  stands_once (Object c) m right = absurd cc
-  stands_once (Leaf k) m right = one_alone k (items_of m) right
-  stands_once Passed m right = absurd cc
-  stands_once Refused m right = absurd cc
-
-  right_inside : (c i j : ℕ) (k : Kind) (m x : Data) (f : Broken) → is_right k (Some m) ≡ true
-      → slice_get (items_of m) j ≡ Some x → FaultAt rows names stream c k i x f → ⊥
-  right_inside c i j (Object ch) m x f right at q = absurd cc
-  right_inside c i j (Leaf k) m x f right at q = leaf_alone c i j k (items_of m) x f right at q
-  right_inside c i j Passed m x f right at q = absurd cc
-  right_inside c i j Refused m x f right at q = absurd cc
-
-  some_most : (n : ℕ) → nat_lt 0 n ≡ true → 0 < n
-  some_most n e = grind (arith, nat_tests)
+  none_among : (c : ℕ) (l : LeafKind) (at : ℕ → ℕ) (x : Data) (f : Broken) → is_none (own_rule (Leaf l) x) ≡ true
+      → FaultAmong rows names stream c (Leaf l) at (x ∷ []) f → ⊥
+  none_among c l at x f right (zero, (y, (e, own _ _ k _ _ is))) =
+      let same : x ≡ y = same_Some x y e in none_of (own_rule (Leaf l) y) k (rw (sym same) right) is
+  none_among c l at x f right (suc j, (y, (e, q))) = absurd cc
 
   -- no rule is broken under the row of such a leaf
   none_under : (c i : ℕ) (row : Row) (d : Data) (f : Broken) → 0 < most row.count
       → is_right row.kind (child_of (name_at names c) d) ≡ true → FaultUnder rows names stream c row i d f → ⊥
-  none_under c i row d f some right (missing _ _ _ _ el rq h) = never_absent row.kind _ right h
-  none_under c i row d f some right (refused _ _ _ _ m rf h) = never_refused row.kind _ right rf
-  none_under c i row d f some right (too_many _ _ _ _ m el h t) =
-      let once : length (items_of m) ≡ 1 = stands_once row.kind m (rw (sym h) right) in absurd (omega (arith, some, t, once))
-  none_under c i row d f some right (inside _ _ j _ _ m x _ el h le at q) =
-      right_inside c _ j row.kind m x f (rw (sym h) right) at q
+  none_under c i row d f some right u =
+      let (l, (m, (kind, found, alone))) = right_leaf row.kind (child_of (name_at names c) d) right in
+      let (x, (one, rule)) = one_right l (items_of m) alone in
+      let kept : is_refused row.kind ≡ false = rw kind refl in
+      elim (is_under c i row d (Some m) found f u) [
+        | inl y ↦ true≢false (sym y.0 ∙ kept)
+        | inr (inl y) ↦ absurd (omega (arith, some, y.1, ap length one))
+        | inr (inr y) ↦
+            none_among c l (index_in row.count i) x f rule
+            (subst (λ (ds : List Data). FaultAmong rows names stream c (Leaf l) (index_in row.count i) ds f) one
+            (subst (λ (k : Kind). FaultAmong rows names stream c k (index_in row.count i) (items_of m) f) kind y.2))
+      ]
 
   -- a member that is such a leaf changes nothing
   pub right_step : (r i c : ℕ) (d : Data) (row : Row) (a s : Option Broken) → slice_get rows c ≡ Some row
@@ -397,12 +331,9 @@ module _ (rows : List Row) (names : List (List ℕ)) (stream : ℕ) where
       → s ≡ a → IsFirstBroken (Below (RowFault r i d) c) a → IsFirstBroken (Below (RowFault r i d) (c + 1)) s
   right_step r i c d row a s found right e p =
       let both = both_true (nat_lt 0 (most row.count)) (is_right row.kind (child_of (name_at names c) d)) right in
-      first_is _ _ s e (first_skip (RowFault r i d) c a p (λ f (row', (m, u)).
-      none_under c i row d f (some_most (most row.count) both.0) both.1 (from_row r i c d row (record {
-        found = found;
-        parent = let same : row' ≡ row = one_row c row' row m.found found in rw (sym same) m.parent;
-        later = m.later;
-      }) f (row', (m, u)))))
+      let some : 0 < most row.count = grind (arith, nat_tests, both.0) in
+      first_is _ _ s e (first_skip (RowFault r i d) c a p (λ f u.
+      none_under c i row d f some both.1 (from_row r i c d row found f u)))
 
   -- with one value more the first fault is the earlier of two
   pub item_step : (c : ℕ) (kind : Kind) (at : ℕ → ℕ) (j i : ℕ) (vs : List Value) (v : Value) (a b s : Option Broken)
@@ -412,6 +343,6 @@ module _ (rows : List Row) (names : List (List ℕ)) (stream : ℕ) where
       → IsFirstBroken (Below (ItemFault c kind at (map view vs)) (j + 1)) s
   item_step c kind at j i vs v a b s found place e p q =
       let seen : slice_get (map view vs) j ≡ Some (view v) = slice_get-map view vs j ∙ ap (option_map view) found in
-      let q' : IsFirstBroken (FaultAt rows names stream c kind (at j) (view v)) b = rw (sym place) q in
       first_is _ _ s e (first_more (ItemFault c kind at (map view vs)) j a b p
-      (item_first c kind at j (map view vs) (view v) b seen q'))
+      (first_same _ _ b (λ f u. (view v, (seen, u))) (λ f (y, (e', u)). let same : y ≡ view v = cc in
+      subst (λ (z : Data). FaultAt rows names stream c kind (at j) z f) same u) (rw (sym place) q)))

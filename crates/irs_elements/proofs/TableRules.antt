@@ -2,19 +2,19 @@
 use Rattle.irs_base.specs.declared.places.Broken.{Broken}
 use Rattle.irs_base.specs.declared.places.Rule.{Rule}
 use Rattle.irs_base.specs.declared.places.Rule.TheVariants.{K3, K5, K6}
-use Rattle.irs_elements.specs.Elements.{FaultAt, FaultUnder, ShapeFault, inside, missing, no_href, odd, own, own_rule}
-use Rattle.irs_elements.specs.Elements.{refused, shape, too_many, under, unknown, unmet}
+use Rattle.irs_elements.specs.Elements.{FaultAt, FaultUnder, ShapeFault, inside, own, own_rule}
+use Rattle.irs_elements.specs.Elements.{shape, under, unmet}
 use Rattle.irs_elements.specs.Private.Walk.{IsOfTables}
 use Rattle.irs_elements.specs.Leaves.{has_value, leaf_rule, out_of_profile, text_of_leaf, text_rule}
 use Rattle.irs_elements.specs.declared.table.Choice.{Choice}
 use Rattle.irs_elements.specs.declared.table.Kind.{Kind}
-use Rattle.irs_elements.specs.declared.table.Kind.TheVariants.{Object, Leaf, Passed, Refused}
+use Rattle.irs_elements.specs.declared.table.Kind.TheVariants.{Object, Leaf}
 use Rattle.irs_elements.specs.declared.table.Leaf.{Leaf as LeafKind}
 use Rattle.irs_elements.specs.declared.table.Row.{Row}
 use Rattle.irs_elements.specs.declared.walk.Unmet.TheVariants.{Both, Neither}
 use Rattle.irs_json.specs.Leaves.{Leaf as LeafSaid, leaf_of, element_names}
 use Rattle.serde_json.specs.Data.{Data}
-use Rattle.std.proofs.Common.{◌≡◌, ℕ, Bool, true, false, List, Option, Some, None, if◌then◌else◌, subst}
+use Rattle.std.proofs.Common.{ℕ, Bool, true, false, List, Option, Some, None, if◌then◌else◌, subst}
 use Rattle.std.specs.List.{list_any}
 use Rattle.std.specs.Prelude.{is_some}
 use Rattle.std.specs.Str.{bytes_eq}
@@ -26,13 +26,10 @@ Told (Some k) = IsOfTables k
 
 -- ---- the rules that a value breaks by itself
 
-by_profile : (b : Bool) → Told (if b then Some K5 else Some K6)
-by_profile true = tt
-by_profile false = tt
-
 by_value : (b c : Bool) → Told (if b then None else (if c then Some K5 else Some K6))
 by_value true c = tt
-by_value false c = by_profile c
+by_value false true = tt
+by_value false false = tt
 
 of_text : (k : LeafKind) (s : List ℕ) → Told (text_rule k s)
 unfolding text_rule
@@ -49,34 +46,26 @@ by_object false = tt
 of_own : (kind : Kind) (d : Data) → Told (own_rule kind d)
 of_own (Object choice) d = by_object (is_some (element_names d))
 of_own (Leaf k) d = of_leaf k (leaf_of d)
-of_own Passed d = tt
-of_own Refused d = tt
-
-told : (o : Option Rule) (k : Rule) → o ≡ Some k → Told o → IsOfTables k
-told o k e h = subst (λ (x : Option Rule). Told x) e h
+of_own _ d = tt
 
 -- ---- those of a table
 
 module _ (rows : List Row) (names : List (List ℕ)) (stream : ℕ) where
   of_shape : (r i : ℕ) (choice : Choice) (d : Data) (f : Broken) → ShapeFault rows names stream r choice i d f
       → IsOfTables f.rule
-  of_shape r i choice d f (unknown _ _ _ _ ns e u) = tt
-  of_shape r i choice d f (odd _ _ _ _ e) = tt
-  of_shape r i choice d f (no_href _ _ _ _ e) = tt
   of_shape r i choice d f (unmet _ _ Both _ _ e) = tt
   of_shape r i choice d f (unmet _ _ Neither _ _ e) = tt
+  of_shape r i choice d f _ = tt
 
   mutual
     -- each rule that a value breaks is one of the tables
     pub of_table : (r i : ℕ) (kind : Kind) (d : Data) (f : Broken) → FaultAt rows names stream r kind i d f
         → IsOfTables f.rule
-    of_table r i kind d f (own _ _ k _ _ e) = told (own_rule kind d) k e (of_own kind d)
+    of_table r i kind d f (own _ _ k _ _ e) = subst Told e (of_own kind d)
     of_table r i kind d f (shape _ _ choice _ ns _ e s) = of_shape r i choice d f s
     of_table r i kind d f (under _ _ c choice _ ns _ row e m u) = of_member c i row d f u
 
     of_member : (c i : ℕ) (row : Row) (d : Data) (f : Broken) → FaultUnder rows names stream c row i d f
         → IsOfTables f.rule
-    of_member c i row d f (missing _ _ _ _ el rq h) = tt
-    of_member c i row d f (refused _ _ _ _ m el h) = tt
-    of_member c i row d f (too_many _ _ _ _ m el h lt) = tt
     of_member c i row d f (inside _ _ j _ _ m x _ el h le at g) = of_table c _ _ x f g
+    of_member c i row d f _ = tt

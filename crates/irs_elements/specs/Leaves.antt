@@ -10,18 +10,10 @@ use Rattle.irs_base.specs.declared.places.Rule.{Rule}
 use Rattle.irs_base.specs.declared.places.Rule.TheVariants.{K3, K5, K6}
 use Rattle.irs_terms.specs.declared.currency.Currency.{Currency}
 use Rattle.irs_json.specs.Leaves.{Leaf, word, whole, truth}
-use Rattle.irs_elements.specs.Codes.{calculation_method_at, compounding_at, convention_at, day_count_at, day_kind_at}
-use Rattle.irs_elements.specs.Codes.{direction_at, offset_unit_at, relative_at, roll_at, stub_kind_at, tenor_unit_at}
-use Rattle.irs_elements.specs.Codes.{treatment_at, truth_at, period_unit_at}
-use Rattle.irs_elements.specs.Numbers.{fraction_at, amount_at, multiplier_at, notional_at, observation_days_at}
-use Rattle.irs_elements.specs.Numbers.{offset_at, precision_at, leaf_rate_at, whole_at}
+use Rattle.irs_elements.specs.Codes
+use Rattle.irs_elements.specs.Numbers
 use Rattle.irs_elements.specs.declared.table.Leaf.{Leaf as LeafKind}
-use Rattle.irs_elements.specs.declared.table.Leaf.TheVariants.{Date, Multiplier, OffsetDays, Precision, Whole, Notional}
-use Rattle.irs_elements.specs.declared.table.Leaf.TheVariants.{Rate, Amount, Fraction, Truth, CenterName, IndexName}
-use Rattle.irs_elements.specs.declared.table.Leaf.TheVariants.{CurrencyName, Convention, PeriodUnit, TenorUnit}
-use Rattle.irs_elements.specs.declared.table.Leaf.TheVariants.{OffsetUnit, DayType, StubType, Roll, PayRelative}
-use Rattle.irs_elements.specs.declared.table.Leaf.TheVariants.{ResetRelative, DayCount, Compounding, Treatment}
-use Rattle.irs_elements.specs.declared.table.Leaf.TheVariants.{Direction, ObservationDays, CalculationMethod}
+use Rattle.irs_elements.specs.declared.table.Leaf.TheVariants as kind
 
 -- ---- texts that are kept as they are
 
@@ -73,44 +65,45 @@ text_of_leaf (truth b) = if b then codes "true" else codes "false"
 
 -- whether the text is in the grammar and the range of its kind
 abbrev pub has_value : LeafKind → List ℕ → Bool
-has_value Date s = is_some (leaf_date_at s)
-has_value Multiplier s = is_some (multiplier_at s)
-has_value OffsetDays s = is_some (offset_at s)
-has_value ObservationDays s = is_some (observation_days_at s)
-has_value Precision s = is_some (precision_at s)
-has_value Whole s = is_some (whole_at s)
-has_value Notional s = is_some (notional_at s)
-has_value Rate s = is_some (leaf_rate_at s)
-has_value Amount s = is_some (amount_at s)
-has_value Fraction s = is_some (fraction_at s)
-has_value Truth s = is_some (truth_at s)
-has_value CenterName s = is_center_name s
-has_value IndexName s = is_index_name s
-has_value CurrencyName s = is_some (currency_at s)
-has_value Convention s = is_some (convention_at s)
-has_value PeriodUnit s = is_some (period_unit_at s)
-has_value TenorUnit s = is_some (tenor_unit_at s)
-has_value OffsetUnit s = is_some (offset_unit_at s)
-has_value DayType s = is_some (day_kind_at s)
-has_value StubType s = is_some (stub_kind_at s)
-has_value Roll s = is_some (roll_at s)
-has_value PayRelative s = is_some (relative_at s)
-has_value ResetRelative s = is_some (relative_at s)
-has_value DayCount s = is_some (day_count_at s)
-has_value Compounding s = is_some (compounding_at s)
-has_value CalculationMethod s = is_some (calculation_method_at s)
-has_value Treatment s = is_some (treatment_at s)
-has_value Direction s = is_some (direction_at s)
+has_value kind.Date s = is_some (leaf_date_at s)
+has_value kind.Multiplier s = is_some (Numbers.multiplier_at s)
+has_value kind.OffsetDays s = is_some (Numbers.offset_at s)
+has_value kind.ObservationDays s = is_some (Numbers.observation_days_at s)
+has_value kind.Precision s = is_some (Numbers.precision_at s)
+has_value kind.Whole s = is_some (Numbers.whole_at s)
+has_value kind.Notional s = is_some (Numbers.notional_at s)
+has_value kind.Rate s = is_some (Numbers.leaf_rate_at s)
+has_value kind.Amount s = is_some (Numbers.amount_at s)
+has_value kind.Fraction s = is_some (Numbers.fraction_at s)
+has_value kind.Truth s = is_some (Codes.truth_at s)
+has_value kind.CenterName s = is_center_name s
+has_value kind.IndexName s = is_index_name s
+has_value kind.CurrencyName s = is_some (currency_at s)
+has_value kind.Convention s = is_some (Codes.convention_at s)
+has_value kind.PeriodUnit s = is_some (Codes.period_unit_at s)
+has_value kind.TenorUnit s = is_some (Codes.tenor_unit_at s)
+has_value kind.OffsetUnit s = is_some (Codes.offset_unit_at s)
+has_value kind.DayType s = is_some (Codes.day_kind_at s)
+has_value kind.StubType s = is_some (Codes.stub_kind_at s)
+has_value kind.Roll s = is_some (Codes.roll_at s)
+has_value kind.PayRelative s = is_some (Codes.relative_at s)
+has_value kind.ResetRelative s = is_some (Codes.relative_at s)
+has_value kind.DayCount s = is_some (Codes.day_count_at s)
+has_value kind.Compounding s = is_some (Codes.compounding_at s)
+has_value kind.CalculationMethod s = is_some (Codes.calculation_method_at s)
+has_value kind.Treatment s = is_some (Codes.treatment_at s)
+has_value kind.Direction s = is_some (Codes.direction_at s)
 
 -- the texts that are listed as out of the profile
 abbrev pub out_of_profile : LeafKind → List (List ℕ)
-out_of_profile Convention = codes "FRN" ∷ codes "NotApplicable" ∷ []
-out_of_profile OffsetUnit = codes "W" ∷ codes "M" ∷ codes "Y" ∷ []
-out_of_profile Roll = codes "FRN" ∷ codes "IMMCAD" ∷ codes "IMMAUD" ∷ codes "IMMNZD" ∷ codes "SFE" ∷ codes "TBILL" ∷ []
-out_of_profile PayRelative = codes "ResetDate" ∷ codes "LastPricingDate" ∷ codes "ValuationDate" ∷ []
-out_of_profile DayCount =
+out_of_profile kind.Convention = codes "FRN" ∷ codes "NotApplicable" ∷ []
+out_of_profile kind.OffsetUnit = codes "W" ∷ codes "M" ∷ codes "Y" ∷ []
+out_of_profile kind.Roll =
+    codes "FRN" ∷ codes "IMMCAD" ∷ codes "IMMAUD" ∷ codes "IMMNZD" ∷ codes "SFE" ∷ codes "TBILL" ∷ []
+out_of_profile kind.PayRelative = codes "ResetDate" ∷ codes "LastPricingDate" ∷ codes "ValuationDate" ∷ []
+out_of_profile kind.DayCount =
     codes "ACT/ACT.ICMA" ∷ codes "ACT/ACT.ISMA" ∷ codes "ACT/ACT.AFB" ∷ codes "ACT/365L" ∷ codes "BUS/252" ∷ []
-out_of_profile CalculationMethod = codes "CompoundedIndex" ∷ []
+out_of_profile kind.CalculationMethod = codes "CompoundedIndex" ∷ []
 out_of_profile _ = []
 
 -- a text without a value is out of the profile or outside its grammar

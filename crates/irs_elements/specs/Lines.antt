@@ -114,8 +114,7 @@ module _ (places rows : List (List ℕ)) where
   row_of l = record {
     parent = place_of_path rows l.above;
     place = place_of_path places l.path;
-    kind =
-        kind_of l.path l.form;
+    kind = kind_of l.path l.form;
     count = l.often;
   }
 
@@ -123,13 +122,9 @@ module _ (places rows : List (List ℕ)) where
   abbrev pub other_rows : ℕ → Kind → List Others → List Row
   other_rows place kind [] = []
   other_rows place kind (o ∷ os) =
-      map (λ (name : String). record {
-        parent = place_of_path rows (codes o.above);
-        place = place;
-        kind = kind;
-        count =
-            Maybe;
-      }) o.names ++ other_rows place kind os
+      let row : Row =
+      record { parent = place_of_path rows (codes o.above); place = place; kind = kind; count = Maybe } in
+      map (λ (name : String). row) o.names ++ other_rows place kind os
 
 -- the names of members that are passed over or out of profile
 abbrev pub other_row_names : List Others → List (List ℕ)

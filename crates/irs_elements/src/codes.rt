@@ -1,10 +1,6 @@
 //! The codes of FpML: the value that a text has, `None` exactly where it is none of the profile's.
 //! Texts are compared exactly.
-ghost use Rattle.irs_elements.specs.Codes.{calculation_method_at, compounding_at, convention_at, day_count_at};
-ghost use Rattle.irs_elements.specs.Codes.{day_kind_at, day_number_at};
-ghost use Rattle.irs_elements.specs.Codes.{day_roll_at, direction_at, named_roll_at, offset_unit_at, relative_at};
-ghost use Rattle.irs_elements.specs.Codes.{roll_at, stub_kind_at, tenor_unit_at, treatment_at, truth_at};
-ghost use Rattle.irs_elements.specs.Codes.{period_unit_at};
+ghost use Rattle.irs_elements.specs.Codes as spec;
 ghost use Rattle.std.specs.Prelude.{◌≡◌};
 
 use irs_base::{DayName, Direction};
@@ -22,20 +18,14 @@ macro_rules! among {
 
 /// A truth value: `true` or `1`, `false` or `0`.
 pub fn truth(text: &str) -> Option<bool>
-    ensures { result ≡ truth_at text.now }
+    ensures { result ≡ spec.truth_at text.now }
 {
-    among!(
-        text,
-        "true" => true,
-        "1" => true,
-        "false" => false,
-        "0" => false
-    )
+    among!(text, "true" => true, "1" => true, "false" => false, "0" => false)
 }
 
 /// `businessDayConvention`.
 pub fn convention(text: &str) -> Option<ConvCode>
-    ensures { result ≡ convention_at text.now }
+    ensures { result ≡ spec.convention_at text.now }
 {
     among!(
         text,
@@ -50,52 +40,35 @@ pub fn convention(text: &str) -> Option<ConvCode>
 
 /// `period` of a frequency.
 pub fn unit(text: &str) -> Option<Unit>
-    ensures { result ≡ period_unit_at text.now }
+    ensures { result ≡ spec.period_unit_at text.now }
 {
-    among!(
-        text,
-        "D" => Unit::D,
-        "W" => Unit::W,
-        "M" => Unit::M,
-        "Y" => Unit::Y,
-        "T" => Unit::T
-    )
+    among!(text, "D" => Unit::D, "W" => Unit::W, "M" => Unit::M, "Y" => Unit::Y, "T" => Unit::T)
 }
 
 /// `period` of a tenor, which is never the term.
 pub fn tenor_unit(text: &str) -> Option<Unit>
-    ensures { result ≡ tenor_unit_at text.now }
+    ensures { result ≡ spec.tenor_unit_at text.now }
 {
-    among!(
-        text,
-        "D" => Unit::D,
-        "W" => Unit::W,
-        "M" => Unit::M,
-        "Y" => Unit::Y
-    )
+    among!(text, "D" => Unit::D, "W" => Unit::W, "M" => Unit::M, "Y" => Unit::Y)
 }
 
 /// `period` of an offset, which is in days.
 pub fn offset_unit(text: &str) -> Option<Unit>
-    ensures { result ≡ offset_unit_at text.now }
+    ensures { result ≡ spec.offset_unit_at text.now }
 {
     among!(text, "D" => Unit::D)
 }
 
 /// `dayType`.
 pub fn day_kind(text: &str) -> Option<DayKind>
-    ensures { result ≡ day_kind_at text.now }
+    ensures { result ≡ spec.day_kind_at text.now }
 {
-    among!(
-        text,
-        "Business" => DayKind::Business,
-        "Calendar" => DayKind::Calendar
-    )
+    among!(text, "Business" => DayKind::Business, "Calendar" => DayKind::Calendar)
 }
 
 /// `stubPeriodType`.
 pub fn stub_kind(text: &str) -> Option<StubKind>
-    ensures { result ≡ stub_kind_at text.now }
+    ensures { result ≡ spec.stub_kind_at text.now }
 {
     among!(
         text,
@@ -108,18 +81,14 @@ pub fn stub_kind(text: &str) -> Option<StubKind>
 
 /// `payRelativeTo` and `resetRelativeTo`.
 pub fn relative(text: &str) -> Option<Relative>
-    ensures { result ≡ relative_at text.now }
+    ensures { result ≡ spec.relative_at text.now }
 {
-    among!(
-        text,
-        "CalculationPeriodStartDate" => Relative::Start,
-        "CalculationPeriodEndDate" => Relative::End
-    )
+    among!(text, "CalculationPeriodStartDate" => Relative::Start, "CalculationPeriodEndDate" => Relative::End)
 }
 
 /// `dayCountFraction`.
 pub fn day_count(text: &str) -> Option<DayCountCode>
-    ensures { result ≡ day_count_at text.now }
+    ensures { result ≡ spec.day_count_at text.now }
 {
     among!(
         text,
@@ -135,7 +104,7 @@ pub fn day_count(text: &str) -> Option<DayCountCode>
 
 /// `compoundingMethod`.
 pub fn compounding(text: &str) -> Option<CompCode>
-    ensures { result ≡ compounding_at text.now }
+    ensures { result ≡ spec.compounding_at text.now }
 {
     among!(
         text,
@@ -148,50 +117,34 @@ pub fn compounding(text: &str) -> Option<CompCode>
 
 /// `calculationMethod`.
 pub fn calculation_method(text: &str) -> Option<CalculationMethod>
-    ensures { result ≡ calculation_method_at text.now }
+    ensures { result ≡ spec.calculation_method_at text.now }
 {
-    among!(
-        text,
-        "Compounding" => CalculationMethod::Compounding,
-        "Averaging" => CalculationMethod::Averaging
-    )
+    among!(text, "Compounding" => CalculationMethod::Compounding, "Averaging" => CalculationMethod::Averaging)
 }
 
 /// `negativeInterestRateTreatment`.
 pub fn treatment(text: &str) -> Option<Treatment>
-    ensures { result ≡ treatment_at text.now }
+    ensures { result ≡ spec.treatment_at text.now }
 {
-    among!(
-        text,
-        "NegativeInterestRateMethod" => Treatment::AsIs,
-        "ZeroInterestRateMethod" => Treatment::ZeroFloor
-    )
+    among!(text, "NegativeInterestRateMethod" => Treatment::AsIs, "ZeroInterestRateMethod" => Treatment::ZeroFloor)
 }
 
 /// `roundingDirection`.
 pub fn direction(text: &str) -> Option<Direction>
-    ensures { result ≡ direction_at text.now }
+    ensures { result ≡ spec.direction_at text.now }
 {
-    among!(
-        text,
-        "Up" => Direction::Up,
-        "Down" => Direction::Down,
-        "Nearest" => Direction::Nearest
-    )
+    among!(text, "Up" => Direction::Up, "Down" => Direction::Down, "Nearest" => Direction::Nearest)
 }
 
 /// `rollConvention`.
 pub fn roll(text: &str) -> Option<RollCode>
-    ensures { result ≡ roll_at text.now }
+    ensures { result ≡ spec.roll_at text.now }
 {
-    match named_roll(text) {
-        None => day_roll(text.as_bytes()),
-        Some(code) => Some(code),
-    }
+    named_roll(text).or_else(|| day_roll(text.as_bytes()))
 }
 
 fn named_roll(text: &str) -> Option<RollCode>
-    ensures { result ≡ named_roll_at text.now }
+    ensures { result ≡ spec.named_roll_at text.now }
 {
     among!(
         text,
@@ -210,27 +163,20 @@ fn named_roll(text: &str) -> Option<RollCode>
 
 // A day number from 1 to 30 in one or two digits, the first of them no zero.
 fn day_roll(text: &[u8]) -> Option<RollCode>
-    ensures { result ≡ day_roll_at text.now }
+    ensures { result ≡ spec.day_roll_at text.now }
 {
     match text {
-        [] => None,
-        [a] => if b'1' <= *a && *a <= b'9' {
-            Some(RollCode::Dom(*a - b'0'))
-        } else {
-            None
-        },
-        [a, b] => if b'1' <= *a && *a <= b'9' && b'0' <= *b && *b <= b'9' {
-            day_number(10 * (*a - b'0') + (*b - b'0'))
-        } else {
-            None
-        },
-        [_, _, _, ..] => None,
+        [a] if b'1' <= *a && *a <= b'9' => Some(RollCode::Dom(*a - b'0')),
+        [a, b] if b'1' <= *a && *a <= b'9' && b'0' <= *b && *b <= b'9' => day_number(
+            10 * (*a - b'0') + (*b - b'0'),
+        ),
+        _ => None,
     }
 }
 
 // A day number of at most 30.
 fn day_number(n: u8) -> Option<RollCode>
-    ensures { result ≡ day_number_at n }
+    ensures { result ≡ spec.day_number_at n }
 {
     if n <= 30 {
         Some(RollCode::Dom(n))

@@ -10,20 +10,14 @@ use itoa::Buffer;
 pub fn once<'a>(v: &'a Value, name: &str) -> Option<&'a Value>
     ensures { seen result ≡ once_of name.now (view v.now) }
 {
-    match child(v, name) {
-        None => None,
-        Some(found) => items(found).as_slice().first(),
-    }
+    items(child(v, name)?).as_slice().first()
 }
 
 /// The same below an element that may be absent.
 pub fn member<'a>(v: Option<&'a Value>, name: &str) -> Option<&'a Value>
     ensures { seen result ≡ member_of name.now (seen v.entry) }
 {
-    match v {
-        None => None,
-        Some(v) => once(v, name),
-    }
+    once(v?, name)
 }
 
 /// The values of the repeated element of that name below an element that may be absent.
@@ -50,10 +44,9 @@ pub fn values_at<'a>(v: &'a Value, name: &str) -> &'a [Value]
 pub fn leaf_text<'a>(v: Option<&'a Value>, digits: &'a mut Buffer) -> Option<&'a str>
     ensures { option_map (λ s. s.now) result ≡ leaf_text_in (seen v.entry) }
 {
-    match leaf(v?) {
-        None => None,
-        Some(LeafValue::Word(word)) => Some(word),
-        Some(LeafValue::Whole(n)) => Some(digits.format(n)),
-        Some(LeafValue::Truth(b)) => Some(if b { "true" } else { "false" }),
+    match leaf(v?)? {
+        LeafValue::Word(word) => Some(word),
+        LeafValue::Whole(n) => Some(digits.format(n)),
+        LeafValue::Truth(b) => Some(if b { "true" } else { "false" }),
     }
 }

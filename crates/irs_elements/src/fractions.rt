@@ -74,8 +74,6 @@ pub fn fraction(text: &[u8]) -> Option<Dec>
 fn stated(text: &[u8]) -> Option<Dec>
     ensures { result ≡ fraction_at text.now }
 {
-    match decimal_parts(text) {
-        Some((whole, decimals)) => Some(fraction_of(whole, decimals)),
-        None => None,
-    }
+    let (whole, decimals) = decimal_parts(text)?;
+    Some(fraction_of(whole, decimals))
 }

@@ -1,9 +1,7 @@
 //! Dates and numbers: the value of a text. `None` comes exactly where the text is outside the
 //! grammar or the range of its kind.
 ghost use Rattle.irs_elements.specs.Leaves.{leaf_date_at};
-ghost use Rattle.irs_elements.specs.Numbers.{dec_at, amount_at, digits_of, is_whole_number as is_whole_of};
-ghost use Rattle.irs_elements.specs.Numbers.{multiplier_at, notional_at, observation_days_at, offset_at, precision_at};
-ghost use Rattle.irs_elements.specs.Numbers.{leaf_rate_at, whole_at, within as within_of};
+ghost use Rattle.irs_elements.specs.Numbers as spec;
 ghost use Rattle.irs_elements.specs.Private.Walk.{digits_at, few_digits_at};
 ghost use Rattle.irs_base.specs.Texts.{has_no_point as no_point_of};
 ghost use Rattle.std.specs.Prelude.{◌≡◌, ◌+◌, ◌*◌, ◌^◌, ◌<◌, ◌≤◌, length, unsigned_abs};
@@ -26,32 +24,25 @@ const MOST_OBSERVATION_OFFSET: i128 = 30;
 pub fn day(text: &[u8]) -> Option<Day>
     ensures { result ≡ leaf_date_at text.now }
 {
-    match read_date(text) {
-        None => None,
-        Some(day) => {
-            // hands the prover the range of the day
-            let _number = day.number();
-            Some(day)
-        },
-    }
+    let day = read_date(text)?;
+    // hands the prover the range of the day
+    let _number = day.number();
+    Some(day)
 }
 
 /// A decimal in units of 10^-places.
 pub fn decimal(text: &[u8], places: u8) -> Option<i128>
     requires { places ≤ 12 }
-    ensures { result ≡ dec_at places text.now }
+    ensures { result ≡ spec.dec_at places text.now }
 {
     read_dec(text, places)
 }
 
 // The number, where it lies in a range.
 fn within(low: i128, high: i128, n: Option<i128>) -> Option<i128>
-    ensures { result ≡ within_of low high n }
+    ensures { result ≡ spec.within low high n }
 {
-    match n {
-        None => None,
-        Some(n) => if low <= n && n <= high { Some(n) } else { None },
-    }
+    n.filter(|n| low <= *n && *n <= high)
 }
 
 // The number that a text of nothing but digits spells after those of n; `None` exactly where a byte
@@ -63,11 +54,11 @@ fn digits_behind(n: u32, digits: &[u8]) -> Option<u32>
 {
     match digits {
         [] => Some(n),
-        [first, rest @ ..] => if b'0' <= *first && *first <= b'9' {
-            digits_behind(10 * n + u32::from(*first - b'0'), rest)
-        } else {
-            None
-        },
+        [first, rest @ ..] if b'0' <= *first && *first <= b'9' => digits_behind(
+            10 * n + u32::from(*first - b'0'),
+            rest,
+        ),
+        _ => None,
     }
 }
 
@@ -85,7 +76,7 @@ fn few_digits(text: &[u8]) -> Option<u32>
 /// A notional: a decimal of 4 places from 0 to 10^13. Most have few digits and no point, and are read
 /// at once.
 pub fn notional(text: &[u8]) -> Option<i128>
-    ensures { result ≡ notional_at text.now }
+    ensures { result ≡ spec.notional_at text.now }
 {
     match few_digits(text) {
         Some(n) => Some(10_000 * i128::from(n)),
@@ -95,7 +86,7 @@ pub fn notional(text: &[u8]) -> Option<i128>
 
 /// A rate, a spread or a multiplier: a decimal of 9 places, at most 10 in size.
 pub fn rate(text: &[u8]) -> Option<i128>
-    ensures { result ≡ leaf_rate_at text.now }
+    ensures { result ≡ spec.leaf_rate_at text.now }
 {
     let most = MOST_RATE as i128;
     within(-most, most, decimal(text, 9))
@@ -103,40 +94,27 @@ pub fn rate(text: &[u8]) -> Option<i128>
 
 /// The same in 64 bits.
 pub fn small_rate(text: &[u8]) -> Option<i64>
-    ensures { result ≡ leaf_rate_at text.now }
+    ensures { result ≡ spec.leaf_rate_at text.now }
 {
-    match rate(text) {
-        None => None,
-        Some(n) => Some(n as i64),
-    }
+    let n = rate(text)?;
+    Some(n as i64)
 }
 
 /// An amount of cash flows: a decimal of 12 places.
 pub fn amount(text: &[u8]) -> Option<i128>
-    ensures { result ≡ amount_at text.now }
+    ensures { result ≡ spec.amount_at text.now }
 {
     decimal(text, 12)
 }
 
 // The number of bytes after a sign.
 fn digits(text: &[u8]) -> usize
-    ensures { result ≡ length (digits_of text.now) }
+    ensures { result ≡ length (spec.digits_of text.now) }
 {
     match text {
-        [] => 0,
-        [first, rest @ ..] => if *first == b'+' || *first == b'-' {
-            rest.len()
-        } else {
-            text.len()
-        },
+        [b'+' | b'-', rest @ ..] => rest.len(),
+        _ => text.len(),
     }
-}
-
-// Whether the text has no point and at most 9 digits.
-fn is_whole(text: &[u8]) -> bool
-    ensures { result ≡ is_whole_of text.now }
-{
-    digits(text) <= 9 && has_no_point(text)
 }
 
 fn has_no_point(text: &[u8]) -> bool
@@ -147,69 +125,51 @@ fn has_no_point(text: &[u8]) -> bool
 
 /// A whole number: 1 to 9 digits after an optional sign.
 pub fn whole(text: &[u8]) -> Option<i128>
-    ensures { result ≡ whole_at text.now }
+    ensures { result ≡ spec.whole_at text.now }
 {
-    if is_whole(text) {
+    if digits(text) <= 9 && has_no_point(text) {
         decimal(text, 0)
     } else {
         None
     }
 }
 
-// A number of at most ten digits in 64 bits.
-fn small(n: i128) -> i64
-    requires { unsigned_abs n < 10 ^ 10 }
-    ensures { result ≡ n }
-{
-    n as i64
-}
-
 /// The same in 64 bits.
 pub fn small_whole(text: &[u8]) -> Option<i64>
-    ensures { result ≡ whole_at text.now }
+    ensures { result ≡ spec.whole_at text.now }
 {
-    match whole(text) {
-        None => None,
-        Some(n) => Some(small(n)),
-    }
+    let n = whole(text)?;
+    Some(n as i64)
 }
 
 /// `periodMultiplier` of a frequency: 1 to 999.
 pub fn multiplier(text: &[u8]) -> Option<u16>
-    ensures { result ≡ multiplier_at text.now }
+    ensures { result ≡ spec.multiplier_at text.now }
 {
-    match within(1, MOST_MULTIPLIER, whole(text)) {
-        None => None,
-        Some(n) => Some(n.unsigned_abs() as u16),
-    }
+    let n = within(1, MOST_MULTIPLIER, whole(text))?;
+    Some(n.unsigned_abs() as u16)
 }
 
 /// `periodMultiplier` of an offset: -60 to 60.
 pub fn offset(text: &[u8]) -> Option<i16>
-    ensures { result ≡ offset_at text.now }
+    ensures { result ≡ spec.offset_at text.now }
 {
-    match within(-MOST_OFFSET, MOST_OFFSET, whole(text)) {
-        None => None,
-        Some(n) => Some(n as i16),
-    }
+    let n = within(-MOST_OFFSET, MOST_OFFSET, whole(text))?;
+    Some(n as i16)
 }
 
 /// `offsetDays` of an observation shift, a lookback or a lockout: 1 to 30.
 pub fn observation_days(text: &[u8]) -> Option<u8>
-    ensures { result ≡ observation_days_at text.now }
+    ensures { result ≡ spec.observation_days_at text.now }
 {
-    match within(1, MOST_OBSERVATION_OFFSET, whole(text)) {
-        None => None,
-        Some(n) => Some(n.unsigned_abs() as u8),
-    }
+    let n = within(1, MOST_OBSERVATION_OFFSET, whole(text))?;
+    Some(n.unsigned_abs() as u8)
 }
 
 /// `precision`: 0 to 9.
 pub fn precision(text: &[u8]) -> Option<u8>
-    ensures { result ≡ precision_at text.now }
+    ensures { result ≡ spec.precision_at text.now }
 {
-    match within(0, 9, whole(text)) {
-        None => None,
-        Some(n) => Some(n.unsigned_abs() as u8),
-    }
+    let n = within(0, 9, whole(text))?;
+    Some(n.unsigned_abs() as u8)
 }

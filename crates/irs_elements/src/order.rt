@@ -26,15 +26,9 @@ fn comes_before_in(f: &Broken, g: &Broken) -> bool
 pub fn earlier(a: Option<Broken>, b: Option<Broken>) -> Option<Broken>
     ensures { result ≡ earlier_of a b }
 {
-    match a {
-        None => b,
-        Some(f) => match b {
-            None => Some(f),
-            Some(g) => if comes_before(&g, &f) {
-                Some(g)
-            } else {
-                Some(f)
-            },
-        },
+    match (a, b) {
+        (None, b) => b,
+        (a, None) => a,
+        (Some(f), Some(g)) => Some(if comes_before(&g, &f) { g } else { f }),
     }
 }

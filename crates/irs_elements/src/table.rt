@@ -60,12 +60,7 @@ pub struct Row {
 #[macro_export]
 macro_rules! row {
     ($parent:expr, $place:expr, $kind:expr, $count:expr) => {
-        $crate::Row {
-            parent: $parent,
-            place: $place,
-            kind: $kind,
-            count: $count,
-        }
+        $crate::Row { parent: $parent, place: $place, kind: $kind, count: $count }
     };
 }
 

@@ -6,7 +6,7 @@ ghost use Rattle.irs_elements.specs.Elements.{FaultAt, FaultUnder, ShapeFault, a
 ghost use Rattle.irs_elements.specs.Elements.{are_two as are_two_of, choice_unmet as choice_unmet_of, elem_at, elem_of};
 ghost use Rattle.irs_elements.specs.Elements.{has_odd as has_odd_of, index_in as index_in_of};
 ghost use Rattle.irs_elements.specs.Elements.{is_element as is_element_of, is_known as is_known_in};
-ghost use Rattle.irs_elements.specs.Elements.{is_odd as is_odd_of, is_refused as is_refused_of};
+ghost use Rattle.irs_elements.specs.Elements.{is_odd as is_odd_of};
 ghost use Rattle.irs_elements.specs.Elements.{is_required as is_required_of, is_unknown, lacks_href as lacks_href_of};
 ghost use Rattle.irs_elements.specs.Elements.{most as most_of, name_at, place, stands as stands_of, referenced_texts};
 ghost use Rattle.irs_elements.specs.Elements.{unmet_place};
@@ -70,6 +70,17 @@ fn broken(table: &Table<'_>, rule: Rule, r: usize, index: u32) -> Broken
     }
 }
 
+// A rule that is broken at row r where the test holds.
+fn broken_if(test: bool, table: &Table<'_>, rule: Rule, r: usize, index: u32) -> Option<Broken>
+    ensures { result ≡ fault_if test (place table.now.rows.now table.now.stream rule r index) }
+{
+    if test {
+        Some(broken(table, rule, r, index))
+    } else {
+        None
+    }
+}
+
 // The rule that a leaf at row r breaks.
 fn leaf_fault(table: &Table<'_>, r: usize, leaf: Leaf, index: u32, v: &Value) -> Option<Broken>
     ensures { result ≡ option_map (λ k. place table.now.rows.now table.now.stream k r index)
@@ -78,28 +89,6 @@ fn leaf_fault(table: &Table<'_>, r: usize, leaf: Leaf, index: u32, v: &Value) ->
     match leaf_rule(leaf, v) {
         None => None,
         Some(rule) => Some(broken(table, rule, r, index)),
-    }
-}
-
-fn is_element(kind: Kind) -> bool
-    ensures { result ≡ is_element_of kind }
-{
-    match kind {
-        Kind::Object(_) => true,
-        Kind::Leaf(_) => true,
-        Kind::Passed => false,
-        Kind::Refused => false,
-    }
-}
-
-fn is_refused(kind: Kind) -> bool
-    ensures { result ≡ is_refused_of kind }
-{
-    match kind {
-        Kind::Object(_) => false,
-        Kind::Leaf(_) => false,
-        Kind::Passed => false,
-        Kind::Refused => true,
     }
 }
 
@@ -255,17 +244,6 @@ fn has_unknown(table: &Table<'_>, r: usize, v: &Value) -> bool
     }
 }
 
-fn unknown_fault(table: &Table<'_>, r: usize, index: u32, v: &Value) -> Option<Broken>
-    ensures { result ≡ fault_if (list_any (is_unknown table.now.rows.now (referenced_texts table.now.names.now) r)
-        (names_among (element_names (view v.now)))) (place table.now.rows.now table.now.stream Rule.K4 r index) }
-{
-    if has_unknown(table, r, v) {
-        Some(broken(table, Rule::K4, r, index))
-    } else {
-        None
-    }
-}
-
 // Whether an attribute is there and is no text.
 fn is_odd(v: &Value, name: &str) -> bool
     ensures { result ≡ is_odd_of (child_of name.now (view v.now)) }
@@ -276,21 +254,11 @@ fn is_odd(v: &Value, name: &str) -> bool
     }
 }
 
-// Whether `@id` or `@href` is there and is no text.
-fn has_odd(v: &Value) -> bool
+/// Whether `@id` or `@href` is there and is no text.
+pub fn has_odd(v: &Value) -> bool
     ensures { result ≡ has_odd_of (view v.now) }
 {
     is_odd(v, "@id") || is_odd(v, "@href")
-}
-
-fn odd_fault(table: &Table<'_>, r: usize, index: u32, v: &Value) -> Option<Broken>
-    ensures { result ≡ fault_if (has_odd_of (view v.now)) (place table.now.rows.now table.now.stream Rule.K3 r index) }
-{
-    if has_odd(v) {
-        Some(broken(table, Rule::K3, r, index))
-    } else {
-        None
-    }
 }
 
 fn lacks_href(choice: Choice, v: &Value) -> bool
@@ -302,17 +270,6 @@ fn lacks_href(choice: Choice, v: &Value) -> bool
         Choice::AtMostOneOfThree(_, _, _) => false,
         Choice::ExactlyOne(_, _) => false,
         Choice::Reference => child(v, "@href").is_none(),
-    }
-}
-
-fn href_fault(table: &Table<'_>, r: usize, choice: Choice, index: u32, v: &Value) -> Option<Broken>
-    ensures { result ≡ fault_if (lacks_href_of choice (view v.now))
-        (place table.now.rows.now table.now.stream Rule.K2 r index) }
-{
-    if lacks_href(choice, v) {
-        Some(broken(table, Rule::K2, r, index))
-    } else {
-        None
     }
 }
 
@@ -353,46 +310,27 @@ fn asked_fault(table: &Table<'_>, r: usize, choice: Choice, index: u32, v: &Valu
         (choice_unmet_of (referenced_texts table.now.names.now) choice (view v.now)))
         (fault_if (lacks_href_of choice (view v.now)) (place table.now.rows.now table.now.stream Rule.K2 r index)) }
 {
-    match choice {
-        Choice::Free => None,
-        Choice::AtMostOne(_, _) => choice_fault(table, r, choice, index, v),
-        Choice::AtMostOneOfThree(_, _, _) => choice_fault(table, r, choice, index, v),
-        Choice::ExactlyOne(_, _) => choice_fault(table, r, choice, index, v),
-        Choice::Reference => href_fault(table, r, choice, index, v),
-    }
-}
-
-// The first rule that an object breaks beside those of its members.
-fn whole_shape_fault(
-    table: &Table<'_>,
-    r: usize,
-    choice: Choice,
-    index: u32,
-    v: &Value,
-) -> Option<Broken>
-    ensures { IsFirstBroken
-        (ShapeFault table.now.rows.now (referenced_texts table.now.names.now) table.now.stream r choice index (view v.now))
-        result }
-{
-    let unknown = unknown_fault(table, r, index, v);
     let chosen = choice_fault(table, r, choice, index, v);
-    let odd = odd_fault(table, r, index, v);
-    let href = href_fault(table, r, choice, index, v);
-    earlier(earlier(unknown, chosen), earlier(odd, href))
+    first_of(
+        chosen,
+        broken_if(lacks_href(choice, v), table, Rule::K2, r, index),
+    )
 }
 
-// The same, by a look at the names. Most are those of known elements. Where all are, no name is
-// unknown and no attribute is odd.
+// The first rule that an object breaks beside those of its members. Most names are those of known
+// elements. Where all are, no name is unknown and no attribute is odd.
 fn shape_fault(table: &Table<'_>, r: usize, choice: Choice, index: u32, v: &Value) -> Option<Broken>
     ensures { IsFirstBroken
         (ShapeFault table.now.rows.now (referenced_texts table.now.names.now) table.now.stream r choice index (view v.now))
         result }
 {
-    if has_apart(table, r, v) {
-        whole_shape_fault(table, r, choice, index, v)
-    } else {
-        asked_fault(table, r, choice, index, v)
+    let asked = asked_fault(table, r, choice, index, v);
+    if !has_apart(table, r, v) {
+        return asked;
     }
+    let unknown = broken_if(has_unknown(table, r, v), table, Rule::K4, r, index);
+    let odd = broken_if(has_odd(v), table, Rule::K3, r, index);
+    earlier(earlier(unknown, odd), asked)
 }
 
 // The number of the row after the last member of the object at row r. Where the table doesn't say
@@ -520,9 +458,7 @@ fn members_fault(table: &Table<'_>, r: usize, index: u32, v: &Value) -> Option<B
     for c in r..end {
         let row = &table.rows[c];
         if row.parent == r && r < c && !is_right_leaf(table, c, row, v) {
-            if let Some(fault) = fault_under(table, c, row, index, v) {
-                first = earlier(first, Some(fault));
-            }
+            first = first_of(first, fault_under(table, c, row, index, v));
         }
     }
     first
@@ -536,25 +472,42 @@ fn fault_under(table: &Table<'_>, c: usize, row: &Row, index: u32, v: &Value) ->
         (FaultUnder table.now.rows.now (referenced_texts table.now.names.now) table.now.stream c row.now index (view v.now))
         result }
 {
+    match row.kind {
+        Kind::Object(_) => element_fault(table, c, row, index, v),
+        Kind::Leaf(_) => element_fault(table, c, row, index, v),
+        Kind::Passed => None,
+        Kind::Refused => if stands(table.names, c, v) {
+            Some(broken(table, Rule::K5, row.parent, index))
+        } else {
+            None
+        },
+    }
+}
+
+// The first rule that the element at row c breaks.
+#[cycle(faults)]
+fn element_fault(table: &Table<'_>, c: usize, row: &Row, index: u32, v: &Value) -> Option<Broken>
+    requires ends { EndsHold table.now.rows.now table.now.ends.now }
+    requires element { is_element_of row.now.kind ≡ true }
+    ensures { IsFirstBroken
+        (FaultUnder table.now.rows.now (referenced_texts table.now.names.now) table.now.stream c row.now index (view v.now))
+        result }
+{
     match child(v, name_of(table.names, c)) {
-        None => if is_element(row.kind) && is_required(row.count) {
+        None => if is_required(row.count) {
             let at = absent_index(row.count, index);
             Some(broken(table, Rule::K2, c, at))
         } else {
             None
         },
-        Some(member) => if is_refused(row.kind) {
-            Some(broken(table, Rule::K5, row.parent, index))
-        } else if is_element(row.kind) {
+        Some(member) => {
             let list = items(member).as_slice();
             if list.len() > most(row.count) as usize {
                 Some(broken(table, Rule::K7, c, 0))
             } else {
                 fault_among(table, c, row.kind, row.count, index, list)
             }
-        } else {
-            None
-        },
+        }
     }
 }
 
@@ -577,9 +530,7 @@ fn fault_among(
     let mut first = None;
     for j in 0..list.len() {
         let at = index_in(count, index, j as u32);
-        if let Some(fault) = value_fault(table, c, kind, at, &list[j]) {
-            first = earlier(first, Some(fault));
-        }
+        first = first_of(first, value_fault(table, c, kind, at, &list[j]));
     }
     first
 }

@@ -1,8 +1,10 @@
-use Rattle.irs_elements.proofs.FractionsAt.{units_are}
+use Rattle.irs_base.proofs.DecimalLemmas.{padded_whole}
+use Rattle.irs_base.specs.Texts.{number_after, number_of}
 use Rattle.irs_elements.proofs.fractions.units.Goals as goal
-use Rattle.irs_elements.specs.Numbers.{carried}
+use Rattle.std.proofs.Common.{◌+◌, ◌∙◌, ap, ap₂}
 
 pub returns-clause-value : goal.returns-clause-value
 returns-clause-value c =
-    units_are c.args.whole.now c.args.kept.now c.number_of_parts.result c.carry.result
-    (carried c.args.left.now) c.number_of_parts.ensures.value c.carry.ensures.value
+    ap₂ ◌+◌
+    (c.number_of_parts.ensures.value ∙ ap (number_after (number_of c.args.whole.now)) (padded_whole c.args.kept.now))
+    c.carry.ensures.value

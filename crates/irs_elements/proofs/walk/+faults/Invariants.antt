@@ -21,20 +21,24 @@ invariant-fault_among-loop-j l =
 
 -- a value leads to its members, whose rows come later
 abbrev pub decreases-value_fault : goal.decreases-value_fault
-decreases-value_fault l = 5 * (length l.table.now.rows.now - l.r) + 2
+decreases-value_fault l = 6 * (length l.table.now.rows.now - l.r) + 2
 
 -- an object leads to its members, whose rows come later
 abbrev pub decreases-object_fault : goal.decreases-object_fault
-decreases-object_fault l = 5 * (length l.table.now.rows.now - l.r) + 1
+decreases-object_fault l = 6 * (length l.table.now.rows.now - l.r) + 1
 
 -- each member has a later row than its object
 abbrev pub decreases-members_fault : goal.decreases-members_fault
-decreases-members_fault l = 5 * (length l.table.now.rows.now - l.r)
+decreases-members_fault l = 6 * (length l.table.now.rows.now - l.r)
 
 -- a member leads to its values, at the same row
 abbrev pub decreases-fault_under : goal.decreases-fault_under
-decreases-fault_under l = 5 * (length l.table.now.rows.now - l.c) + 4
+decreases-fault_under l = 6 * (length l.table.now.rows.now - l.c) + 5
+
+-- an element leads to its values, at the same row
+abbrev pub decreases-element_fault : goal.decreases-element_fault
+decreases-element_fault l = 6 * (length l.table.now.rows.now - l.c) + 4
 
 -- a list of values leads to each of them, at the same row
 abbrev pub decreases-fault_among : goal.decreases-fault_among
-decreases-fault_among l = 5 * (length l.table.now.rows.now - l.c) + 3
+decreases-fault_among l = 6 * (length l.table.now.rows.now - l.c) + 3
