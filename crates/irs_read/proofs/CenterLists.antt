@@ -2,7 +2,6 @@
 use Prim.Native.String.{String}
 use Rattle.irs_base.specs.Limits.{most_centers}
 use Rattle.irs_elements.specs.Elements.{member, values_in}
-use Rattle.irs_elements.specs.Leaves.{is_center_name}
 use Rattle.irs_elements.specs.declared.table.Count.TheVariants.{OneTo}
 use Rattle.irs_elements.specs.declared.table.Leaf.TheVariants.{CenterName, Convention}
 use Rattle.irs_read.proofs.LeafKinds.{center_names}
@@ -12,8 +11,8 @@ use Rattle.irs_read.specs.Readings.{found_value, has_id, lists_in, lists_of, the
 use Rattle.irs_read.specs.StreamElements.{center_list, center_name}
 use Rattle.irs_terms.specs.Lawful.{IsLawfulName, IsLawfulNames}
 use Rattle.serde_json.specs.Data.{Data}
-use Rattle.std.proofs.Common.{◌≡◌, ℕ, suc, ◌<◌, ◌≤◌, Bool, true, false, ◌==◌, List, [], ◌∷◌, ◌++◌, length, cond, count_by}
-use Rattle.std.proofs.Common.{find, Option, Some, None, slice_get, codes, refl, arith, if◌then◌else◌}
+use Rattle.std.proofs.Common.{count_by, find, Option, Some, None, slice_get, codes, refl, arith, if◌then◌else◌}
+use Rattle.std.proofs.Common.{◌≡◌, ℕ, suc, ◌<◌, ◌≤◌, Bool, true, false, ◌==◌, List, [], ◌∷◌, ◌++◌, length, cond}
 
 -- what the table says of a list of centres at the end of a path
 abbrev pub CenterRows : Path → Type 0
@@ -30,8 +29,7 @@ list_fills p at =
     (λ d clean all h. names_lawful (length (values_in (codes "businessCenter") (Some d)))
     (most_of ("businessCenter" ∷ p)) all (some p "businessCenter" at.0 d clean)
     (few p "businessCenter" at.0 d clean) at.1 h)
-    (leaf_fills ("businessCenter" ∷ p) CenterName (λ s. if is_center_name s then Some s else None) center_names
-    (is_leaf p "businessCenter" at.0))
+    (leaf_fills ("businessCenter" ∷ p) center_names (is_leaf p "businessCenter" at.0))
 
 -- a list of centres, if there is one, says lawful names
 abbrev pub GoodList : Option Data → Type 0
@@ -89,42 +87,20 @@ dated_good name row adj at dates clean =
     adjusted_good (name ∷ dates_path) "dateAdjustments" adj at (member (codes name) dates)
     (below dates_path name row dates clean)
 
--- the lists of the dates
-dates_good : (o : Option Data) → AtMost dates_path o
-    → GoodList (Centers (member (codes "dateAdjustments") (member (codes "effectiveDate") o)))
-    × GoodList (Centers (member (codes "dateAdjustments") (member (codes "terminationDate") o)))
-    × GoodList (Centers (member (codes "calculationPeriodDatesAdjustments") o))
-    × GoodList (Centers (member (codes "dateAdjustments") (member (codes "firstPeriodStartDate") o)))
-unfolding facts row_of most_of
-dates_good o clean = (
-  dated_good "effectiveDate" refl refl (refl, refl, (refl, refl)) o clean,
-  dated_good "terminationDate" refl refl (refl, refl, (refl, refl)) o clean,
-  adjusted_good dates_path "calculationPeriodDatesAdjustments" refl (refl, refl, (refl, refl)) o clean,
-  dated_good "firstPeriodStartDate" refl refl (refl, refl, (refl, refl)) o clean,
-)
-
--- those of the payments
-payments_good : (o : Option Data) → AtMost payments_path o
-    → GoodList (Centers (member (codes "paymentDatesAdjustments") o))
-unfolding facts row_of most_of
-payments_good o clean = adjusted_good payments_path "paymentDatesAdjustments" refl (refl, refl, (refl, refl)) o clean
-
--- those of the resets
-resets_good : (o : Option Data) → AtMost resets_path o
-    → GoodList (Centers (member (codes "fixingDates") o)) × GoodList (Centers (member (codes "resetDatesAdjustments") o))
-unfolding facts row_of most_of
-resets_good o clean = (
-  adjusted_good resets_path "fixingDates" refl (refl, refl, (refl, refl)) o clean,
-  adjusted_good resets_path "resetDatesAdjustments" refl (refl, refl, (refl, refl)) o clean,
-)
-
 lists_good : (d : Data) → At [] d → GoodLists (lists_in d)
-unfolding facts row_of
+unfolding facts row_of most_of
 lists_good d clean =
-    let dates = dates_good _ (perhaps [] "calculationPeriodDates" refl d clean) in
-    let resets = resets_good _ (perhaps [] "resetDates" refl d clean) in
-    let pay = payments_good _ (perhaps [] "paymentDates" refl d clean) in
-    (dates.0, (dates.1, (dates.2, (dates.3, (pay, (resets.0, (resets.1, tt)))))))
+    let dates = perhaps [] "calculationPeriodDates" refl d clean in
+    let resets = perhaps [] "resetDates" refl d clean in
+    let pays = perhaps [] "paymentDates" refl d clean in
+    let start = dated_good "effectiveDate" refl refl (refl, refl, (refl, refl)) _ dates in
+    let end = dated_good "terminationDate" refl refl (refl, refl, (refl, refl)) _ dates in
+    let own = adjusted_good dates_path "calculationPeriodDatesAdjustments" refl (refl, refl, (refl, refl)) _ dates in
+    let first = dated_good "firstPeriodStartDate" refl refl (refl, refl, (refl, refl)) _ dates in
+    let pay = adjusted_good payments_path "paymentDatesAdjustments" refl (refl, refl, (refl, refl)) _ pays in
+    let fix = adjusted_good resets_path "fixingDates" refl (refl, refl, (refl, refl)) _ resets in
+    let reset = adjusted_good resets_path "resetDatesAdjustments" refl (refl, refl, (refl, refl)) _ resets in
+    (start, (end, (own, (first, (pay, (fix, (reset, tt)))))))
 
 good_append : (os ps : List (Option Data)) → GoodLists os → GoodLists ps → GoodLists (os ++ ps)
 good_append [] ps g h = h

@@ -1,55 +1,33 @@
 -- What holds of a value that breaks no rule at its row.
-use Rattle.irs_base.specs.declared.places.Broken.{Broken}
-use Rattle.irs_base.specs.declared.places.Rule.{Rule}
 use Rattle.irs_base.specs.declared.places.Rule.TheVariants.{K2, K3, K5, K6, K7}
+use Rattle.irs_base.specs.declared.places.{Broken.Broken, Rule.Rule}
 use Rattle.irs_elements.proofs.Exact.{both_true}
 use Rattle.irs_elements.proofs.Steps.{choice_kept}
-use Rattle.irs_elements.specs.Elements.{FaultAt, IsMemberRow, absent_index, index_in, is_chosen, inside, is_element}
-use Rattle.irs_elements.specs.Elements.{is_required, missing, most, name_at, own, place, shape, too_many, under, unmet}
-use Rattle.irs_elements.specs.Elements.{once, values_in, values_of}
+use Rattle.irs_elements.specs.Elements.{FaultAt, FaultUnder, IsMemberRow, absent_index, index_in, is_chosen, inside}
+use Rattle.irs_elements.specs.Elements.{is_element, is_required, missing, most, name_at, own, place, shape, too_many}
+use Rattle.irs_elements.specs.Elements.{under, unmet, once, values_in, values_of}
 use Rattle.irs_elements.specs.Leaves.{has_value, leaf_rule, out_of_profile, text_of_leaf, text_rule}
-use Rattle.irs_elements.specs.declared.table.Choice.{Choice}
 use Rattle.irs_elements.specs.declared.table.Choice.TheVariants.{ExactlyOne}
-use Rattle.irs_elements.specs.declared.table.Kind.{Kind}
 use Rattle.irs_elements.specs.declared.table.Kind.TheVariants.{Object, Leaf, Passed, Refused}
-use Rattle.irs_elements.specs.declared.table.Leaf.{Leaf as LeafKind}
-use Rattle.irs_elements.specs.declared.table.Row.{Row}
+use Rattle.irs_elements.specs.declared.table.{Choice.Choice, Kind.Kind, Leaf.Leaf as LeafKind, Row.Row}
 use Rattle.irs_json.specs.Leaves.{child_of, present, Leaf as LeafSaid, leaf_of, element_names, items_of}
 use Rattle.serde_json.specs.Data.{Data, null, boolean, number, string, array, object, no_items, item}
 use Rattle.serde_json.specs.Find.{get}
+use Rattle.std.proofs.Common.{[], ◌∷◌, length, Option, Some, None, IfSome, is_some, option_and_then, slice_get, refl}
+use Rattle.std.proofs.Common.{sym, ap, subst, arith, if◌then◌else◌}
 use Rattle.std.proofs.Common.{◌≡◌, ℕ, ◌<◌, ◌≤◌, nat_lt, Bool, true, false, ◌&&◌, ◌==◌, true≢false, ◌⊎◌, inl, inr, List}
-use Rattle.std.proofs.Common.{[], ◌∷◌, length, Option, Some, None, IfSome, is_some, option_and_then, slice_get}
-use Rattle.std.proofs.Common.{refl, sym, ap, subst}
-use Rattle.std.proofs.lemmas.Option.{same_Some}
-use Rattle.std.proofs.Common.{arith, if◌then◌else◌}
-use Rattle.std.proofs.lemmas.Bool.{cases_order}
 use Rattle.std.proofs.lemmas.Bool.Decides.{nat_tests}
+use Rattle.std.proofs.lemmas.Bool.{cases_lt}
+use Rattle.std.proofs.lemmas.Option.{same_Some, slice_get_within}
 use Rattle.std.specs.List.{list_any}
 use Rattle.std.specs.Str.{bytes_eq}
-
--- one number is at most the other, or above it
-pub le_or_lt : (a b : ℕ) → (a ≤ b) ⊎ (b < a)
-le_or_lt a b =
-    elim (cases_order a b) [
-      | inl e ↦ inl (omega arith)
-      | inr r ↦
-          elim r [ inl lt ↦ inl (omega arith) | inr gt ↦ inr gt ]
-    ]
-
-is_number : (m n : ℕ) → (m == n) ≡ true → m ≡ n
-is_number m n e = grind (arith, nat_tests)
-
-is_less : (m n : ℕ) → nat_lt m n ≡ true → m < n
-is_less m n e = grind (arith, nat_tests)
 
 -- ---- what the table says of a row
 
 -- the kind is an object
 abbrev is_object : Kind → Bool
 is_object (Object choice) = true
-is_object (Leaf leaf) = false
-is_object Passed = false
-is_object Refused = false
+is_object _ = false
 
 -- the row exists and is an object
 abbrev object_at : Option Row → Bool
@@ -82,10 +60,8 @@ kind_at (Some row) = Some row.kind
 
 -- the leaf that a kind is, if it is one
 abbrev leaf_in : Kind → Option LeafKind
-leaf_in (Object choice) = None
 leaf_in (Leaf leaf) = Some leaf
-leaf_in Passed = None
-leaf_in Refused = None
+leaf_in _ = None
 
 -- the kind of leaf of a row
 abbrev pub leaf_at : Option Row → Option LeafKind
@@ -113,24 +89,22 @@ record Below (r : ℕ) (o : Option Row) : Type 0 where
 
 below_is : (r : ℕ) (o : Option Row) → is_below r o ≡ true → Below r o
 below_is r None e = absurd (true≢false (sym e))
-below_is r (Some row) e = let b = both_true (row.parent == r) (is_element row.kind) e in
-    record { row = row; found = refl; parent = is_number row.parent r b.0; element = b.1 }
+below_is r (Some row) e =
+    record { row = row; found = refl; parent = grind (arith, nat_tests); element = grind (arith, nat_tests) }
+
+moved : (d m : Data) → Some d ≡ Some m → 0 < length (items_of d) → 0 < length (items_of m)
+moved d m e h = subst (λ (x : Data). 0 < length (items_of x)) (same_Some d m e) h
 
 -- an element that is present has at least one value
-pub filled : (o : Option Data) (m : Data) → option_and_then present o ≡ Some m → 0 < length (items_of m)
+filled : (o : Option Data) (m : Data) → option_and_then present o ≡ Some m → 0 < length (items_of m)
 filled None m e = cc
 filled (Some null) m e = cc
 filled (Some (array no_items)) m e = cc
-filled (Some (array (item d ds))) m e = let s : array (item d ds) ≡ m = cc in
-    subst (λ (x : Data). 0 < length (items_of x)) s (omega arith)
-filled (Some (boolean b)) m e = let s : boolean b ≡ m = cc in
-    subst (λ (x : Data). 0 < length (items_of x)) s (omega arith)
-filled (Some (number n)) m e = let s : number n ≡ m = cc in
-    subst (λ (x : Data). 0 < length (items_of x)) s (omega arith)
-filled (Some (string t)) m e = let s : string t ≡ m = cc in
-    subst (λ (x : Data). 0 < length (items_of x)) s (omega arith)
-filled (Some (object ms)) m e = let s : object ms ≡ m = cc in
-    subst (λ (x : Data). 0 < length (items_of x)) s (omega arith)
+filled (Some (array (item d ds))) m e = moved (array (item d ds)) m e (omega arith)
+filled (Some (boolean b)) m e = moved (boolean b) m e (omega arith)
+filled (Some (number n)) m e = moved (number n) m e (omega arith)
+filled (Some (string t)) m e = moved (string t) m e (omega arith)
+filled (Some (object ms)) m e = moved (object ms) m e (omega arith)
 
 -- a member that is there has a first value
 present_once : (name : List ℕ) (d : Data) (o : Option Data) → child_of name d ≡ o → is_some o ≡ true
@@ -166,57 +140,48 @@ pub record Said (leaf : LeafKind) (d : Data) : Type 0 where
   pub found : leaf_of d ≡ Some says
   pub valued : has_value leaf (text_of_leaf says) ≡ true
 
+-- a list with members has a first one
+head_of : (ds : List Data) → 0 < length ds → (x : Data) × (slice_get ds 0 ≡ Some x)
+head_of [] h = absurd (omega arith)
+head_of (x ∷ xs) h = (x, refl)
+
 module _ (rows : List Row) (names : List (List ℕ)) where
   -- no rule of the table is broken below a value
   abbrev pub Unbroken : ℕ → ℕ → Kind → ℕ → Data → Type 0
   Unbroken stream r kind i d = (f : Broken) → FaultAt rows names stream r kind i d f → ⊥
 
+  -- the value at row r breaks no rule
+  pub record Kept (r : ℕ) (k : Kind) (d : Data) : Type 0 where
+    pub stream : ℕ
+    pub index : ℕ
+    pub none : Unbroken stream r k index d
+
   -- d breaks no rule at row c
   pub record Clean (c : ℕ) (d : Data) : Type 0 where
     pub row : Row
     pub found : slice_get rows c ≡ Some row
-    pub stream : ℕ
-    pub index : ℕ
-    pub none : Unbroken stream c row.kind index d
+    pub kept : Kept c row.kind d
 
   -- a clean object has names
-  pub names_by : (s r i : ℕ) (choice : Choice) (d : Data) (o : Option (List (List ℕ))) → element_names d ≡ o
-      → Unbroken s r (Object choice) i d → (ns : List (List ℕ)) × (element_names d ≡ Some ns)
-  names_by s r i choice d None e none = absurd (none (place rows s K3 r i) (own r i K3 (Object choice) d (rw e refl)))
-  names_by s r i choice d (Some ns) e none = (ns, e)
+  pub names_by : (r : ℕ) (choice : Choice) (d : Data) (o : Option (List (List ℕ))) → element_names d ≡ o
+      → Kept r (Object choice) d → (ns : List (List ℕ)) × (element_names d ≡ Some ns)
+  names_by r choice d None e k =
+      absurd (k.none (place rows k.stream K3 r k.index) (own r k.index K3 (Object choice) d (rw e refl)))
+  names_by r choice d (Some ns) e k = (ns, e)
 
-  -- a clean object has no more items of a member than its count allows
-  pub few_by : (s r i c : ℕ) (choice : Choice) (row : Row) (d m : Data) (ns : List (List ℕ)) → element_names d ≡ Some ns
-      → IsMemberRow rows names r c row → is_element row.kind ≡ true
-      → child_of (name_at names c) d ≡ Some m → Unbroken s r (Object choice) i d
-      → (length (items_of m) ≤ most row.count) ⊎ (most row.count < length (items_of m))
-      → length (items_of m) ≤ most row.count
-  few_by s r i c choice row d m ns n mem el h none (inl le) = le
-  few_by s r i c choice row d m ns n mem el h none (inr lt) =
-      absurd (none (place rows s K7 c 0)
-      (under r i c choice d ns (place rows s K7 c 0) row n mem (too_many c i row d m el h lt)))
-
-  -- a clean object has each member that its count requires
-  pub there_by : (s r i c : ℕ) (choice : Choice) (row : Row) (d : Data) (ns : List (List ℕ)) (o : Option Data)
-      → element_names d ≡ Some ns → IsMemberRow rows names r c row → is_element row.kind ≡ true
-      → is_required row.count ≡ true → child_of (name_at names c) d ≡ o → Unbroken s r (Object choice) i d
-      → (m : Data) × (child_of (name_at names c) d ≡ Some m)
-  there_by s r i c choice row d ns None n mem el rq h none =
-      absurd (none (place rows s K2 c (absent_index row.count i))
-      (under r i c choice d ns (place rows s K2 c (absent_index row.count i)) row n mem (missing c i row d el rq h)))
-  there_by s r i c choice row d ns (Some m) n mem el rq h none = (m, h)
+  -- and keeps its choice
+  pub chosen_by : (r : ℕ) (choice : Choice) (d : Data) → Kept r (Object choice) d → is_chosen names choice d ≡ true
+  chosen_by r choice d k =
+      let (ns, named) = names_by r choice d (element_names d) refl k in
+      choice_kept names choice d (λ u e. k.none _ (shape r k.index choice d ns _ named (unmet r k.index u choice d e)))
 
   -- an object without faults, and an element below it
-  record Joint (r c : ℕ) (d : Data) : Type 0 where
-    stream : ℕ
-    index : ℕ
-    choice : Choice
-    none : Unbroken stream r (Object choice) index d
-    ns : List (List ℕ)
-    named : element_names d ≡ Some ns
-    row : Row
-    member_row : IsMemberRow rows names r c row
-    element : is_element row.kind ≡ true
+  pub record Joint (r c : ℕ) (d : Data) : Type 0 where
+    pub choice : Choice
+    pub holder : Kept r (Object choice) d
+    pub row : Row
+    pub member_row : IsMemberRow rows names r c row
+    pub element : is_element row.kind ≡ true
 
   joint : (r c : ℕ) (d : Data) → is_child rows r c ≡ true → Clean r d → Joint r c d
   joint r c d e clean =
@@ -224,43 +189,65 @@ module _ (rows : List Row) (names : List (List ℕ)) where
       let second = both_true (object_at (slice_get rows r)) (is_below r (slice_get rows c)) first.1 in
       let (choice, is) =
       object_kind clean.row.kind (subst (λ (o : Option Row). object_at o ≡ true) clean.found second.0) in
-      let none : Unbroken clean.stream r (Object choice) clean.index d =
-      subst (λ (k : Kind). Unbroken clean.stream r k clean.index d) is clean.none in
-      let (ns, named) = names_by clean.stream r clean.index choice d (element_names d) refl none in
       let b = below_is r (slice_get rows c) second.1 in
       record {
-        stream = clean.stream;
-        index = clean.index;
         choice = choice;
-        none = none;
-        ns = ns;
-        named = named;
-        row =
-            b.row;
-        member_row = record { found = b.found; parent = b.parent; later = is_less r c first.0 };
-        element =
-            b.element;
+        holder = subst (λ (k : Kind). Kept r k d) is clean.kept;
+        row = b.row;
+        member_row = record { found = b.found; parent = b.parent; later = grind (arith, nat_tests) };
+        element = b.element;
       }
+
+  -- a clean object breaks no rule by a member
+  no_fault : (r c : ℕ) (d : Data) (k : Joint r c d) (f : Broken)
+      → FaultUnder rows names k.holder.stream c k.row k.holder.index d f → ⊥
+  no_fault r c d k f u =
+      let (ns, named) = names_by r k.choice d (element_names d) refl k.holder in
+      k.holder.none f (under r k.holder.index c k.choice d ns f k.row named k.member_row u)
+
+  -- it has no more items of a member than its count allows
+  few : (r c : ℕ) (d m : Data) (k : Joint r c d) → child_of (name_at names c) d ≡ Some m
+      → length (items_of m) ≤ most k.row.count
+  few r c d m k h =
+      elim (cases_lt (most k.row.count) (length (items_of m))) [
+        | inl lt ↦
+            absurd (no_fault r c d k (place rows k.holder.stream K7 c 0)
+            (too_many c k.holder.index k.row d m k.element h lt))
+        | inr le ↦ le
+      ]
+
+  -- and each of them is clean
+  pub item_kept : (r c j : ℕ) (d m x : Data) (k : Joint r c d) → child_of (name_at names c) d ≡ Some m
+      → slice_get (items_of m) j ≡ Some x → Kept c k.row.kind x
+  item_kept r c j d m x k h at = record {
+    stream = k.holder.stream;
+    index = index_in k.row.count k.holder.index j;
+    none = λ f g. no_fault r c d k f (inside c k.holder.index j k.row d m x f k.element h (few r c d m k h) at g);
+  }
+
+  there_by : (r c : ℕ) (d : Data) (o : Option Data) (k : Joint r c d) → child_of (name_at names c) d ≡ o
+      → is_required k.row.count ≡ true → (m : Data) × (child_of (name_at names c) d ≡ Some m)
+  there_by r c d None k h rq =
+      absurd (no_fault r c d k (place rows k.holder.stream K2 c (absent_index k.row.count k.holder.index))
+      (missing c k.holder.index k.row d k.element rq h))
+  there_by r c d (Some m) k h rq = (m, h)
+
+  -- each member that its count requires is there, with a first value
+  pub first_by : (r c : ℕ) (d : Data) (k : Joint r c d) → is_required k.row.count ≡ true
+      → (m : Data) × ((x : Data) × ((child_of (name_at names c) d ≡ Some m) × (slice_get (items_of m) 0 ≡ Some x)))
+  first_by r c d k rq =
+      let (m, h) = there_by r c d (child_of (name_at names c) d) k refl rq in
+      let (x, at) = head_of (items_of m) (filled (get (name_at names c) d) m h) in (m, (x, (h, at)))
 
   -- there are no more values than the count allows, and none breaks a rule
   abbrev Fine : ℕ → List Data → Type 0
   Fine c ds = (length ds ≤ most_at (slice_get rows c)) × ((j : ℕ) (x : Data) → slice_get ds j ≡ Some x → Clean c x)
 
   fine_items : (r c : ℕ) (d m : Data) → Joint r c d → child_of (name_at names c) d ≡ Some m → Fine c (items_of m)
-  fine_items r c d m k h =
-      let few = few_by k.stream r k.index c k.choice k.row d m k.ns k.named k.member_row k.element h k.none
-      (le_or_lt (length (items_of m)) (most k.row.count)) in (
-        subst (λ (o : Option Row). length (items_of m) ≤ most_at o) (sym k.member_row.found) few,
-        λ j x at. record {
-          row = k.row;
-          found = k.member_row.found;
-          stream = k.stream;
-          index = index_in k.row.count k.index j;
-          none = λ f g. k.none f
-              (under r k.index c k.choice d k.ns f k.row k.named k.member_row
-              (inside c k.index j k.row d m x f k.element h few at g));
-        },
-      )
+  fine_items r c d m k h = (
+    subst (λ (o : Option Row). length (items_of m) ≤ most_at o) (sym k.member_row.found) (few r c d m k h),
+    λ j x at. record { row = k.row; found = k.member_row.found; kept = item_kept r c j d m x k h at },
+  )
 
   fine_found : (r c : ℕ) (d : Data) (p : Option Data) → Joint r c d → child_of (name_at names c) d ≡ p
       → Fine c (values_of p)
@@ -287,40 +274,31 @@ module _ (rows : List Row) (names : List (List ℕ)) where
       → IfSome (once (name_at names c) d) (Clean c)
   clean_once r c d e clean = clean_found r c d (child_of (name_at names c) d) (joint r c d e clean) refl
 
-  -- a required element is present, with at least one value
-  required : (r c : ℕ) (d : Data) → required_at (slice_get rows c) ≡ true → Joint r c d
-      → (m : Data) × (child_of (name_at names c) d ≡ Some m)
-  required r c d rq k =
-      there_by k.stream r k.index c k.choice k.row d k.ns (child_of (name_at names c) d) k.named k.member_row k.element
-      (subst (λ (o : Option Row). required_at o ≡ true) k.member_row.found rq) refl k.none
-
-  -- a required member of a clean value is there
-  pub some_value : (r c : ℕ) (d : Data) → is_child rows r c ≡ true → required_at (slice_get rows c) ≡ true → Clean r d
-      → 0 < length (values_in (name_at names c) (Some d))
-  some_value r c d e rq clean =
-      let (m, h) = required r c d rq (joint r c d e clean) in
-      subst (λ (p : Option Data). 0 < length (values_of p)) (sym h) (filled (get (name_at names c) d) m h)
-
-  -- a list with members has a first one
-  pub head_of : (ds : List Data) → 0 < length ds → (x : Data) × (slice_get ds 0 ≡ Some x)
-  head_of [] h = absurd (omega arith)
-  head_of (x ∷ xs) h = (x, refl)
-
   -- a required member of a clean value is there once, and clean
   pub clean_there : (r c : ℕ) (d : Data) → is_child rows r c ≡ true → required_at (slice_get rows c) ≡ true → Clean r d
       → (x : Data) × ((once (name_at names c) d ≡ Some x) × Clean c x)
   clean_there r c d e rq clean =
       let k = joint r c d e clean in
-      let (m, h) = required r c d rq k in
-      let (x, at) = head_of (items_of m) (filled (get (name_at names c) d) m h) in
+      let (m, (x, (h, at))) =
+      first_by r c d k (subst (λ (o : Option Row). required_at o ≡ true) k.member_row.found rq) in
       (x, (rw h at, (fine_items r c d m k h).1 0 x at))
 
+  -- so there are some values of it
+  pub some_value : (r c : ℕ) (d : Data) → is_child rows r c ≡ true → required_at (slice_get rows c) ≡ true → Clean r d
+      → 0 < length (values_in (name_at names c) (Some d))
+  some_value r c d e rq clean =
+      let k = joint r c d e clean in
+      let (m, (x, (h, at))) =
+      first_by r c d k (subst (λ (o : Option Row). required_at o ≡ true) k.member_row.found rq) in
+      subst (λ (p : Option Data). 0 < length (values_of p)) (sym h) (slice_get_within (items_of m) 0 x at)
+
   -- a leaf that breaks no rule has a value of its kind
-  pub said_by : (s r i : ℕ) (leaf : LeafKind) (d : Data) (o : Option LeafSaid) (p : Option Rule) → leaf_of d ≡ o
-      → leaf_rule leaf o ≡ p → Unbroken s r (Leaf leaf) i d → Said leaf d
-  said_by s r i leaf d o (Some k) h e none = absurd (none (place rows s k r i) (own r i k (Leaf leaf) d (rw h e)))
-  said_by s r i leaf d None None h e none = cc
-  said_by s r i leaf d (Some says) None h e none =
+  pub said_by : (r : ℕ) (leaf : LeafKind) (d : Data) (o : Option LeafSaid) (p : Option Rule) → leaf_of d ≡ o
+      → leaf_rule leaf o ≡ p → Kept r (Leaf leaf) d → Said leaf d
+  said_by r leaf d o (Some k) h e w =
+      absurd (w.none (place rows w.stream k r w.index) (own r w.index k (Leaf leaf) d (rw h e)))
+  said_by r leaf d None None h e w = cc
+  said_by r leaf d (Some says) None h e w =
       record { says = says; found = h; valued = value_by leaf (text_of_leaf says) (has_value leaf (text_of_leaf says)) refl e }
 
   -- a clean leaf has a value of its kind
@@ -328,14 +306,13 @@ module _ (rows : List Row) (names : List (List ℕ)) where
       → Said leaf d
   clean_leaf c leaf d e clean =
       let is = leaf_kind clean.row.kind leaf (subst (λ (o : Option Row). leaf_at o ≡ Some leaf) clean.found e) in
-      said_by clean.stream c clean.index leaf d (leaf_of d) (leaf_rule leaf (leaf_of d)) refl refl
-      (subst (λ (k : Kind). Unbroken clean.stream c k clean.index d) is clean.none)
+      said_by c leaf d (leaf_of d) (leaf_rule leaf (leaf_of d)) refl refl (subst (λ (k : Kind). Kept c k d) is clean.kept)
 
   -- a value that breaks no rule of its row is clean
   pub clean_from : (c stream index : ℕ) (d : Data) (row : Row) → slice_get rows c ≡ Some row
       → Unbroken stream c row.kind index d → Clean c d
   clean_from c stream index d row found none =
-      record { row = row; found = found; stream = stream; index = index; none = none }
+      record { row = row; found = found; kept = record { stream = stream; index = index; none = none } }
 
   -- an object that has exactly one of two members has one of them
   pub either_there : (r a b : ℕ) (d : Data) → kind_at (slice_get rows r) ≡ Some (Object (ExactlyOne a b)) → Clean r d
@@ -343,12 +320,7 @@ module _ (rows : List Row) (names : List (List ℕ)) where
   either_there r a b d is clean =
       let kind : clean.row.kind ≡ Object (ExactlyOne a b) =
       same_Some _ _ (subst (λ (o : Option Row). kind_at o ≡ Some (Object (ExactlyOne a b))) clean.found is) in
-      let unbroken : Unbroken clean.stream r (Object (ExactlyOne a b)) clean.index d =
-      subst (λ (k : Kind). Unbroken clean.stream r k clean.index d) kind clean.none in
-      let (ns, named) = names_by clean.stream r clean.index (ExactlyOne a b) d (element_names d) refl unbroken in
-      let chosen =
-      choice_kept names (ExactlyOne a b) d (λ u e. unbroken _
-      (shape r clean.index (ExactlyOne a b) d ns _ named (unmet r clean.index u (ExactlyOne a b) d e))) in
+      let chosen = chosen_by r (ExactlyOne a b) d (subst (λ (k : Kind). Kept r k d) kind clean.kept) in
       elim (one_of names a b d (child_of (name_at names a) d) (child_of (name_at names b) d) refl refl chosen) [
         | inl h ↦ inl (present_once (name_at names a) d (child_of (name_at names a) d) refl h)
         | inr h ↦ inr (present_once (name_at names b) d (child_of (name_at names b) d) refl h)

@@ -1,17 +1,16 @@
 -- A document that breaks no rule means one swap, and that one is lawful.
-use Rattle.irs_base.specs.Elements.{swap_stream}
 use Rattle.irs_base.specs.Lists.{Pairs}
 use Rattle.irs_base.specs.declared.places.Broken.{Broken}
-use Rattle.irs_base.specs.declared.places.Rule.TheVariants.{K2, K3, K7}
+use Rattle.irs_base.specs.declared.places.Rule.TheVariants.{K3}
 use Rattle.irs_elements.specs.Elements.{own, place}
 use Rattle.irs_json.specs.Leaves.{element_names}
-use Rattle.irs_read.proofs.Clean.{clean_from, le_or_lt}
+use Rattle.irs_read.proofs.Clean.{clean_from}
+use Rattle.irs_read.proofs.Each.{are_free}
 use Rattle.irs_read.proofs.Rows.{At, at_top}
 use Rattle.irs_read.proofs.StreamReads.{stream_tells}
 use Rattle.irs_read.proofs.Tells.{ListIs, Tells, each_tells, shape}
 use Rattle.irs_read.specs.Documents.{Means, DocumentFault, below, the_swap, EachStated, IsStated, stream_names}
-use Rattle.irs_read.specs.Documents.{stream_rows, swap_rows, StreamsFault, SwapFault, in_stream, many_streams}
-use Rattle.irs_read.specs.Documents.{no_stream, outside}
+use Rattle.irs_read.specs.Documents.{stream_rows, swap_rows, StreamFault, SwapFault}
 use Rattle.irs_read.specs.StreamElements.{StreamSays, SwapSays}
 use Rattle.irs_read.proofs.CenterLists.{GoodLists, all_good}
 use Rattle.irs_read.specs.Readings.{lists_of, streams_in}
@@ -19,10 +18,9 @@ use Rattle.irs_read.proofs.StatedTables.{stated}
 use Rattle.irs_read.proofs.TableLaws.{code_names, stream_fault}
 use Rattle.irs_read.specs.declared.table.TheConstants.{ROWS, SWAP}
 use Rattle.irs_terms.specs.Lawful.{IsLawfulSwap, IsLawfulStream}
-use Rattle.irs_base.specs.Limits.{most_streams}
 use Rattle.irs_terms.specs.declared.stream_list.Swap.{Swap}
 use Rattle.serde_json.specs.Data.{Data}
-use Rattle.std.proofs.Common.{◌≡◌, ℕ, zero, suc, ◌+◌, ◌<◌, ◌≤◌, Bool, true, false, ◌⊎◌, inl, inr, List, [], length}
+use Rattle.std.proofs.Common.{◌≡◌, ℕ, ◌+◌, Bool, true, false, inl, inr, [], length}
 use Rattle.std.proofs.Common.{Some, Ok, is_some, slice_get, refl, sym, subst, arith}
 
 object_by : (d : Data) (b : Bool) → is_some (element_names d) ≡ b → ((f : Broken) → SwapFault d f → ⊥)
@@ -30,32 +28,9 @@ object_by : (d : Data) (b : Bool) → is_some (element_names d) ≡ b → ((f : 
 object_by d true e none = e
 object_by d false e none = absurd (none (place swap_rows 0 K3 0 0) (inl (own 0 0 K3 SWAP d (rw e refl))))
 
-some_by : (ds : List Data) (n : ℕ) → length ds ≡ n → ((f : Broken) → StreamsFault ds f → ⊥) → 0 < length ds
-some_by ds zero e none = absurd (none (outside K2 swap_stream) (no_stream e))
-some_by ds (suc n) e none = omega (arith, e)
-
-few_by : (ds : List Data) → (length ds ≤ most_streams) ⊎ (most_streams < length ds)
-    → ((f : Broken) → StreamsFault ds f → ⊥) → length ds ≤ most_streams
-few_by ds (inl le) none = le
-few_by ds (inr lt) none = absurd (none (outside K7 swap_stream) (many_streams lt))
-
-each_clean : (ds : List Data) → 0 < length ds → length ds ≤ most_streams → ((f : Broken) → StreamsFault ds f → ⊥)
-    → (j : ℕ) (x : Data) → slice_get ds j ≡ Some x → At [] x
-each_clean ds lo hi none j x e =
-    at_top x
-    (clean_from ROWS code_names 0 (j + 1) 0 x _ refl (λ f q. none f (in_stream f lo hi (j, (x, (e, stream_fault q))))))
-
--- the streams of a swap that breaks no rule are one to eight, and break none
-record Streams (ds : List Data) : Type 0 where
-  low : 1 ≤ length ds
-  high : length ds ≤ most_streams
-  clean : (j : ℕ) (x : Data) → slice_get ds j ≡ Some x → At [] x
-
-streams_by : (ds : List Data) → ((f : Broken) → StreamsFault ds f → ⊥) → Streams ds
-streams_by ds none =
-    let lo = some_by ds (length ds) refl none in
-    let hi = few_by ds (le_or_lt (length ds) most_streams) none in
-    record { low = lo; high = hi; clean = each_clean ds lo hi none }
+-- a stream that breaks no rule is clean
+clean_stream : (j : ℕ) (x : Data) → ((f : Broken) → StreamFault j x f → ⊥) → At [] x
+clean_stream j x none = at_top x (clean_from ROWS code_names 0 (j + 1) 0 x _ refl (λ f q. none f (stream_fault q)))
 
 -- a swap that breaks no rule says one swap, and that one is lawful
 pub swap_tells : (d : Data) → ((f : Broken) → SwapFault d f → ⊥) → Tells (SwapSays d) IsLawfulSwap
@@ -63,10 +38,12 @@ swap_tells d none =
     let there = object_by d (is_some (element_names d)) refl none in
     let ds = streams_in d in
     let lists = lists_of ds in
-    let found = streams_by ds (λ f q. none f (inr (there, q))) in
-    let good : GoodLists lists = all_good ds found.clean in
+    let found = are_free StreamFault ds (λ f q. none f (inr (there, q))) in
+    let clean : (j : ℕ) (x : Data) → slice_get ds j ≡ Some x → At [] x =
+    λ j x e. clean_stream j x (λ f. found.free j x f e) in
+    let good : GoodLists lists = all_good ds clean in
     let each : Tells (Pairs (StreamSays lists) ds) (ListIs IsLawfulStream (length ds)) =
-    each_tells (StreamSays lists) ds (λ j x e. stream_tells lists good x (found.clean j x e)) in
+    each_tells (StreamSays lists) ds (λ j x e. stream_tells lists good x (clean j x e)) in
     shape {M = IsLawfulSwap} each (λ (s : Swap). s.streams) (λ all. record { streams = all }) (λ s. refl) (λ all. refl)
     (λ all h. (omega (arith, found.low, h.many), omega (arith, found.high, h.many), h.each))
 
@@ -90,11 +67,8 @@ swap_stated : (d : Data) → ((f : Broken) → SwapFault d f → ⊥) → (j : �
     → slice_get (streams_in d) j ≡ Some x → IsStated stream_rows stream_names x
 swap_stated d none j x e =
     let there = object_by d (is_some (element_names d)) refl none in
-    let ds = streams_in d in
-    let clear : (f : Broken) → StreamsFault ds f → ⊥ = λ f q. none f (inr (there, q)) in
-    let lo = some_by ds (length ds) refl clear in
-    let hi = few_by ds (le_or_lt (length ds) most_streams) clear in
-    stated stream_rows stream_names x (j + 1) 0 (λ f q. clear f (in_stream f lo hi (j, (x, (e, q)))))
+    let found = are_free StreamFault (streams_in d) (λ f q. none f (inr (there, q))) in
+    stated stream_rows stream_names x (j + 1) 0 (λ f. found.free j x f e)
 
 -- nor in those of a document that means a swap
 pub meant_stated : (d : Data) (s : Swap) → Means d s → EachStated d

@@ -2,14 +2,13 @@
 -- by its number here.
 use Prim.Native.String.{String}
 use Rattle.irs_elements.specs.Elements.{name_at}
-use Rattle.irs_elements.specs.declared.table.Leaf.{Leaf as LeafKind}
-use Rattle.irs_elements.specs.declared.table.Row.{Row}
+use Rattle.irs_elements.specs.declared.table.{Leaf.Leaf as LeafKind, Row.Row}
 use Rattle.irs_read.proofs.Clean.{Clean, is_child, leaf_at, most_at, required_at}
 use Rattle.irs_read.proofs.TableLaws.{code_names as row_names}
 use Rattle.irs_read.specs.declared.table.TheConstants.{ROWS}
 use Rattle.serde_json.specs.Data.{Data}
-use Rattle.std.proofs.Common.{◌≡◌, ℕ, ◌+◌, nat_lt, Bool, true, false, ◌&&◌, ◌==◌, List, [], ◌∷◌, Option, Some, None, IfSome}
-use Rattle.std.proofs.Common.{slice_get, codes, ap, bytes_eq, if◌then◌else◌}
+use Rattle.std.proofs.Common.{IfSome, slice_get, codes, ap, bytes_eq, if◌then◌else◌}
+use Rattle.std.proofs.Common.{◌≡◌, ℕ, ◌+◌, nat_lt, Bool, true, false, ◌&&◌, ◌==◌, List, [], ◌∷◌, Option, Some, None}
 
 -- the names on the way to a row, the last one first
 abbrev pub Path : Type 0

@@ -1,13 +1,12 @@
 -- What a stream says, by the objects that hold its parts.
 use Rattle.irs_elements.specs.Elements.{once}
 use Rattle.irs_read.proofs.Tells.{Tells}
-use Rattle.irs_read.specs.Private.Sayings.{One, StreamParts, frequency_terms, notional_terms}
-use Rattle.irs_read.specs.Readings.{Says}
-use Rattle.irs_read.specs.StreamElements.{StreamSays, calculation, period_dates, stream_by}
+use Rattle.irs_read.specs.Private.Sayings.{One, StreamParts}
+use Rattle.irs_read.specs.StreamElements.{StreamSays, calculation, frequency_terms, notional_terms, period_dates}
+use Rattle.irs_read.specs.StreamElements.{stream_by}
 use Rattle.irs_terms.specs.declared.stream.Stream.{Stream}
 use Rattle.serde_json.specs.Data.{Data}
-use Rattle.std.proofs.Common.{◌≡◌, ℕ, true, List, Option, Some, None, is_some, codes, refl, sym, ap, subst, ◌∙◌}
-use Rattle.std.proofs.lemmas.Option.{same_Some}
+use Rattle.std.proofs.Common.{◌≡◌, List, Option, Some, codes, refl, sym, subst}
 
 one_at : {A : Type 0} (says : Data → A → Type 0) (o : Option Data) (x : Data) (b : A) → o ≡ Some x → One says o b
     → says x b
@@ -17,22 +16,6 @@ one_at says o x b e h =
 at_one : {A : Type 0} (says : Data → A → Type 0) (o : Option Data) (x : Data) (b : A) → o ≡ Some x → says x b
     → One says o b
 at_one says o x b e k = subst (λ (q : Option Data). One says q b) (sym e) (b, (refl, k))
-
-one_there : {A : Type 0} (says : Data → A → Type 0) (o : Option Data) (b : A) → One says o b
-    → (x : Data) × ((o ≡ Some x) × says x b)
-one_there says None b h = absurd h
-one_there says (Some x) b (a, (i, k)) = (x, (refl, subst (says x) (sym i) k))
-
--- what is said of a value that is there
-pub part_said : {A B : Type 0} (says : Data → A → Type 0) (make : A → B) (other : B → Type 0) (o : Option Data) (x : Data)
-    (b : B) → o ≡ Some x → Says o says make other b → (a : A) × ((b ≡ make a) × says x a)
-part_said says make other o x b e h = subst (λ (q : Option Data). Says q says make other b) e h
-
--- and back
-pub said_by_part : {A B : Type 0} (says : Data → A → Type 0) (make : A → B) (other : B → Type 0) (o : Option Data)
-    (x : Data) (a : A) → o ≡ Some x → says x a → Says o says make other (make a)
-said_by_part says make other o x a e k =
-    subst (λ (q : Option Data). Says q says make other (make a)) (sym e) (a, (refl, k))
 
 -- the objects inside a stream
 pub record Inside (d : Data) : Type 0 where
@@ -69,19 +52,6 @@ inside_by d x y w z m n dates times amount rates notional steps = record {
   steps_is = steps;
 }
 
--- they are there
-pub inside : (lists : List (Option Data)) (d : Data) (s : Stream) → StreamSays lists d s → Inside d
-unfolding StreamSays
-inside lists d s said =
-    let q : (stream_by lists (once (codes "calculationPeriodDates") d)).says d s = said in
-    let (x, (dates_is, dates)) = one_there _ _ s q.0 in
-    let (y, (times_is, times)) = one_there _ _ s dates.1.1.1.1.1.1.1 in
-    let (w, (amount_is, amount)) = one_there _ _ s q.1.1.1.0 in
-    let (z, (rates_is, rates)) = one_there _ _ s amount in
-    let (m, (notional_is, notional)) = one_there _ _ s rates.0 in
-    let (n, (steps_is, steps)) = one_there _ _ s notional in
-    inside_by d x y w z m n dates_is times_is amount_is rates_is notional_is steps_is
-
 -- what the objects inside say
 abbrev pub PartsSay : List (Option Data) → (d : Data) → Inside d → Stream → Type 0
 PartsSay lists d i = StreamParts lists d i.dates i.times i.rates i.steps
@@ -93,10 +63,9 @@ unfolding StreamSays
 parts_of lists d i s said =
     let q : (stream_by lists (Some i.dates)).says d s =
     subst (λ (o : Option Data). (stream_by lists o).says d s) i.dates_is said in
-    let (effective, (termination, (period, (start, (first, (last, (stub, times))))))) =
-    one_at _ _ i.dates s i.dates_is q.0 in
+    let (period, times) = one_at _ _ i.dates s i.dates_is q.0 in
     let (notionals, rates) = one_at _ _ i.rates s i.rates_is (one_at _ _ i.amount s i.amount_is q.1.1.1.0) in (
-      (effective, (termination, (period, (start, (first, (last, stub)))))),
+      period,
       (
         one_at _ _ i.times s i.times_is times,
         (
@@ -119,16 +88,13 @@ pub of_parts : (lists : List (Option Data)) (d : Data) (i : Inside d) (s : Strea
     → StreamSays lists d s
 unfolding StreamSays
 of_parts lists d i s parts =
-    let (effective, (termination, (period, (start, (first, (last, stub)))))) = parts.0 in
     let (notionals, (rates, (pay, (reset, (stubs, exchanges))))) = parts.1.1 in
     let times = at_one frequency_terms.says _ i.times s i.times_is parts.1.0 in
     let steps = at_one notional_terms.says _ i.steps s i.steps_is notionals in
     let notional = at_one StepsSay _ i.notional s i.notional_is steps in
     let calculated = at_one calculation.says _ i.rates s i.rates_is (notional, rates) in
     let amount = at_one AmountSays _ i.amount s i.amount_is calculated in
-    let dates =
-    at_one (period_dates lists).says _ i.dates s i.dates_is
-    (effective, (termination, (period, (start, (first, (last, (stub, times))))))) in
+    let dates = at_one (period_dates lists).says _ i.dates s i.dates_is (parts.0, times) in
     let q : (stream_by lists (Some i.dates)).says d s =
     (dates, (pay, (reset, (amount, (stubs, exchanges))))) in
     subst (λ (o : Option Data). (stream_by lists o).says d s) (sym i.dates_is) q
@@ -142,13 +108,3 @@ parts_tell lists d i t = record {
   only = λ s h. t.only s (parts_of lists d i s h);
   lawful = t.lawful;
 }
-
--- ---- the objects inside, as they are found
-
--- the members of that name of one object are the same
-pub same_in : (name : List ℕ) (d e x y : Data) → d ≡ e → once name d ≡ Some x → once name e ≡ Some y → x ≡ y
-same_in name d e x y same p q = same_Some x y (sym p ∙ ap (once name) same ∙ q)
-
--- what one object has the other has
-pub there_in : (name : List ℕ) (d e y : Data) → d ≡ e → once name e ≡ Some y → is_some (once name d) ≡ true
-there_in name d e y same q = ap (λ (x : Data). is_some (once name x)) same ∙ ap is_some q

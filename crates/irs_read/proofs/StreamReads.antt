@@ -1,99 +1,81 @@
 -- A stream that breaks no rule says one stream, and that one is lawful.
 use Prim.Native.String.{String}
+use Rattle.irs_base.specs.Days.{IsDay}
 use Rattle.irs_base.specs.Limits.{most_steps}
 use Rattle.irs_base.specs.declared.rounding.Direction.TheVariants.{Nearest}
-use Rattle.irs_elements.specs.Codes.{calculation_method_at, compounding_at, convention_at, day_count_at, day_kind_at}
-use Rattle.irs_elements.specs.Codes.{direction_at, relative_at, roll_at, stub_kind_at, tenor_unit_at, treatment_at}
-use Rattle.irs_elements.specs.Codes.{truth_at, period_unit_at}
+use Rattle.irs_elements.specs.Codes
 use Rattle.irs_elements.specs.Elements.{name_at, once, values_in}
-use Rattle.irs_elements.specs.Leaves.{currency_at, is_index_name, leaf_date_at}
 use Rattle.irs_elements.specs.Lines.{object}
-use Rattle.irs_elements.specs.Numbers.{leaf_rate_at, multiplier_at, notional_at, observation_days_at, offset_at}
-use Rattle.irs_elements.specs.Numbers.{precision_at}
+use Rattle.irs_elements.specs.Numbers.{notional_at}
 use Rattle.irs_elements.specs.declared.table.Choice.TheVariants.{ExactlyOne}
 use Rattle.irs_elements.specs.declared.table.Count.TheVariants.{UpTo}
 use Rattle.irs_elements.specs.declared.table.Kind.TheVariants.{Object}
+use Rattle.irs_elements.specs.declared.table.Leaf.TheVariants as Leaf
 use Rattle.irs_elements.specs.declared.table.Leaf.{Leaf as LeafKind}
-use Rattle.irs_elements.specs.declared.table.Leaf.TheVariants.{CalculationMethod, Compounding, Convention}
-use Rattle.irs_elements.specs.declared.table.Leaf.TheVariants.{CurrencyName, Date, DayCount, DayType, Direction}
-use Rattle.irs_elements.specs.declared.table.Leaf.TheVariants.{IndexName, Multiplier, Notional, ObservationDays}
-use Rattle.irs_elements.specs.declared.table.Leaf.TheVariants.{OffsetDays, PayRelative, PeriodUnit, Precision, Rate}
-use Rattle.irs_elements.specs.declared.table.Leaf.TheVariants.{ResetRelative, Roll, StubType, TenorUnit, Treatment}
-use Rattle.irs_elements.specs.declared.table.Leaf.TheVariants.{Truth}
 use Rattle.irs_read.proofs.CenterLists.{AdjustingRows, GoodList, GoodLists, dates_path, good_below, list_fills}
 use Rattle.irs_read.proofs.CenterLists.{one_good, payments_path, resets_path}
 use Rattle.irs_read.proofs.Clean.{either_there, kind_at}
-use Rattle.irs_read.proofs.LeafKinds.{currencies, dates, indices, multipliers, notionals}
-use Rattle.irs_read.proofs.LeafKinds.{observations, offsets, plain, precisions, rates, rolls, tenor_units}
-use Rattle.irs_read.proofs.Rows.{At, FreeRow, LeafRow, May, Must, Path, RowIs, facts, is_leaf, is_named}
-use Rattle.irs_read.proofs.Rows.{most_of, row_of}
+use Rattle.irs_read.proofs.LeafKinds.{currencies, dates, indices, multipliers, notionals, observations, offsets, plain}
+use Rattle.irs_read.proofs.LeafKinds.{precisions, rates, rolls, tenor_units}
+use Rattle.irs_read.proofs.Rows.{At, FreeRow, LeafRow, May, Must, Path, RowIs, facts, is_leaf, is_named, most_of}
+use Rattle.irs_read.proofs.Rows.{row_of}
 use Rattle.irs_read.proofs.StreamParts.{Inside, PartsSay, inside_by, parts_tell}
 use Rattle.irs_read.proofs.TableLaws.{code_names as row_names}
-use Rattle.irs_read.proofs.Tells.{Any, Fills, LeafIs, ListIs, Tells, Told, both, each_fills, few, leaf_fills, leaf_maybe}
-use Rattle.irs_read.proofs.Tells.{leaf_one, leaf_or, maybe_fills, one_fills, or_fills, or_told, perhaps, shape, shaped}
-use Rattle.irs_read.proofs.Tells.{some_tells, there, told, ◌⊗◌}
+use Rattle.irs_read.proofs.Tells.{Any, Fills, LeafIs, ListIs, Tells, Told, both, each_fills, few, leaf_fills}
+use Rattle.irs_read.proofs.Tells.{leaf_maybe, leaf_one, leaf_or, maybe_fills, one_fills, or_fills, or_told, perhaps}
+use Rattle.irs_read.proofs.Tells.{shape, shaped, some_tells, there, told, ◌⊗◌}
 use Rattle.irs_read.specs.Private.Sayings.{FixingsSaid}
 use Rattle.irs_read.specs.Readings.{Says, has_id, holds, href_of, one, or_by, text, the_one}
 use Rattle.irs_read.specs.StreamElements.{StreamSays, adjustable, adjusting, adjustments, always, center_list, centers}
-use Rattle.irs_read.specs.StreamElements.{exchanges, fixing_dates, floating, frequency, indexed}
-use Rattle.irs_read.specs.StreamElements.{leg, observed, observing, offset, parameters, payment_dates, places_by, rate}
-use Rattle.irs_read.specs.StreamElements.{reference, reset_dates, rounding_read, schedule, step, stub, stubs}
-use Rattle.irs_read.specs.StreamElements.{tenor, unadjusted}
+use Rattle.irs_read.specs.StreamElements.{exchanges, fixing_dates, floating, frequency, indexed, leg, observed}
+use Rattle.irs_read.specs.StreamElements.{observing, offset, parameters, payment_dates, places_by, rate, reference}
+use Rattle.irs_read.specs.StreamElements.{reset_dates, rounding_read, schedule, step, stub, stubs, tenor, unadjusted}
 use Rattle.irs_read.specs.declared.table.TheConstants.{ROWS}
-use Rattle.irs_terms.specs.Lawful.{IsLawfulAdjustableDate, IsLawfulCenters, IsLawfulFix}
-use Rattle.irs_terms.specs.Lawful.{IsLawfulFloat, IsLawfulFrequency, IsLawfulIndex, IsLawfulLeg}
-use Rattle.irs_terms.specs.Lawful.{IsLawfulObservationOffset, IsLawfulOffset, IsLawfulParameters, IsLawfulPay}
-use Rattle.irs_terms.specs.Lawful.{IsLawfulReset, IsLawfulStream, IsLawfulStubRate, IsLawfulStubs}
-use Rattle.irs_terms.specs.Lawful.{IsLawfulTenor, IsLawfulValues, IsNotional, IsObservationDays, IsRate}
-use Rattle.irs_base.specs.Days.{IsDay}
-use Rattle.irs_terms.specs.declared.adjustments.AdjustableDate.{AdjustableDate}
-use Rattle.irs_terms.specs.declared.adjustments.Adjustments.{Adjustments}
+use Rattle.irs_terms.specs.Lawful.{IsLawfulAdjustableDate, IsLawfulCenters, IsLawfulFix, IsLawfulFloat}
+use Rattle.irs_terms.specs.Lawful.{IsLawfulFrequency, IsLawfulIndex, IsLawfulLeg, IsLawfulObservationOffset}
+use Rattle.irs_terms.specs.Lawful.{IsLawfulOffset, IsLawfulParameters, IsLawfulPay, IsLawfulReset, IsLawfulStream}
+use Rattle.irs_terms.specs.Lawful.{IsLawfulStubRate, IsLawfulStubs, IsLawfulTenor, IsLawfulValues, IsNotional}
+use Rattle.irs_terms.specs.Lawful.{IsObservationDays, IsRate}
 use Rattle.irs_terms.specs.declared.adjustments.Centers.TheVariants.{Absent, Listed, Dangling}
-use Rattle.irs_terms.specs.declared.adjustments.Offset.{Offset}
-use Rattle.irs_terms.specs.declared.amounts.ExchangeFlags.{ExchangeFlags}
-use Rattle.irs_terms.specs.declared.amounts.FloatTerms.{FloatTerms}
+use Rattle.irs_terms.specs.declared.adjustments.{AdjustableDate.AdjustableDate, Adjustments.Adjustments, Offset.Offset}
 use Rattle.irs_terms.specs.declared.amounts.Leg.TheVariants.{Fixed, Floating}
-use Rattle.irs_terms.specs.declared.amounts.Rounding.{Rounding}
 use Rattle.irs_terms.specs.declared.amounts.StubRate.TheVariants.{Index, Fixed as FixedStub}
-use Rattle.irs_terms.specs.declared.amounts.StubTerms.{StubTerms}
+use Rattle.irs_terms.specs.declared.amounts.{ExchangeFlags.ExchangeFlags, FloatTerms.FloatTerms, Rounding.Rounding}
+use Rattle.irs_terms.specs.declared.amounts.{StubTerms.StubTerms}
 use Rattle.irs_terms.specs.declared.codes.CompCode.TheVariants.{Simple}
 use Rattle.irs_terms.specs.declared.codes.DayKind.TheVariants.{Unsaid}
-use Rattle.irs_terms.specs.declared.codes.RefState.{RefState}
 use Rattle.irs_terms.specs.declared.codes.RefState.TheVariants.{Absent as NoReference, Good, Dangling as NoTarget}
+use Rattle.irs_terms.specs.declared.codes.RefState.{RefState}
 use Rattle.irs_terms.specs.declared.codes.Relative.TheVariants.{Start}
 use Rattle.irs_terms.specs.declared.codes.Treatment.TheVariants.{AsIs}
-use Rattle.irs_terms.specs.declared.dates.FixTerms.{FixTerms}
-use Rattle.irs_terms.specs.declared.dates.PayTerms.{PayTerms}
-use Rattle.irs_terms.specs.declared.dates.ResetTerms.{ResetTerms}
+use Rattle.irs_terms.specs.declared.dates.{FixTerms.FixTerms, PayTerms.PayTerms, ResetTerms.ResetTerms}
 use Rattle.irs_terms.specs.declared.frequency.Frequency.{Frequency}
-use Rattle.irs_terms.specs.declared.parameters.CalculationParameters.{CalculationParameters}
-use Rattle.irs_terms.specs.declared.parameters.ObservationOffset.{ObservationOffset}
 use Rattle.irs_terms.specs.declared.parameters.ObservationOffset.TheVariants.{Absent as NoOffset, Shift, Lookback}
 use Rattle.irs_terms.specs.declared.parameters.ObservationOffset.TheVariants.{Lockout}
-use Rattle.irs_terms.specs.declared.step_list.Step.{Step}
-use Rattle.irs_terms.specs.declared.step_list.StepValues.{StepValues}
+use Rattle.irs_terms.specs.declared.parameters.{CalculationParameters.CalculationParameters}
+use Rattle.irs_terms.specs.declared.parameters.{ObservationOffset.ObservationOffset}
+use Rattle.irs_terms.specs.declared.step_list.{Step.Step, StepValues.StepValues}
 use Rattle.irs_terms.specs.declared.stream.Stream.{Stream}
 use Rattle.serde_json.specs.Data.{Data}
-use Rattle.std.proofs.Common.{◌≡◌, ℕ, ◌≤◌, false, List, [], ◌∷◌, length, ℤ, pos, Option, Some, None, IfSome}
-use Rattle.std.proofs.Common.{◌⊎◌, inl, inr, slice_get, All, codes, refl, subst, arith, if◌then◌else◌}
+use Rattle.std.proofs.Common.{[], ◌∷◌, length, ℤ, pos, Option, Some, None, IfSome, ◌⊎◌, inl, inr, slice_get, All, codes}
+use Rattle.std.proofs.Common.{refl, subst, arith, if◌then◌else◌, ◌≡◌, ℕ, ◌≤◌, false, List}
 
 -- ---- numbers of periods and offsets
 
 -- a frequency
-frequency_fills : (p : Path) → LeafRow p "periodMultiplier" Multiplier → LeafRow p "period" PeriodUnit
+frequency_fills : (p : Path) → LeafRow p "periodMultiplier" Leaf.Multiplier → LeafRow p "period" Leaf.PeriodUnit
     → Fills p frequency.says IsLawfulFrequency
 frequency_fills p count unit =
-    shaped {M = IsLawfulFrequency} (leaf_one p "periodMultiplier" Multiplier multiplier_at multipliers count
-    ⊗ leaf_one p "period" PeriodUnit period_unit_at (plain PeriodUnit period_unit_at (λ s. refl)) unit)
+    shaped {M = IsLawfulFrequency} (leaf_one p "periodMultiplier" multipliers count
+    ⊗ leaf_one p "period" (plain Leaf.PeriodUnit Codes.period_unit_at (λ s. refl)) unit)
     (λ (f : Frequency). (f.count, f.unit)) (λ t. record { count = t.0; unit = t.1 }) (λ s. refl) (λ t. refl)
     (λ t l. l.0)
 
 -- the tenor of an index
-tenor_fills : (p : Path) → LeafRow p "periodMultiplier" Multiplier → LeafRow p "period" TenorUnit
+tenor_fills : (p : Path) → LeafRow p "periodMultiplier" Leaf.Multiplier → LeafRow p "period" Leaf.TenorUnit
     → Fills p tenor.says IsLawfulTenor
 tenor_fills p count unit =
-    shaped {M = IsLawfulTenor} (leaf_one p "periodMultiplier" Multiplier multiplier_at multipliers count
-    ⊗ leaf_one p "period" TenorUnit tenor_unit_at tenor_units unit)
+    shaped {M = IsLawfulTenor} (leaf_one p "periodMultiplier" multipliers count ⊗ leaf_one p "period" tenor_units unit)
     (λ (f : Frequency). (f.count, f.unit)) (λ t. record { count = t.0; unit = t.1 }) (λ s. refl) (λ t. refl)
     (λ t l. (l.0, l.1))
 
@@ -102,11 +84,11 @@ unread_fills : (p : Path) → Fills p (λ (d : Data) (u : Unit {0}). Unit {0}) (
 unread_fills p = record { tells = λ d clean. record { is = tt; says = tt; only = λ b h. refl; lawful = tt } }
 
 -- an offset
-offset_fills : (p : Path) → LeafRow p "periodMultiplier" OffsetDays → FreeRow p "dayType" DayType
+offset_fills : (p : Path) → LeafRow p "periodMultiplier" Leaf.OffsetDays → FreeRow p "dayType" Leaf.DayType
     → Fills p offset.says IsLawfulOffset
 offset_fills p count kind =
-    shaped {M = IsLawfulOffset} (leaf_one p "periodMultiplier" OffsetDays offset_at offsets count ⊗ unread_fills p
-    ⊗ leaf_or {L = λ a. Any a} p "dayType" DayType day_kind_at Unsaid tt (plain DayType day_kind_at (λ s. refl)) kind)
+    shaped {M = IsLawfulOffset} (leaf_one p "periodMultiplier" offsets count ⊗ unread_fills p
+    ⊗ leaf_or p "dayType" Unsaid tt (plain Leaf.DayType Codes.day_kind_at (λ s. refl)) kind)
     (λ (o : Offset). (o.days, (tt, o.kind))) (λ t. record { days = t.0; kind = t.1.1 }) (λ s. refl) (λ t. refl)
     (λ t l. l.0)
 
@@ -141,7 +123,7 @@ adjusting_fills : (lists : List (Option Data)) → GoodLists lists → (p : Path
     → Fills p (adjusting lists).says LawfulAdjustments
 adjusting_fills lists g p at =
     shaped {M = LawfulAdjustments}
-    (leaf_one p "businessDayConvention" Convention convention_at (plain Convention convention_at (λ s. refl)) at.0
+    (leaf_one p "businessDayConvention" (plain Leaf.Convention Codes.convention_at (λ s. refl)) at.0
     ⊗ centers_fills lists g p at)
     (λ (a : Adjustments). (a.code, a.centers)) (λ t. record { code = t.0; centers = t.1 }) (λ s. refl) (λ t. refl)
     (λ t l. l.1)
@@ -149,12 +131,12 @@ adjusting_fills lists g p at =
 -- what the table says of a date with adjustments at the end of a path
 abbrev DatedRows : Path → Type 0
 DatedRows p =
-    LeafRow p "unadjustedDate" Date × Must p "dateAdjustments" × AdjustingRows ("dateAdjustments" ∷ p)
+    LeafRow p "unadjustedDate" Leaf.Date × Must p "dateAdjustments" × AdjustingRows ("dateAdjustments" ∷ p)
 
 dated_fills : (lists : List (Option Data)) → GoodLists lists → (p : Path) → DatedRows p
     → Fills p (adjustable lists).says IsLawfulAdjustableDate
 dated_fills lists g p at =
-    shaped {M = IsLawfulAdjustableDate} (leaf_one p "unadjustedDate" Date leaf_date_at dates at.0
+    shaped {M = IsLawfulAdjustableDate} (leaf_one p "unadjustedDate" dates at.0
     ⊗ one_fills p "dateAdjustments" (adjustments lists) at.1 (adjusting_fills lists g ("dateAdjustments" ∷ p) at.2))
     (λ (a : AdjustableDate). (a.day, a.adj)) (λ t. record { day = t.0; adj = t.1 }) (λ s. refl) (λ t. refl) (λ t l. l)
 
@@ -182,8 +164,8 @@ reference_fills p name target row =
 -- ---- payments and resets
 
 -- a frequency that must occur
-frequency_one : (p : Path) (name : String) → Must p name → LeafRow (name ∷ p) "periodMultiplier" Multiplier
-    → LeafRow (name ∷ p) "period" PeriodUnit → Fills p (one name (holds object frequency)).says IsLawfulFrequency
+frequency_one : (p : Path) (name : String) → Must p name → LeafRow (name ∷ p) "periodMultiplier" Leaf.Multiplier
+    → LeafRow (name ∷ p) "period" Leaf.PeriodUnit → Fills p (one name (holds object frequency)).says IsLawfulFrequency
 frequency_one p name row count unit =
     one_fills p name (holds object frequency) row (frequency_fills (name ∷ p) count unit)
 
@@ -194,9 +176,9 @@ pay_fills lists g target =
     let p = payments_path in
     shaped {M = IsLawfulPay} (reference_fills p "calculationPeriodDatesReference" target refl
     ⊗ frequency_one p "paymentFrequency" refl refl refl
-    ⊗ leaf_maybe p "firstPaymentDate" Date leaf_date_at dates refl
-    ⊗ leaf_maybe p "lastRegularPaymentDate" Date leaf_date_at dates refl
-    ⊗ leaf_one p "payRelativeTo" PayRelative relative_at (plain PayRelative relative_at (λ s. refl)) refl
+    ⊗ leaf_maybe p "firstPaymentDate" dates refl
+    ⊗ leaf_maybe p "lastRegularPaymentDate" dates refl
+    ⊗ leaf_one p "payRelativeTo" (plain Leaf.PayRelative Codes.relative_at (λ s. refl)) refl
     ⊗ or_fills {L = IsLawfulOffset} p "paymentDaysOffset" (holds object offset)
     (λ _. record { days = pos 0; kind = Unsaid })
     (λ _. omega arith) refl (offset_fills ("paymentDaysOffset" ∷ p) refl refl)
@@ -249,8 +231,7 @@ reset_fills lists g target =
           (told (fixing_fills lists g (Some d)) _ (perhaps p "fixingDates" refl d clean));
     } in
     shaped {M = IsLawfulReset} (reference_fills p "calculationPeriodDatesReference" target refl
-    ⊗ leaf_or {L = λ a. Any a} p "resetRelativeTo" ResetRelative relative_at Start tt
-    (plain ResetRelative relative_at (λ s. refl)) refl
+    ⊗ leaf_or p "resetRelativeTo" Start tt (plain Leaf.ResetRelative Codes.relative_at (λ s. refl)) refl
     ⊗ fixing
     ⊗ frequency_one p "resetFrequency" refl refl refl
     ⊗ adjustments_or lists g p "resetDatesAdjustments" refl (refl, refl, (refl, refl)))
@@ -268,18 +249,17 @@ reset_fills lists g target =
 -- what the table says of a schedule at the end of a path
 abbrev ScheduleRows : LeafKind → Path → Type 0
 ScheduleRows kind p =
-    LeafRow p "initialValue" kind × May p "step" × LeafRow ("step" ∷ p) "stepDate" Date
+    LeafRow p "initialValue" kind × May p "step" × LeafRow ("step" ∷ p) "stepDate" Leaf.Date
     × LeafRow ("step" ∷ p) "stepValue" kind × (most_of ("step" ∷ p) ≡ most_steps)
 
 -- a step with a day in range and a value in its range
 abbrev LawfulStep : (ℤ → Type 0) → Step → Type 0
 LawfulStep L s = IsDay s.day × L s.value
 
-step_fills : (kind : LeafKind) (at : List ℕ → Option ℤ) (L : ℤ → Type 0) → LeafIs kind at L → (p : Path)
-    → LeafRow p "stepDate" Date → LeafRow p "stepValue" kind → Fills p (step (text kind at)).says (LawfulStep L)
-step_fills kind at L leaf p day value =
-    shaped {M = LawfulStep L} (leaf_one p "stepDate" Date leaf_date_at dates day
-    ⊗ leaf_one p "stepValue" kind at leaf value)
+step_fills : {kind : LeafKind} {at : List ℕ → Option ℤ} {L : ℤ → Type 0} → LeafIs kind at L → (p : Path)
+    → LeafRow p "stepDate" Leaf.Date → LeafRow p "stepValue" kind → Fills p (step (text kind at)).says (LawfulStep L)
+step_fills {L = L} leaf p day value =
+    shaped {M = LawfulStep L} (leaf_one p "stepDate" dates day ⊗ leaf_one p "stepValue" leaf value)
     (λ (s : Step). (s.day, s.value)) (λ t. record { day = t.0; value = t.1 }) (λ s. refl) (λ t. refl) (λ t l. l)
 
 -- steps in their ranges, and not too many
@@ -290,14 +270,14 @@ steps_lawful : (L : ℤ → Type 0) (n m : ℕ) (all : List Step) → n ≤ m �
     → LawfulSteps L all
 steps_lawful L n m all high most h = (omega (arith, h.many), h.each)
 
-schedule_fills : (kind : LeafKind) (at : List ℕ → Option ℤ) (L : ℤ → Type 0) → LeafIs kind at L → (p : Path)
+schedule_fills : {kind : LeafKind} {at : List ℕ → Option ℤ} {L : ℤ → Type 0} → LeafIs kind at L → (p : Path)
     → ScheduleRows kind p → Fills p (schedule (text kind at)).says (IsLawfulValues L)
-schedule_fills kind at L leaf p rows =
-    shaped {M = IsLawfulValues L} (leaf_one p "initialValue" kind at leaf rows.0
+schedule_fills {kind = kind} {at = at} {L = L} leaf p rows =
+    shaped {M = IsLawfulValues L} (leaf_one p "initialValue" leaf rows.0
     ⊗ each_fills {M = LawfulSteps L} p "step" (UpTo most_steps) (step (text kind at)) rows.1
     (λ d clean all h. steps_lawful L (length (values_in (codes "step") (Some d))) (most_of ("step" ∷ p)) all
     (few p "step" rows.1 d clean) rows.4 h)
-    (step_fills kind at L leaf ("step" ∷ p) rows.2 rows.3))
+    (step_fills leaf ("step" ∷ p) rows.2 rows.3))
     (λ (s : StepValues). (s.initial, s.steps)) (λ t. record { initial = t.0; steps = t.1 }) (λ s. refl) (λ t. refl)
     (λ t l. (l.0, l.1.0, l.1.1))
 
@@ -305,20 +285,19 @@ schedule_fills kind at L leaf p rows =
 always_lawful : (z : ℤ) → IsRate z → IsLawfulValues IsRate (always z)
 always_lawful z h = (h, omega arith, λ k d lt. absurd (omega (arith, lt)))
 
-schedule_or : (z : ℤ) → IsRate z → (p : Path) (name : String) → May p name → ScheduleRows Rate (name ∷ p)
+schedule_or : (z : ℤ) → IsRate z → (p : Path) (name : String) → May p name → ScheduleRows Leaf.Rate (name ∷ p)
     → Fills p (or_by name (holds object (schedule rate)) (λ _. always z)).says (IsLawfulValues IsRate)
 schedule_or z lawful p name row rows =
     or_fills {L = IsLawfulValues IsRate} p name (holds object (schedule rate)) (λ _. always z)
-    (λ _. always_lawful z lawful) row
-    (schedule_fills Rate leaf_rate_at IsRate rates (name ∷ p) rows)
+    (λ _. always_lawful z lawful) row (schedule_fills rates (name ∷ p) rows)
 
 -- ---- rates
 
 -- what the table says of an index with its tenor at the end of a path
 abbrev IndexedRows : Path → Type 0
 IndexedRows p =
-    LeafRow p "floatingRateIndex" IndexName × May p "indexTenor"
-    × LeafRow ("indexTenor" ∷ p) "periodMultiplier" Multiplier × LeafRow ("indexTenor" ∷ p) "period" TenorUnit
+    LeafRow p "floatingRateIndex" Leaf.IndexName × May p "indexTenor"
+    × LeafRow ("indexTenor" ∷ p) "periodMultiplier" Leaf.Multiplier × LeafRow ("indexTenor" ∷ p) "period" Leaf.TenorUnit
 
 -- an index and its tenor are lawful
 abbrev LawfulIndexed : List ℕ × Option Frequency → Type 0
@@ -326,7 +305,7 @@ LawfulIndexed i = IsLawfulIndex i.0 × IfSome i.1 IsLawfulTenor
 
 indexed_fills : (p : Path) → IndexedRows p → Fills p indexed.says LawfulIndexed
 indexed_fills p rows =
-    leaf_one p "floatingRateIndex" IndexName (λ s. if is_index_name s then Some s else None) indices rows.0
+    leaf_one p "floatingRateIndex" indices rows.0
     ⊗ maybe_fills p "indexTenor" (holds object tenor) rows.1 (tenor_fills ("indexTenor" ∷ p) rows.2 rows.3)
 
 -- `calculation`
@@ -350,8 +329,8 @@ unfolding facts row_of
 rounding_fills =
     let p = "finalRateRounding" ∷ floating_path in
     shaped {M = LawfulRounding}
-    (leaf_one p "roundingDirection" Direction direction_at (plain Direction direction_at (λ s. refl)) refl
-    ⊗ leaf_one p "precision" Precision precision_at precisions refl)
+    (leaf_one p "roundingDirection" (plain Leaf.Direction Codes.direction_at (λ s. refl)) refl
+    ⊗ leaf_one p "precision" precisions refl)
     (λ (r : Rounding). (r.dir, r.places)) (λ t. record { dir = t.0; places = t.1 }) (λ s. refl) (λ t. refl)
     (λ t l. l.1)
 
@@ -359,24 +338,20 @@ few_places : (stated : Option Data) → places_by stated ≤ 9
 few_places None = omega arith
 few_places (Some d) = omega arith
 
-observed_fills : (name : String) → LeafRow (name ∷ parameters_path) "offsetDays" ObservationDays
+observed_fills : (name : String) → LeafRow (name ∷ parameters_path) "offsetDays" Leaf.ObservationDays
     → Fills (name ∷ parameters_path) observed.says IsObservationDays
-observed_fills name row =
-    leaf_one (name ∷ parameters_path) "offsetDays" ObservationDays observation_days_at observations row
+observed_fills name row = leaf_one (name ∷ parameters_path) "offsetDays" observations row
 
 -- what these three members say
 abbrev ObservingSaid : Option Data → Option Data → Option Data → ObservationOffset → Type 0
 ObservingSaid a b c =
-    Says a observed.says Shift
-    (Says b observed.says Lookback
-    (Says c observed.says Lockout (λ o. o ≡ NoOffset)))
+    Says a observed.says Shift (Says b observed.says Lookback (Says c observed.says Lockout (λ o. o ≡ NoOffset)))
 
 observing_tells : (a b c : Option Data) → Told observed.says IsObservationDays a → Told observed.says IsObservationDays b
     → Told observed.says IsObservationDays c → Tells (ObservingSaid a b c) IsLawfulObservationOffset
 observing_tells (Some x) b c p q r =
     some_tells {L = IsObservationDays} {M = IsLawfulObservationOffset} observed.says Shift
-    (Says b observed.says Lookback
-    (Says c observed.says Lockout (λ o. o ≡ NoOffset))) x (λ a l. l) p
+    (Says b observed.says Lookback (Says c observed.says Lockout (λ o. o ≡ NoOffset))) x (λ a l. l) p
 observing_tells None (Some x) c p q r =
     some_tells {L = IsObservationDays} {M = IsLawfulObservationOffset} observed.says Lookback
     (Says c observed.says Lockout (λ o. o ≡ NoOffset)) x (λ a l. l) q
@@ -398,8 +373,8 @@ parameters_fills : Fills parameters_path parameters.says IsLawfulParameters
 unfolding facts row_of most_of
 parameters_fills =
     let p = parameters_path in
-    shaped {M = IsLawfulParameters} (leaf_one p "calculationMethod" CalculationMethod calculation_method_at
-    (plain CalculationMethod calculation_method_at (λ s. refl)) refl
+    shaped {M = IsLawfulParameters}
+    (leaf_one p "calculationMethod" (plain Leaf.CalculationMethod Codes.calculation_method_at (λ s. refl)) refl
     ⊗ observing_fills
     ⊗ one_fills p "applicableBusinessDays" center_list refl (list_fills ("applicableBusinessDays" ∷ p) (refl, refl)))
     (λ (t : CalculationParameters). (t.method, (t.offset, t.centers)))
@@ -414,12 +389,11 @@ floating_fills =
     ⊗ schedule_or (pos 1_000_000_000) (omega arith) p "floatingRateMultiplierSchedule" refl
     (refl, refl, refl, refl, refl)
     ⊗ schedule_or (pos 0) (omega arith) p "spreadSchedule" refl (refl, refl, refl, refl, refl)
-    ⊗ leaf_maybe p "initialRate" Rate leaf_rate_at rates refl
+    ⊗ leaf_maybe p "initialRate" rates refl
     ⊗ or_fills {L = LawfulRounding} p "finalRateRounding" rounding_read
     (λ d. record { dir = Nearest; places = places_by (once (codes "calculationParameters") d) })
     (λ d. few_places (once (codes "calculationParameters") d)) refl rounding_fills
-    ⊗ leaf_or {L = λ a. Any a} p "negativeInterestRateTreatment" Treatment treatment_at AsIs tt
-    (plain Treatment treatment_at (λ s. refl)) refl
+    ⊗ leaf_or p "negativeInterestRateTreatment" AsIs tt (plain Leaf.Treatment Codes.treatment_at (λ s. refl)) refl
     ⊗ maybe_fills p "calculationParameters" parameters refl parameters_fills)
     (λ (f : FloatTerms).
     ((f.index, f.tenor), (f.multiplier, (f.spread, (f.initial_rate, (f.rounding, (f.treatment, f.parameters)))))))
@@ -471,9 +445,6 @@ one_there p a b first second choice d clean =
     ⊎ ((x : Data) × (once n d ≡ Some x))) (is_named p b second)
     (either_there ROWS row_names (row_of p) (row_of (a ∷ p)) (row_of (b ∷ p)) d choice clean.clean))
 
-none_some : (x : Data) → None ≡ Some x → ⊥
-none_some x e = cc
-
 -- one of two members, each of which gives the value in its way
 either_tells : {A B C : Type 0} {L : A → Type 0} {M : B → Type 0} {N : C → Type 0} (says : Data → A → Type 0)
     (make : A → C) (others : Data → B → Type 0) (build : B → C) → ((a : A) → L a → N (make a))
@@ -483,7 +454,7 @@ either_tells {L = L} {N = N} says make others build f g (Some x) q s t other =
     some_tells {L = L} {M = N} says make (Says q others build (λ _. ⊥)) x f s
 either_tells {M = M} {N = N} says make others build f g None (Some y) s t other =
     some_tells {L = M} {M = N} others build (λ _. ⊥) y g t
-either_tells says make others build f g None None s t other = let (x, e) = other refl in absurd (none_some x e)
+either_tells says make others build f g None None s t other = let (x, e) = other refl in cc
 
 leg_fills : Fills calculation_path leg.says IsLawfulLeg
 unfolding facts row_of most_of
@@ -491,7 +462,7 @@ leg_fills = record {
   tells = λ d clean.
       let p = calculation_path in
       let fixed : Fills ("fixedRateSchedule" ∷ p) (schedule rate).says (IsLawfulValues IsRate) =
-      schedule_fills Rate leaf_rate_at IsRate rates ("fixedRateSchedule" ∷ p) (refl, refl, refl, refl, refl) in
+      schedule_fills rates ("fixedRateSchedule" ∷ p) (refl, refl, refl, refl, refl) in
       either_tells {L = IsLawfulFloat} {M = IsLawfulValues IsRate} {N = IsLawfulLeg}
       floating.says Floating (schedule rate).says Fixed (λ a l. l) (λ b l. l)
       (once (codes "floatingRateCalculation") d) (once (codes "fixedRateSchedule") d)
@@ -507,7 +478,7 @@ stubs_path = "stubCalculationPeriodAmount" ∷ []
 
 -- what the table says of a stub at the end of a path
 abbrev StubRows : Path → Type 0
-StubRows p = May p "floatingRate" × FreeRow p "stubRate" Rate × IndexedRows ("floatingRate" ∷ p)
+StubRows p = May p "floatingRate" × FreeRow p "stubRate" Leaf.Rate × IndexedRows ("floatingRate" ∷ p)
 
 stub_fills : (p : Path) → StubRows p → ChoiceIs p "floatingRate" "stubRate" → Fills p stub.says IsLawfulStubRate
 stub_fills p rows choice = record {
@@ -516,7 +487,7 @@ stub_fills p rows choice = record {
       indexed.says (λ (i : List ℕ × Option Frequency). Index i.0 i.1) rate.says FixedStub (λ a l. l)
       (λ b l. l) (once (codes "floatingRate") d) (once (codes "stubRate") d)
       (told (indexed_fills ("floatingRate" ∷ p) rows.2) _ (perhaps p "floatingRate" rows.0 d clean))
-      (told (leaf_fills ("stubRate" ∷ p) Rate leaf_rate_at rates (is_leaf p "stubRate" rows.1)) _
+      (told (leaf_fills ("stubRate" ∷ p) rates (is_leaf p "stubRate" rows.1)) _
       (perhaps p "stubRate" rows.1 d clean))
       (second_of (once (codes "floatingRate") d) (once (codes "stubRate") d)
       (one_there p "floatingRate" "stubRate" rows.0 rows.1 choice d clean));
@@ -538,9 +509,9 @@ stubs_fills target =
 abbrev exchanges_path : Path
 exchanges_path = "principalExchanges" ∷ []
 
-exchange_one : (name : String) → LeafRow exchanges_path name Truth
-    → Fills exchanges_path (one name (text Truth truth_at)).says (λ b. Any b)
-exchange_one name row = leaf_one exchanges_path name Truth truth_at (plain Truth truth_at (λ s. refl)) row
+exchange_one : (name : String) → LeafRow exchanges_path name Leaf.Truth
+    → Fills exchanges_path (one name (text Leaf.Truth Codes.truth_at)).says (λ b. Any b)
+exchange_one name row = leaf_one exchanges_path name (plain Leaf.Truth Codes.truth_at (λ s. refl)) row
 
 exchanges_fills : Fills exchanges_path exchanges.says (λ e. Any e)
 unfolding facts row_of
@@ -568,10 +539,9 @@ dated_one lists g name row rows =
     one_fills dates_path name (adjustable lists) row (dated_fills lists g (name ∷ dates_path) rows)
 
 -- a schedule of notionals, and their currency
-notional_fills : Fills notionals_path (schedule (text Notional notional_at)).says (IsLawfulValues IsNotional)
+notional_fills : Fills notionals_path (schedule (text Leaf.Notional notional_at)).says (IsLawfulValues IsNotional)
 unfolding facts row_of most_of
-notional_fills =
-    schedule_fills Notional notional_at IsNotional notionals notionals_path (refl, refl, refl, refl, refl)
+notional_fills = schedule_fills notionals notionals_path (refl, refl, refl, refl, refl)
 
 -- a stream that breaks no rule says one stream, and that one is lawful
 pub stream_tells : (lists : List (Option Data)) → GoodLists lists → (d : Data) → At [] d
@@ -594,16 +564,16 @@ stream_tells lists g d clean =
     (adjusting_fills lists g ("calculationPeriodDatesAdjustments" ∷ p) (refl, refl, (refl, refl)))
     ⊗ maybe_fills p "firstPeriodStartDate" (adjustable lists) refl
     (dated_fills lists g ("firstPeriodStartDate" ∷ p) (refl, refl, (refl, refl, (refl, refl))))
-    ⊗ leaf_maybe p "firstRegularPeriodStartDate" Date leaf_date_at dates refl
-    ⊗ leaf_maybe p "lastRegularPeriodEndDate" Date leaf_date_at dates refl
-    ⊗ leaf_maybe p "stubPeriodType" StubType stub_kind_at (plain StubType stub_kind_at (λ s. refl)) refl in
-    let times = frequency_fills times_path refl refl ⊗ leaf_one times_path "rollConvention" Roll roll_at rolls refl in
-    let noting = notional_fills ⊗ leaf_one notionals_path "currency" CurrencyName currency_at currencies refl in
+    ⊗ leaf_maybe p "firstRegularPeriodStartDate" dates refl
+    ⊗ leaf_maybe p "lastRegularPeriodEndDate" dates refl
+    ⊗ leaf_maybe p "stubPeriodType" (plain Leaf.StubType Codes.stub_kind_at (λ s. refl)) refl in
+    let times = frequency_fills times_path refl refl ⊗ leaf_one times_path "rollConvention" rolls refl in
+    let noting = notional_fills ⊗ leaf_one notionals_path "currency" currencies refl in
     let counting =
     leg_fills
-    ⊗ leaf_one calculation_path "dayCountFraction" DayCount day_count_at (plain DayCount day_count_at (λ s. refl)) refl
-    ⊗ leaf_or {L = λ a. Any a} calculation_path "compoundingMethod" Compounding compounding_at Simple tt
-    (plain Compounding compounding_at (λ s. refl)) refl in
+    ⊗ leaf_one calculation_path "dayCountFraction" (plain Leaf.DayCount Codes.day_count_at (λ s. refl)) refl
+    ⊗ leaf_or calculation_path "compoundingMethod" Simple tt (plain Leaf.Compounding Codes.compounding_at (λ s. refl))
+    refl in
     let whole =
     one_fills [] "paymentDates" (payment_dates lists target) refl (pay_fills lists g target)
     ⊗ maybe_fills [] "resetDates" (reset_dates lists target) refl (reset_fills lists g target)

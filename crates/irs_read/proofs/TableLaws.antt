@@ -1,17 +1,16 @@
 -- The code's tables are those of the specification.
+use Rattle.irs_base.specs.Outcomes.{IsFirstBroken}
 use Rattle.irs_base.specs.Paths.{paths, printed_paths}
 use Rattle.irs_base.specs.declared.places.Broken.{Broken}
 use Rattle.irs_elements.specs.Elements.{FaultAt}
-use Rattle.irs_elements.specs.declared.table.Kind.{Kind}
 use Rattle.irs_elements.specs.Lines.{Line}
-use Rattle.irs_elements.specs.declared.table.Row.{Row}
-use Rattle.irs_read.specs.Readings.{list_lines, lists_in, names_on, value_on}
+use Rattle.irs_elements.specs.declared.table.{Kind.Kind, Row.Row}
 use Rattle.irs_read.specs.Documents.{stream_elements, stream_names, stream_rows, stream_table, swap_names, swap_rows}
 use Rattle.irs_read.specs.Documents.{swap_table}
+use Rattle.irs_read.specs.Readings.{list_lines, lists_in, names_on, value_on}
 use Rattle.irs_read.specs.declared.table.TheConstants.{NAMES, ROWS, SWAP_NAMES, SWAP_ROWS}
 use Rattle.serde_json.specs.Data.{Data}
 use Rattle.std.proofs.Common.{◌≡◌, ℕ, List, map, Option, Some, refl, subst}
-use Rattle.irs_base.specs.Outcomes.{IsFirstBroken}
 
 -- the names as the code has them
 abbrev pub code_names : List (List ℕ)

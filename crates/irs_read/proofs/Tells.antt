@@ -3,8 +3,7 @@ use Prim.Native.String.{String}
 use Rattle.irs_base.specs.Lists.{Pairs}
 use Rattle.irs_elements.specs.Elements.{name_at, once, values_in}
 use Rattle.irs_elements.specs.Leaves.{has_value, text_of_leaf}
-use Rattle.irs_elements.specs.declared.table.Count.{Count}
-use Rattle.irs_elements.specs.declared.table.Leaf.{Leaf as LeafKind}
+use Rattle.irs_elements.specs.declared.table.{Count.Count, Leaf.Leaf as LeafKind}
 use Rattle.irs_read.proofs.Clean.{clean_leaf, clean_once, clean_there, fine_values, leaf_at, some_value}
 use Rattle.irs_read.proofs.Rows.{At, AtMost, FreeRow, LeafRow, Path, RowIs, is_leaf, is_member, is_named, is_needed}
 use Rattle.irs_read.proofs.Rows.{at_most, most_of, row_of}
@@ -12,8 +11,8 @@ use Rattle.irs_read.proofs.TableLaws.{code_names as row_names}
 use Rattle.irs_read.specs.Readings.{Says, Value, each, maybe, one, or_by, said, text}
 use Rattle.irs_read.specs.declared.table.TheConstants.{ROWS}
 use Rattle.serde_json.specs.Data.{Data}
-use Rattle.std.proofs.Common.{◌≡◌, ℕ, suc, ◌<◌, ◌≤◌, Bool, true, false, true≢false, List, [], ◌∷◌, length, Option, Some}
 use Rattle.std.proofs.Common.{None, IfSome, is_some, slice_get, All, codes, refl, sym, ap, subst, ◌∙◌, arith}
+use Rattle.std.proofs.Common.{◌≡◌, ℕ, suc, ◌<◌, ◌≤◌, Bool, true, false, true≢false, List, [], ◌∷◌, length, Option, Some}
 use Rattle.std.proofs.lemmas.List.Elements.{All-cons, All-nil}
 use Rattle.std.proofs.lemmas.Option.{same_Some}
 
@@ -171,9 +170,9 @@ if_is : {A : Type 0} (L : A → Type 0) (o : Option A) (a : A) → o ≡ Some a 
 if_is {A = A} L o a e h = let k : IfSome (Some a) L = subst (λ (q : Option A). IfSome q L) e h in k
 
 -- a leaf
-pub leaf_fills : {A : Type 0} {L : A → Type 0} (p : Path) (kind : LeafKind) (at : List ℕ → Option A) → LeafIs kind at L
-    → leaf_at (slice_get ROWS (row_of p)) ≡ Some kind → Fills p (text kind at).says L
-leaf_fills {L = L} p kind at leaf is = record {
+pub leaf_fills : {A : Type 0} {L : A → Type 0} {kind : LeafKind} {at : List ℕ → Option A} (p : Path)
+    → LeafIs kind at L → leaf_at (slice_get ROWS (row_of p)) ≡ Some kind → Fills p (text kind at).says L
+leaf_fills {L = L} {kind = kind} {at = at} p leaf is = record {
   tells = λ d clean.
       let s = clean_leaf ROWS row_names (row_of p) kind d is clean.clean in
       let valued : is_some (said at (Some d)) ≡ true =
@@ -188,24 +187,24 @@ leaf_fills {L = L} p kind at leaf is = record {
 }
 
 -- one that must occur
-pub leaf_one : {A : Type 0} {L : A → Type 0} (p : Path) (name : String) (kind : LeafKind) (at : List ℕ → Option A)
+pub leaf_one : {A : Type 0} {L : A → Type 0} {kind : LeafKind} {at : List ℕ → Option A} (p : Path) (name : String)
     → LeafIs kind at L → LeafRow p name kind → Fills p (one name (text kind at)).says L
-leaf_one p name kind at leaf row =
-    one_fills p name (text kind at) row (leaf_fills (name ∷ p) kind at leaf (is_leaf p name row))
+leaf_one {kind = kind} {at = at} p name leaf row =
+    one_fills p name (text kind at) row (leaf_fills (name ∷ p) leaf (is_leaf p name row))
 
 -- one that may be absent
-pub leaf_maybe : {A : Type 0} {L : A → Type 0} (p : Path) (name : String) (kind : LeafKind) (at : List ℕ → Option A)
+pub leaf_maybe : {A : Type 0} {L : A → Type 0} {kind : LeafKind} {at : List ℕ → Option A} (p : Path) (name : String)
     → LeafIs kind at L → FreeRow p name kind → Fills p (maybe name (text kind at)).says (λ o. IfSome o L)
-leaf_maybe p name kind at leaf row =
-    maybe_fills p name (text kind at) row (leaf_fills (name ∷ p) kind at leaf (is_leaf p name row))
+leaf_maybe {kind = kind} {at = at} p name leaf row =
+    maybe_fills p name (text kind at) row (leaf_fills (name ∷ p) leaf (is_leaf p name row))
 
 -- one that may be absent, with a value where it is
-pub leaf_or : {A : Type 0} {L : A → Type 0} (p : Path) (name : String) (kind : LeafKind) (at : List ℕ → Option A)
+pub leaf_or : {A : Type 0} {L : A → Type 0} {kind : LeafKind} {at : List ℕ → Option A} (p : Path) (name : String)
     (absent : A) → L absent → LeafIs kind at L → FreeRow p name kind
     → Fills p (or_by name (text kind at) (λ _. absent)).says L
-leaf_or p name kind at absent lawful leaf row =
+leaf_or {kind = kind} {at = at} p name absent lawful leaf row =
     or_fills p name (text kind at) (λ _. absent) (λ _. lawful) row
-    (leaf_fills (name ∷ p) kind at leaf (is_leaf p name row))
+    (leaf_fills (name ∷ p) leaf (is_leaf p name row))
 
 -- ---- lists
 

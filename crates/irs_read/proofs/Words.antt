@@ -1,19 +1,18 @@
 -- The texts of leaves that name a centre or an index are lawful.
-use Rattle.irs_base.specs.Limits.{most_index, most_name}
 use Rattle.irs_elements.specs.Leaves.{text_of_leaf, is_center_name, is_index_name, is_no_control, is_visible}
 use Rattle.irs_json.specs.Leaves.{child_of, Leaf, word, whole, truth, bare_leaf, is_beside, leaf_among, leaf_of}
 use Rattle.irs_json.specs.Leaves.{whole_leaf, element_names, is_white_space, trim, trim_back, trim_front}
 use Rattle.irs_read.specs.Readings.{said}
 use Rattle.irs_terms.specs.Lawful.{IsLawfulIndex, IsLawfulName}
 use Rattle.serde_json.specs.Data.{Data, null, boolean, number, string, array, object, Num, unsigned, negative, float}
-use Rattle.std.proofs.Common.{◌≡◌, ◌≢◌, ℕ, zero, suc, ◌+◌, ◌-◌, ◌/◌, ◌%◌, ◌≤◌, nat_lt, nat_le, Bool, true, false, ◌&&◌}
-use Rattle.std.proofs.Common.{◌==◌, true≢false, ◌⊎◌, inl, inr, List, [], ◌∷◌, ◌++◌, length, reverse, get_or, ℤ, pos}
-use Rattle.std.proofs.Common.{negsuc, Option, Some, None, IfSome, option_map, option_and_then, slice_index_or}
-use Rattle.std.proofs.Common.{decimal, codes, refl, sym, ap, subst, ◌∙◌, arith, if◌then◌else◌, length-append}
+use Rattle.std.proofs.Common.{Option, Some, None, IfSome, option_map, option_and_then, decimal, codes, refl, sym, ap}
+use Rattle.std.proofs.Common.{nat_lt, Bool, true, false, ◌==◌}
+use Rattle.std.proofs.Common.{subst, ◌∙◌, arith, if◌then◌else◌, length-append, true≢false, ◌⊎◌, inl, inr, List, [], ◌∷◌}
+use Rattle.std.proofs.Common.{◌++◌, length, reverse, get_or, ℤ, pos, negsuc, ◌≡◌, ◌≢◌, ℕ, zero, suc, ◌+◌, ◌-◌, ◌/◌, ◌%◌}
 use Rattle.std.proofs.Math.Seq.{get_or-append_seam}
 use Rattle.std.proofs.lemmas.Bool.Decides.{nat_tests}
-use Rattle.std.proofs.lemmas.List.{reverse-append}
 use Rattle.std.proofs.lemmas.List.Sums.{AllPass-from_list_all}
+use Rattle.std.proofs.lemmas.List.{reverse-append}
 use Rattle.std.specs.Fmt.{digit_glyph, digits, digits_onto, signed_decimal}
 use Rattle.std.specs.List.{list_all}
 
@@ -149,45 +148,23 @@ among_ends : (o : Option (List (List ℕ))) (d : Data) (l : Leaf) → leaf_among
 among_ends None d l e = bare_ends d l e
 among_ends (Some names) d l e = inner_ends (child_of (codes "#text") d) (list_all is_beside names) l e
 
-leaf_ends : (d : Data) (l : Leaf) → leaf_of d ≡ Some l → EndsWell (text_of_leaf l)
-leaf_ends d l e = among_ends (element_names d) d l e
-
 -- ---- names
-
-visible : (b : ℕ) → is_visible b ≡ true → (33 ≤ b) × (b ≤ 126)
-visible b e = grind (arith, nat_tests)
-
-no_control : (b : ℕ) → is_no_control b ≡ true → (32 ≤ b) × (b ≢ 127)
-no_control b e = grind (arith, nat_tests)
-
-more : (n : ℕ) → nat_lt 0 n ≡ true → 1 ≤ n
-more n e = grind (arith, nat_tests)
-
-less : (m n : ℕ) → nat_le m n ≡ true → m ≤ n
-less m n e = grind (arith, nat_tests)
-
-split : (a b c : Bool) → (a && b && c) ≡ true → (a ≡ true) × ((b ≡ true) × (c ≡ true))
-split true true true e = (refl, (refl, refl))
-split true true false e = cc
-split true false c e = cc
-split false b c e = cc
 
 -- a name that passes its test is lawful
 pub name_lawful : (s : List ℕ) → is_center_name s ≡ true → IsLawfulName s
 name_lawful s e =
-    let (some, (few, all)) = split (nat_lt 0 (length s)) (nat_le (length s) most_name) (list_all is_visible s) e in (
-      more (length s) some,
-      less (length s) most_name few,
-      λ k d lt. visible (slice_index_or s k d) (AllPass-from_list_all is_visible s all k d lt),
+    let all : list_all is_visible s ≡ true = grind (arith, nat_tests) in (
+      grind (arith, nat_tests),
+      grind (arith, nat_tests),
+      λ k d lt. let h = AllPass-from_list_all is_visible s all k d lt in grind (arith, nat_tests),
     )
 
 index_lawful : (s : List ℕ) → is_index_name s ≡ true → EndsWell s → IsLawfulIndex s
 index_lawful s e ends =
-    let (some, (few, all)) =
-    split (nat_lt 0 (length s)) (nat_le (length s) most_index) (list_all is_no_control s) e in (
-      more (length s) some,
-      less (length s) most_index few,
-      (λ k d lt. no_control (slice_index_or s k d) (AllPass-from_list_all is_no_control s all k d lt)),
+    let all : list_all is_no_control s ≡ true = grind (arith, nat_tests) in (
+      grind (arith, nat_tests),
+      grind (arith, nat_tests),
+      (λ k d lt. let h = AllPass-from_list_all is_no_control s all k d lt in grind (arith, nat_tests)),
       ends.0,
       ends.1,
     )
@@ -203,7 +180,7 @@ index_by : (d : Data) (o : Option Leaf) → leaf_of d ≡ o
 index_by d None e = tt
 index_by d (Some l) e =
     guarded_in IsLawfulIndex (is_index_name (text_of_leaf l)) (text_of_leaf l)
-    (λ t. index_lawful (text_of_leaf l) t (leaf_ends d l e))
+    (λ t. index_lawful (text_of_leaf l) t (among_ends (element_names d) d l e))
 
 -- an index that is said has a lawful name
 pub index_said : (d : Data) → IfSome (said (λ s. if is_index_name s then Some s else None) (Some d)) IsLawfulIndex

@@ -1,34 +1,30 @@
 -- A document: the way to its swap, the swap that it spells, and the rules that it breaks.
-use Rattle.std.specs.Prelude.{ℕ, ◌-◌, List, [], ◌∷◌, None, drop, take, ◌≡◌, ◌+◌, ◌<◌, ◌≤◌, ◌⊎◌, true, length, Some}
-use Rattle.std.specs.Prelude.{is_some, slice_get, codes, Bool, false, Result, Ok, Err, if◌then◌else◌, Option, nat_lt}
-use Rattle.std.specs.Prelude.{not, ◌&&◌, ◌||◌, ◌==◌, map}
+use Rattle.irs_base.specs.Elements.{calculation_period_dates, cashflows, swap_stream, document, swap}
+use Rattle.irs_base.specs.Limits.{most_streams}
+use Rattle.irs_base.specs.Outcomes.{First, is_before, Spec}
+use Rattle.irs_base.specs.Paths.{printed_paths}
+use Rattle.irs_base.specs.declared.places.Rule.TheVariants.{K2, K7, K3}
+use Rattle.irs_base.specs.declared.places.{Broken.Broken, Rule.Rule}
+use Rattle.irs_elements.specs.Elements.{FaultAt, values_in, IsMemberRow, is_chosen, is_element, is_required, name_at}
+use Rattle.irs_elements.specs.Elements.{once, leaf_text_in}
+use Rattle.irs_elements.specs.Leaves.{has_value}
+use Rattle.irs_elements.specs.Lines.{Line, Others, Table, others_at, table_names, table_rows}
+use Rattle.irs_elements.specs.declared.table.Choice.TheVariants.{ExactlyOne}
+use Rattle.irs_elements.specs.declared.table.Choice.TheVariants.{Free, Reference, AtMostOne, AtMostOneOfThree}
+use Rattle.irs_elements.specs.declared.table.Kind.TheVariants.{Object, Leaf}
+use Rattle.irs_elements.specs.declared.table.{Row.Row, Choice.Choice, Kind.Kind, Leaf.Leaf as LeafKind}
+use Rattle.irs_json.specs.Leaves.{element_names, child_of, items_of}
+use Rattle.irs_read.specs.Readings.{attribute, streams_in}
+use Rattle.irs_read.specs.StreamElements.{stream_by, SwapSays}
+use Rattle.irs_terms.specs.declared.stream_list.Swap.{Swap}
 use Rattle.serde_json.specs.Data.{Data}
 use Rattle.serde_json.specs.View.{view}
 use Rattle.serde_json.specs.declared.value.Value.{Value}
 use Rattle.std.specs.Borrow.{Bor}
+use Rattle.std.specs.Prelude.{is_some, slice_get, codes, Bool, false, Result, Ok, Err, if◌then◌else◌, Option, nat_lt}
+use Rattle.std.specs.Prelude.{not, ◌&&◌, ◌||◌, ◌==◌, map}
+use Rattle.std.specs.Prelude.{ℕ, ◌-◌, List, [], ◌∷◌, None, drop, take, ◌≡◌, ◌+◌, ◌<◌, ◌≤◌, ◌⊎◌, true, length, Some}
 use Rattle.std.specs.Str.{bytes_eq}
-use Rattle.irs_base.specs.Elements.{calculation_period_dates, cashflows, swap_stream, document, swap}
-use Rattle.irs_base.specs.Paths.{printed_paths}
-use Rattle.irs_base.specs.declared.places.Broken.{Broken}
-use Rattle.irs_base.specs.declared.places.Rule.{Rule}
-use Rattle.irs_base.specs.declared.places.Rule.TheVariants.{K2, K7, K3}
-use Rattle.irs_base.specs.Limits.{most_streams}
-use Rattle.irs_base.specs.Outcomes.{First, is_before, Spec}
-use Rattle.irs_terms.specs.declared.stream_list.Swap.{Swap}
-use Rattle.irs_json.specs.Leaves.{element_names, child_of, items_of}
-use Rattle.irs_elements.specs.Lines.{Line, Others, Table, others_at, table_names, table_rows}
-use Rattle.irs_elements.specs.declared.table.Row.{Row}
-use Rattle.irs_elements.specs.Elements.{FaultAt, values_in, IsMemberRow, is_chosen, is_element, is_required, name_at}
-use Rattle.irs_elements.specs.Elements.{once, leaf_text_in}
-use Rattle.irs_elements.specs.declared.table.Choice.TheVariants.{Free, Reference, AtMostOne, AtMostOneOfThree}
-use Rattle.irs_elements.specs.declared.table.Choice.TheVariants.{ExactlyOne}
-use Rattle.irs_elements.specs.declared.table.Kind.TheVariants.{Object, Leaf}
-use Rattle.irs_elements.specs.Leaves.{has_value}
-use Rattle.irs_elements.specs.declared.table.Choice.{Choice}
-use Rattle.irs_elements.specs.declared.table.Kind.{Kind}
-use Rattle.irs_elements.specs.declared.table.Leaf.{Leaf as LeafKind}
-use Rattle.irs_read.specs.StreamElements.{stream_by, SwapSays}
-use Rattle.irs_read.specs.Readings.{attribute, streams_in}
 
 -- ---- the tables of a swap and of its streams: the elements of a stream, and the members that are passed over or out
 -- of the profile
@@ -125,19 +121,27 @@ Among P ds f = (j : ℕ) × ((x : Data) × ((slice_get ds j ≡ Some x) × P j x
 abbrev pub StreamFault : ℕ → Data → Broken → Type 0
 StreamFault j d f = FaultAt stream_rows stream_names (j + 1) 0 (Object Free) 0 d f
 
--- those of the streams of a swap
-pub data StreamsFault (ds : List Data) : Broken → Type 0 where
+-- the rules that the streams of a swap break, of which P says what each breaks by its position from 0
+pub data FaultOfStreams (P : ℕ → Data → Broken → Type 0) (ds : List Data) : Broken → Type 0 where
   -- there is none
-  no_stream : length ds ≡ 0 → StreamsFault ds (outside K2 swap_stream)
+  no_stream : length ds ≡ 0 → FaultOfStreams P ds (outside K2 swap_stream)
   -- there are more than eight
-  many_streams : most_streams < length ds → StreamsFault ds (outside K7 swap_stream)
+  many_streams : most_streams < length ds → FaultOfStreams P ds (outside K7 swap_stream)
   -- there are one to eight, and one of them breaks a rule
-  in_stream : (f : Broken) → 0 < length ds → length ds ≤ most_streams → Among StreamFault ds f → StreamsFault ds f
+  in_stream : (f : Broken) → 0 < length ds → length ds ≤ most_streams → Among P ds f → FaultOfStreams P ds f
+
+-- what a value breaks: by itself, and where it is an object by its members
+abbrev pub WithMembers : (Broken → Type 0) → (Broken → Type 0) → Data → Broken → Type 0
+WithMembers own inside d f = own f ⊎ ((is_some (element_names d) ≡ true) × inside f)
+
+-- those of the streams of a swap, by the table
+abbrev pub StreamsFault : List Data → Broken → Type 0
+StreamsFault ds = FaultOfStreams StreamFault ds
 
 -- those of a swap: its own, and where it is an object those of its streams
 abbrev pub SwapFault : Data → Broken → Type 0
-SwapFault d f = FaultAt swap_rows swap_names 0 0 (Object Free) 0 d f
-    ⊎ ((is_some (element_names d) ≡ true) × StreamsFault (values_in (codes "swapStream") (Some d)) f)
+SwapFault d =
+    WithMembers (FaultAt swap_rows swap_names 0 0 (Object Free) 0 d) (StreamsFault (values_in (codes "swapStream") (Some d))) d
 
 -- ---- the way from the root of a document to its swap, and the rules that a document breaks
 
@@ -197,12 +201,16 @@ the_swap d =
     if is_some (element_names d) then by_root (has (codes "swap") d) (has (codes "trade") d)
     (has (codes "dataDocument") d) d else Err (outside K3 document)
 
--- the rules that a document breaks
-pub data DocumentFault (d : Data) : Broken → Type 0 where
+-- the rules that a document breaks on the way to its swap or at the swap, of which P says what it breaks
+pub data FaultOfSwap (P : Data → Broken → Type 0) (d : Data) : Broken → Type 0 where
   -- a rule ends the way to the swap
-  ended : (f : Broken) → the_swap d ≡ Err f → DocumentFault d f
+  ended : (f : Broken) → the_swap d ≡ Err f → FaultOfSwap P d f
   -- the swap breaks one
-  below : (s : Data) (f : Broken) → the_swap d ≡ Ok s → SwapFault s f → DocumentFault d f
+  below : (s : Data) (f : Broken) → the_swap d ≡ Ok s → P s f → FaultOfSwap P d f
+
+-- the rules that a document breaks, by the tables
+abbrev pub DocumentFault : Data → Broken → Type 0
+DocumentFault d = FaultOfSwap SwapFault d
 
 -- ---- the swap that a document spells, and the first rule that it breaks
 

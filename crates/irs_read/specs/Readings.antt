@@ -1,18 +1,17 @@
 -- What it is to read a value, and references between values.
 use Prim.Native.String.{String}
-use Rattle.serde_json.specs.Data.{Data}
-use Rattle.std.specs.Prelude.{◌≡◌, ℕ, List, [], ◌∷◌, ◌++◌, map, Option, Some, None, option_and_then, codes, Bool, false}
-use Rattle.std.specs.Prelude.{◌==◌, unwrap_or, count_by, find, if◌then◌else◌}
-use Rattle.serde_json.specs.Find.{as_str}
-use Rattle.std.specs.List.{flat_map}
-use Rattle.std.specs.Str.{bytes_eq}
 use Rattle.irs_base.specs.Lists.{Pairs}
-use Rattle.irs_json.specs.Leaves.{child_of}
 use Rattle.irs_elements.specs.Elements.{once, leaf_text_in, values_in, member}
 use Rattle.irs_elements.specs.Lines.{Form, Line, leaf, line, path_above, last_name}
-use Rattle.irs_elements.specs.declared.table.Count.{Count}
 use Rattle.irs_elements.specs.declared.table.Count.TheVariants.{One, Maybe}
-use Rattle.irs_elements.specs.declared.table.Leaf.{Leaf as LeafKind}
+use Rattle.irs_elements.specs.declared.table.{Count.Count, Leaf.Leaf as LeafKind}
+use Rattle.irs_json.specs.Leaves.{child_of}
+use Rattle.serde_json.specs.Data.{Data}
+use Rattle.serde_json.specs.Find.{as_str}
+use Rattle.std.specs.List.{flat_map}
+use Rattle.std.specs.Prelude.{◌==◌, unwrap_or, count_by, find, if◌then◌else◌}
+use Rattle.std.specs.Prelude.{◌≡◌, ℕ, List, [], ◌∷◌, ◌++◌, map, Option, Some, None, option_and_then, codes, Bool, false}
+use Rattle.std.specs.Str.{bytes_eq}
 
 -- ---- what it is to read a value: its lines in the table of elements, and what it says of what is read from it
 -- There is no value for an element that must occur and doesn't, nor for a leaf whose text has none.

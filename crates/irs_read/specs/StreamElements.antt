@@ -2,60 +2,43 @@
 -- text is read, the field that it gives, and what holds where it is absent. A name continues the path of the object
 -- that it stands in. Which elements are in the profile, their counts, their order and the defaults are our rule.
 use Rattle.irs_base.specs.Limits.{most_centers, most_steps}
+use Rattle.irs_base.specs.Lists.{Pairs}
 use Rattle.irs_base.specs.declared.rounding.Direction.TheVariants.{Nearest}
 use Rattle.irs_elements.specs.Codes.{calculation_method_at, compounding_at, convention_at, day_count_at, day_kind_at}
 use Rattle.irs_elements.specs.Codes.{direction_at, offset_unit_at, relative_at, roll_at, stub_kind_at, tenor_unit_at}
 use Rattle.irs_elements.specs.Codes.{treatment_at, truth_at, period_unit_at}
-use Rattle.irs_elements.specs.Leaves.{leaf_date_at, currency_at, is_center_name, is_index_name}
 use Rattle.irs_elements.specs.Elements.{once}
+use Rattle.irs_elements.specs.Leaves.{leaf_date_at, currency_at, is_center_name, is_index_name}
 use Rattle.irs_elements.specs.Lines.{at_most_one, at_most_one_of_three, exactly_one, object}
 use Rattle.irs_elements.specs.Lines.{reference as reference_form}
-use Rattle.irs_elements.specs.Numbers.{multiplier_at, notional_at, observation_days_at, offset_at, precision_at}
 use Rattle.irs_elements.specs.Numbers.{leaf_rate_at}
+use Rattle.irs_elements.specs.Numbers.{multiplier_at, notional_at, observation_days_at, offset_at, precision_at}
 use Rattle.irs_elements.specs.declared.table.Count.TheVariants.{Maybe, OneTo, UpTo}
-use Rattle.irs_elements.specs.declared.table.Leaf.TheVariants.{CalculationMethod as MethodKind, CenterName}
-use Rattle.irs_elements.specs.declared.table.Leaf.TheVariants.{Compounding as CompoundingKind, Convention}
-use Rattle.irs_elements.specs.declared.table.Leaf.TheVariants.{CurrencyName, Date, DayCount, DayType}
-use Rattle.irs_elements.specs.declared.table.Leaf.TheVariants.{Direction as DirectionKind, IndexName, Multiplier}
-use Rattle.irs_elements.specs.declared.table.Leaf.TheVariants.{Notional}
-use Rattle.irs_elements.specs.declared.table.Leaf.TheVariants.{ObservationDays, OffsetDays, OffsetUnit, PayRelative}
-use Rattle.irs_elements.specs.declared.table.Leaf.TheVariants.{PeriodUnit, Precision, Rate, ResetRelative, Roll}
-use Rattle.irs_elements.specs.declared.table.Leaf.TheVariants.{StubType}
-use Rattle.irs_elements.specs.declared.table.Leaf.TheVariants.{TenorUnit, Treatment as TreatmentKind, Truth}
-use Rattle.irs_base.specs.Lists.{Pairs}
-use Rattle.irs_read.specs.Readings.{ReadPart, Says, Value, each, either_member, holds, member_lines, maybe}
-use Rattle.irs_read.specs.Readings.{one, or, or_by, text, unread, ◌also◌, ◌gives◌, has_id, href_of, lists_of}
-use Rattle.irs_read.specs.Readings.{streams_in, the_one}
-use Rattle.irs_terms.specs.declared.adjustments.AdjustableDate.{AdjustableDate}
-use Rattle.irs_terms.specs.declared.adjustments.Adjustments.{Adjustments}
-use Rattle.irs_terms.specs.declared.adjustments.Centers.{Centers}
+use Rattle.irs_elements.specs.declared.table.Leaf.TheVariants as Leaf
+use Rattle.irs_read.specs.Readings.{ReadPart, Says, Value, each, either_member, holds, member_lines, maybe, one, or}
+use Rattle.irs_read.specs.Readings.{or_by, text, unread, ◌also◌, ◌gives◌, has_id, href_of, lists_of, streams_in}
+use Rattle.irs_read.specs.Readings.{the_one}
 use Rattle.irs_terms.specs.declared.adjustments.Centers.TheVariants.{Absent, Listed, Dangling}
-use Rattle.irs_terms.specs.declared.adjustments.Offset.{Offset}
-use Rattle.irs_terms.specs.declared.amounts.ExchangeFlags.{ExchangeFlags}
-use Rattle.irs_terms.specs.declared.amounts.FloatTerms.{FloatTerms}
-use Rattle.irs_terms.specs.declared.amounts.Leg.{Leg}
+use Rattle.irs_terms.specs.declared.adjustments.{AdjustableDate.AdjustableDate, Adjustments.Adjustments}
+use Rattle.irs_terms.specs.declared.adjustments.{Centers.Centers, Offset.Offset}
 use Rattle.irs_terms.specs.declared.amounts.Leg.TheVariants.{Fixed, Floating}
-use Rattle.irs_terms.specs.declared.amounts.Rounding.{Rounding}
-use Rattle.irs_terms.specs.declared.amounts.StubRate.{StubRate}
 use Rattle.irs_terms.specs.declared.amounts.StubRate.TheVariants.{Index, Fixed as FixedStub}
-use Rattle.irs_terms.specs.declared.amounts.StubTerms.{StubTerms}
+use Rattle.irs_terms.specs.declared.amounts.{ExchangeFlags.ExchangeFlags, FloatTerms.FloatTerms, Leg.Leg}
+use Rattle.irs_terms.specs.declared.amounts.{Rounding.Rounding, StubRate.StubRate, StubTerms.StubTerms}
 use Rattle.irs_terms.specs.declared.codes.CompCode.TheVariants.{Simple}
 use Rattle.irs_terms.specs.declared.codes.ConvCode.TheVariants.{Unadjusted}
 use Rattle.irs_terms.specs.declared.codes.DayKind.TheVariants.{Unsaid}
-use Rattle.irs_terms.specs.declared.codes.RefState.{RefState}
 use Rattle.irs_terms.specs.declared.codes.RefState.TheVariants.{Absent as NoReference, Good, Dangling as NoTarget}
+use Rattle.irs_terms.specs.declared.codes.RefState.{RefState}
 use Rattle.irs_terms.specs.declared.codes.Relative.TheVariants.{Start}
 use Rattle.irs_terms.specs.declared.codes.Treatment.TheVariants.{AsIs}
-use Rattle.irs_terms.specs.declared.dates.FixTerms.{FixTerms}
-use Rattle.irs_terms.specs.declared.dates.PayTerms.{PayTerms}
-use Rattle.irs_terms.specs.declared.dates.ResetTerms.{ResetTerms}
+use Rattle.irs_terms.specs.declared.dates.{FixTerms.FixTerms, PayTerms.PayTerms, ResetTerms.ResetTerms}
 use Rattle.irs_terms.specs.declared.frequency.Frequency.{Frequency}
-use Rattle.irs_terms.specs.declared.parameters.CalculationParameters.{CalculationParameters}
-use Rattle.irs_terms.specs.declared.parameters.ObservationOffset.{ObservationOffset}
 use Rattle.irs_terms.specs.declared.parameters.ObservationOffset.TheVariants.{Absent as NoOffset, Shift, Lookback}
 use Rattle.irs_terms.specs.declared.parameters.ObservationOffset.TheVariants.{Lockout}
-use Rattle.irs_terms.specs.declared.step_list.Step.{Step}
-use Rattle.irs_terms.specs.declared.step_list.StepValues.{StepValues}
+use Rattle.irs_terms.specs.declared.parameters.{CalculationParameters.CalculationParameters}
+use Rattle.irs_terms.specs.declared.parameters.{ObservationOffset.ObservationOffset}
+use Rattle.irs_terms.specs.declared.step_list.{Step.Step, StepValues.StepValues}
 use Rattle.irs_terms.specs.declared.stream.Stream.{Stream}
 use Rattle.irs_terms.specs.declared.stream_list.Swap.{Swap}
 use Rattle.serde_json.specs.Data.{Data}
@@ -65,27 +48,27 @@ use Rattle.std.specs.Prelude.{◌≡◌, ℕ, Bool, false, List, [], ◌++◌, �
 
 -- a date
 abbrev pub date : Value ℤ
-date = text Date leaf_date_at
+date = text Leaf.Date leaf_date_at
 
 -- a notional, in units of 10^-4
 abbrev pub notional : Value ℤ
-notional = text Notional notional_at
+notional = text Leaf.Notional notional_at
 
 -- a rate, a spread or a multiplier, in units of 10^-9
 abbrev pub rate : Value ℤ
-rate = text Rate leaf_rate_at
+rate = text Leaf.Rate leaf_rate_at
 
 -- a truth value
 abbrev pub truth : Value Bool
-truth = text Truth truth_at
+truth = text Leaf.Truth truth_at
 
 -- the name of a business centre, and the index of a rate: the texts as they are
 abbrev pub center_name : Value (List ℕ)
-center_name = text CenterName (λ s. if is_center_name s then Some s else None)
+center_name = text Leaf.CenterName (λ s. if is_center_name s then Some s else None)
 
 -- the index of a rate
 abbrev pub index_name : Value (List ℕ)
-index_name = text IndexName (λ s. if is_index_name s then Some s else None)
+index_name = text Leaf.IndexName (λ s. if is_index_name s then Some s else None)
 
 -- ---- blocks
 
@@ -100,21 +83,21 @@ reference target = record {
 -- FREQ: a number of periods
 abbrev pub frequency : ReadPart Frequency
 frequency =
-    one "periodMultiplier" (text Multiplier multiplier_at) gives (λ (f : Frequency). f.count)
-    also one "period" (text PeriodUnit period_unit_at) gives (λ (f : Frequency). f.unit)
+    one "periodMultiplier" (text Leaf.Multiplier multiplier_at) gives (λ (f : Frequency). f.count)
+    also one "period" (text Leaf.PeriodUnit period_unit_at) gives (λ (f : Frequency). f.unit)
 
 -- the same of the tenor of an index
 abbrev pub tenor : ReadPart Frequency
 tenor =
-    one "periodMultiplier" (text Multiplier multiplier_at) gives (λ (f : Frequency). f.count)
-    also one "period" (text TenorUnit tenor_unit_at) gives (λ (f : Frequency). f.unit)
+    one "periodMultiplier" (text Leaf.Multiplier multiplier_at) gives (λ (f : Frequency). f.count)
+    also one "period" (text Leaf.TenorUnit tenor_unit_at) gives (λ (f : Frequency). f.unit)
 
 -- OFF: an offset, always in days
 abbrev pub offset : ReadPart Offset
 offset =
-    one "periodMultiplier" (text OffsetDays offset_at) gives (λ (o : Offset). o.days)
-    also unread "period" (text OffsetUnit offset_unit_at)
-    also or "dayType" (text DayType day_kind_at) Unsaid gives (λ (o : Offset). o.kind)
+    one "periodMultiplier" (text Leaf.OffsetDays offset_at) gives (λ (o : Offset). o.days)
+    also unread "period" (text Leaf.OffsetUnit offset_unit_at)
+    also or "dayType" (text Leaf.DayType day_kind_at) Unsaid gives (λ (o : Offset). o.kind)
 
 -- a list of business centres
 abbrev pub center_list : Value (List (List ℕ))
@@ -133,7 +116,7 @@ centers lists = record {
 -- ADJ: the members of adjustments
 abbrev pub adjusting : List (Option Data) → ReadPart Adjustments
 adjusting lists =
-    one "businessDayConvention" (text Convention convention_at) gives (λ (a : Adjustments). a.code)
+    one "businessDayConvention" (text Leaf.Convention convention_at) gives (λ (a : Adjustments). a.code)
     also centers lists gives (λ (a : Adjustments). a.centers)
 
 -- adjustments
@@ -168,18 +151,26 @@ always z = record { initial = z; steps = [] }
 
 -- ---- the dates of a stream
 
--- `calculationPeriodDates`
-abbrev pub period_dates : List (Option Data) → ReadPart Stream
-period_dates lists =
+-- `calculationPeriodFrequency`
+abbrev pub frequency_terms : ReadPart Stream
+frequency_terms =
+    frequency gives (λ (s : Stream). s.freq)
+    also one "rollConvention" (text Leaf.Roll roll_at) gives (λ (s : Stream). s.roll)
+
+-- `calculationPeriodDates`, but for the frequency
+abbrev pub period_terms : List (Option Data) → ReadPart Stream
+period_terms lists =
     one "effectiveDate" (adjustable lists) gives (λ (s : Stream). s.effective)
     also one "terminationDate" (adjustable lists) gives (λ (s : Stream). s.termination)
     also one "calculationPeriodDatesAdjustments" (adjustments lists) gives (λ (s : Stream). s.period_adj)
     also maybe "firstPeriodStartDate" (adjustable lists) gives (λ (s : Stream). s.first_start)
     also maybe "firstRegularPeriodStartDate" date gives (λ (s : Stream). s.first_regular)
     also maybe "lastRegularPeriodEndDate" date gives (λ (s : Stream). s.last_regular)
-    also maybe "stubPeriodType" (text StubType stub_kind_at) gives (λ (s : Stream). s.stub)
-    also one "calculationPeriodFrequency" (holds object (frequency gives (λ (s : Stream). s.freq)
-    also one "rollConvention" (text Roll roll_at) gives (λ (s : Stream). s.roll)))
+    also maybe "stubPeriodType" (text Leaf.StubType stub_kind_at) gives (λ (s : Stream). s.stub)
+
+-- `calculationPeriodDates`
+abbrev pub period_dates : List (Option Data) → ReadPart Stream
+period_dates lists = period_terms lists also one "calculationPeriodFrequency" (holds object frequency_terms)
 
 -- `paymentDates`
 abbrev pub payment_dates : List (Option Data) → Option Data → Value PayTerms
@@ -189,7 +180,7 @@ payment_dates lists dates =
     also one "paymentFrequency" (holds object frequency) gives (λ (p : PayTerms). p.freq)
     also maybe "firstPaymentDate" date gives (λ (p : PayTerms). p.first)
     also maybe "lastRegularPaymentDate" date gives (λ (p : PayTerms). p.last)
-    also one "payRelativeTo" (text PayRelative relative_at) gives (λ (p : PayTerms). p.relative)
+    also one "payRelativeTo" (text Leaf.PayRelative relative_at) gives (λ (p : PayTerms). p.relative)
     also or "paymentDaysOffset" (holds object offset) (record { days = pos 0; kind = Unsaid })
     gives (λ (p : PayTerms). p.offset)
     also or "paymentDatesAdjustments" (adjustments lists) unadjusted gives (λ (p : PayTerms). p.adj))
@@ -217,7 +208,7 @@ abbrev pub reset_dates : List (Option Data) → Option Data → Value ResetTerms
 reset_dates lists dates =
     holds object (
     or "calculationPeriodDatesReference" (reference dates) NoReference gives (λ (r : ResetTerms). r.calc_ref)
-    also or "resetRelativeTo" (text ResetRelative relative_at) Start gives (λ (r : ResetTerms). r.relative)
+    also or "resetRelativeTo" (text Leaf.ResetRelative relative_at) Start gives (λ (r : ResetTerms). r.relative)
     also fixings lists
     also one "resetFrequency" (holds object frequency) gives (λ (r : ResetTerms). r.freq)
     also or "resetDatesAdjustments" (adjustments lists) unadjusted gives (λ (r : ResetTerms). r.adj))
@@ -233,8 +224,8 @@ indexed =
 -- how a rate is rounded
 abbrev pub rounding_read : Value Rounding
 rounding_read =
-    holds object (one "roundingDirection" (text DirectionKind direction_at) gives (λ (r : Rounding). r.dir)
-    also one "precision" (text Precision precision_at) gives (λ (r : Rounding). r.places))
+    holds object (one "roundingDirection" (text Leaf.Direction direction_at) gives (λ (r : Rounding). r.dir)
+    also one "precision" (text Leaf.Precision precision_at) gives (λ (r : Rounding). r.places))
 
 -- the decimals of a rate where they aren't said: 7 if daily rates give it by `calculationParameters` (2006 ISDA
 -- Definitions, 8.1(a)), else 9
@@ -244,7 +235,7 @@ places_by (Some stated) = 7
 
 -- the days of an observation shift, a lookback or a lockout
 abbrev pub observed : Value ℕ
-observed = holds object (one "offsetDays" (text ObservationDays observation_days_at))
+observed = holds object (one "offsetDays" (text Leaf.ObservationDays observation_days_at))
 
 -- an observation shift, a lookback or a lockout, whichever is there
 abbrev pub observing : ReadPart ObservationOffset
@@ -261,7 +252,8 @@ observing = record {
 abbrev pub parameters : Value CalculationParameters
 parameters =
     holds (at_most_one_of_three "observationShift" "lookback" "lockout")
-    (one "calculationMethod" (text MethodKind calculation_method_at) gives (λ (p : CalculationParameters). p.method)
+    (one "calculationMethod" (text Leaf.CalculationMethod calculation_method_at)
+    gives (λ (p : CalculationParameters). p.method)
     also observing gives (λ (p : CalculationParameters). p.offset)
     also one "applicableBusinessDays" center_list gives (λ (p : CalculationParameters). p.centers))
 
@@ -276,7 +268,7 @@ floating =
     also or_by "finalRateRounding" rounding_read
     (λ d. record { dir = Nearest; places = places_by (once (codes "calculationParameters") d) })
     gives (λ (f : FloatTerms). f.rounding)
-    also or "negativeInterestRateTreatment" (text TreatmentKind treatment_at) AsIs
+    also or "negativeInterestRateTreatment" (text Leaf.Treatment treatment_at) AsIs
     gives (λ (f : FloatTerms). f.treatment)
     also maybe "calculationParameters" parameters gives (λ (f : FloatTerms). f.parameters))
 
@@ -290,16 +282,23 @@ leg = record {
       "fixedRateSchedule" (holds object (schedule rate)) Fixed).says;
 }
 
+-- `notionalStepSchedule`
+abbrev pub notional_terms : ReadPart Stream
+notional_terms =
+    schedule notional gives (λ (s : Stream). s.notional)
+    also one "currency" (text Leaf.CurrencyName currency_at) gives (λ (s : Stream). s.currency)
+
+-- `calculation`, but for the notionals
+abbrev pub rate_terms : ReadPart Stream
+rate_terms =
+    leg gives (λ (s : Stream). s.leg)
+    also one "dayCountFraction" (text Leaf.DayCount day_count_at) gives (λ (s : Stream). s.day_count)
+    also or "compoundingMethod" (text Leaf.Compounding compounding_at) Simple gives (λ (s : Stream). s.compounding)
+
 -- `calculation`
 abbrev pub calculation : ReadPart Stream
 calculation =
-    one "notionalSchedule" (holds object (one "notionalStepSchedule" (holds object (
-    schedule notional gives (λ (s : Stream). s.notional)
-    also one "currency" (text CurrencyName currency_at) gives (λ (s : Stream). s.currency)
-    ))))
-    also leg gives (λ (s : Stream). s.leg)
-    also one "dayCountFraction" (text DayCount day_count_at) gives (λ (s : Stream). s.day_count)
-    also or "compoundingMethod" (text CompoundingKind compounding_at) Simple gives (λ (s : Stream). s.compounding)
+    one "notionalSchedule" (holds object (one "notionalStepSchedule" (holds object notional_terms))) also rate_terms
 
 -- the rate of a stub: that of an index, or a rate that is stated
 abbrev pub stub : Value StubRate

@@ -52,20 +52,14 @@ fn swap_below(v: &Value) -> Result<&Value, Broken>
 fn trade_below(v: &Value) -> Result<&Value, Broken>
     ensures { way_seen result ≡ trade_below_of (view v.now) }
 {
-    match one_object(values_at(v, "trade")) {
-        Ok(trade) => swap_below(trade),
-        Err(broken) => Err(broken),
-    }
+    swap_below(one_object(values_at(v, "trade"))?)
 }
 
 // The swap below the `dataDocument` of an object.
 fn document_below(v: &Value) -> Result<&Value, Broken>
     ensures { way_seen result ≡ document_below_of (view v.now) }
 {
-    match one_object(values_at(v, "dataDocument")) {
-        Ok(document) => trade_below(document),
-        Err(broken) => Err(broken),
-    }
+    trade_below(one_object(values_at(v, "dataDocument"))?)
 }
 
 // Whether the object has an element of that name.

@@ -5,6 +5,7 @@
 mod blocks;
 mod document;
 mod leaf_values;
+mod members;
 mod parameters;
 mod reader;
 mod references;

@@ -1,16 +1,17 @@
 //! How daily rates become the rate of a calculation period (FpML `calculationParameters`).
-ghost use Rattle.irs_elements.specs.Elements.{once as once_of};
-ghost use Rattle.irs_read.specs.Private.Sayings.{IsSaid, Maybe, One};
-ghost use Rattle.irs_read.specs.StreamElements.{center_list, observed, observing, parameters as parameters_by};
+ghost use Rattle.irs_read.specs.Private.Sayings.{IsSaid};
+ghost use Rattle.irs_read.specs.StreamElements.{observed, observing, parameters as parameters_by};
 ghost use Rattle.serde_json.specs.View.{view};
 ghost use Rattle.std.specs.Prelude.{IfOk};
 
 use crate::blocks::names;
-use crate::leaf_values::{calculation_method, observation_days};
+use crate::leaf_values::must;
+use crate::members::one;
 use irs_base::Memory;
-use irs_elements::once;
+use irs_elements::{codes, leaf_text, numbers, once};
 use irs_json::Value;
-use irs_terms::{CalculationParameters, Names, ObservationOffset};
+use irs_terms::{CalculationParameters, ObservationOffset};
+use itoa::Buffer;
 use std::alloc::Global;
 
 // The days of an observation shift, a lookback or a lockout.
@@ -18,7 +19,7 @@ fn offset_days(v: &Value) -> u8
     requires { IsSaid (observed.says (view v.now)) }
     ensures { observed.says (view v.now) result }
 {
-    observation_days(v, "offsetDays")
+    must!(v, "offsetDays", text => numbers::observation_days(text.as_bytes()))
 }
 
 // An observation shift, a lookback or a lockout, whichever is there.
@@ -38,42 +39,17 @@ fn observation_offset(v: &Value) -> ObservationOffset
     }
 }
 
-// A list of centres that must occur.
-fn applicable(alloc: Global, v: &Value, name: &str) -> Result<Names, Memory>
-    requires { IsSaid (One center_list.says (once_of name.now (view v.now))) }
-    ensures { IfOk result (One center_list.says (once_of name.now (view v.now))) }
-{
-    match once(v, name) {
-        None => unreachable!(),
-        Some(list) => names(alloc, list),
-    }
-}
-
-fn parameters(alloc: Global, v: &Value) -> Result<CalculationParameters, Memory>
+/// How daily rates become the rate of a period.
+pub fn parameters(alloc: Global, v: &Value) -> Result<CalculationParameters, Memory>
     requires { IsSaid (parameters_by.says (view v.now)) }
     ensures { IfOk result (parameters_by.says (view v.now)) }
 {
-    let method = calculation_method(v, "calculationMethod");
+    let method = must!(v, "calculationMethod", text => codes::calculation_method(text));
     let offset = observation_offset(v);
-    let centers = applicable(alloc, v, "applicableBusinessDays")?;
+    let centers = one!(v, "applicableBusinessDays", list => names(alloc, list)?);
     Ok(CalculationParameters {
         method,
         offset,
         centers,
     })
-}
-
-/// How daily rates become the rate of a period, where it is said.
-pub fn maybe_parameters(
-    alloc: Global,
-    v: &Value,
-    name: &str,
-) -> Result<Option<CalculationParameters>, Memory>
-    requires { IsSaid (Maybe parameters_by.says (once_of name.now (view v.now))) }
-    ensures { IfOk result (Maybe parameters_by.says (once_of name.now (view v.now))) }
-{
-    match once(v, name) {
-        None => Ok(None),
-        Some(v) => Ok(Some(parameters(alloc, v)?)),
-    }
 }

@@ -18,13 +18,7 @@ use std::alloc::Global;
 fn attribute<'a>(v: Option<&'a Value>, name: &str) -> Option<&'a str>
     ensures { option_map (λ s. s.now) result ≡ attribute_of name.now (seen v.entry) }
 {
-    match v {
-        None => None,
-        Some(v) => match child(v, name) {
-            None => None,
-            Some(found) => found.as_str(),
-        },
-    }
+    child(v?, name)?.as_str()
 }
 
 // Whether the element has that `@id`.
@@ -41,10 +35,7 @@ fn has_id(v: Option<&Value>, id: &str) -> bool
 fn href(reference: &Value) -> &str
     ensures { result.now ≡ href_of (view reference.now) }
 {
-    match attribute(Some(reference), "@href") {
-        None => "",
-        Some(text) => text,
-    }
+    attribute(Some(reference), "@href").unwrap_or("")
 }
 
 /// How a reference resolves that must name the target.

@@ -1,34 +1,35 @@
 //! The stream that a value says.
 ghost use Rattle.irs_base.specs.Lists.{Pairs};
 ghost use Rattle.irs_elements.specs.Elements.{once as once_of, seen};
-ghost use Rattle.irs_read.specs.Private.Sayings.{FixingsSaid, InterestSaid, IsSaid, Maybe, One, Or, RoundingSaid};
+ghost use Rattle.irs_read.specs.Private.Sayings.{InterestSaid, IsSaid, Maybe, Or, RoundingSaid};
 ghost use Rattle.irs_read.specs.Private.Sayings.{StreamParts, TermSaid, no_exchange};
-ghost use Rattle.irs_read.specs.Readings.{lists_of};
 ghost use Rattle.irs_read.specs.StreamElements.{StreamSays, SwapSays};
 ghost use Rattle.irs_read.specs.StreamElements.{exchanges as exchanges_by, fixing_dates as fixing_dates_by};
-ghost use Rattle.irs_read.specs.StreamElements.{floating, leg as leg_by, payment_dates, places_by};
-ghost use Rattle.irs_read.specs.StreamElements.{reset_dates, rounding_read, schedule as schedule_by, stub as stub_by};
+ghost use Rattle.irs_read.specs.StreamElements.{floating, indexed as indexed_by, leg as leg_by, payment_dates, places_by};
+ghost use Rattle.irs_read.specs.StreamElements.{reset_dates, rounding_read, stub as stub_by};
 ghost use Rattle.irs_read.specs.StreamElements.{rate, stubs as stubs_by};
 ghost use Rattle.serde_json.specs.View.{view};
-ghost use Rattle.std.specs.Prelude.{◌≡◌, IfOk, Some, is_some, map, true};
+ghost use Rattle.std.specs.Prelude.{◌≡◌, IfOk, Some, map};
 
 use crate::blocks::{
-    adjusting, adjustments, adjustments_or, dated, frequency, frequency_at, maybe_dated,
-    maybe_tenor, offset, offset_or, schedule, schedule_or,
+    adjustable_date, adjusting, adjustments_or, frequency, offset, schedule, schedule_or, tenor,
 };
+use crate::leaf_value;
 use crate::leaf_values::{
-    Scale, compounding, currency, day_count, direction, index, maybe_day, maybe_rate, precision,
-    relative, relative_or_start, roll, small_rate, stub_kind, treatment, truth,
+    Scale, compounding, currency, day_count, maybe_day, must, or_else, roll, stub_kind, word,
 };
-use crate::parameters::maybe_parameters;
+use crate::members::{maybe, one, or};
+use crate::parameters::parameters;
 use crate::references::{lists, reference};
-use irs_base::{Direction, Memory};
-use irs_elements::{once, values_at};
+use irs_base::{Direction, Memory, Text};
+use irs_elements::{codes, leaf_text, numbers, once, values_at};
 use irs_json::Value;
 use irs_terms::{
-    AdjustableDate, Adjustments, ExchangeFlags, FixTerms, FloatTerms, Leg, PayTerms, RefState,
-    ResetTerms, Rounding, StepValues, Stream, StreamList, StubRate, StubTerms, Swap,
+    AdjustableDate, Adjustments, DayKind, ExchangeFlags, FixTerms, FloatTerms, Frequency, Leg,
+    Offset, PayTerms, RefState, Relative, ResetTerms, Rounding, StepValues, Stream, StreamList,
+    StubRate, StubTerms, Swap, Treatment,
 };
+use itoa::Buffer;
 use std::alloc::Global;
 
 // The default number of decimals of a rate: 7 if daily rates give it, else 9.
@@ -45,8 +46,8 @@ fn rounding(v: &Value) -> Rounding
     requires { IsSaid (rounding_read.says (view v.now)) }
     ensures { rounding_read.says (view v.now) result }
 {
-    let dir = direction(v, "roundingDirection");
-    let places = precision(v, "precision");
+    let dir = must!(v, "roundingDirection", text => codes::direction(text));
+    let places = must!(v, "precision", text => numbers::precision(text.as_bytes()));
     Rounding { dir, places }
 }
 
@@ -64,31 +65,32 @@ fn rounding_or(v: &Value) -> Rounding
     }
 }
 
+// An index of a rate, with its tenor.
+fn indexed(alloc: Global, v: &Value) -> Result<(Text, Option<Frequency>), Memory>
+    requires { IsSaid (indexed_by.says (view v.now)) }
+    ensures { IfOk result (indexed_by.says (view v.now)) }
+{
+    let index = one!(v, "floatingRateIndex", v => word(alloc, Some(v))?);
+    let tenor = maybe!(v, "indexTenor", v => tenor(v));
+    Ok((index, tenor))
+}
+
 // The terms of a floating rate.
 fn float_terms(alloc: Global, v: &Value) -> Result<FloatTerms, Memory>
     requires { IsSaid (floating.says (view v.now)) }
     ensures { IfOk result (floating.says (view v.now)) }
 {
+    let found = indexed(alloc, v)?;
     Ok(FloatTerms {
-        index: index(alloc, v, "floatingRateIndex")?,
-        tenor: maybe_tenor(v, "indexTenor"),
+        index: found.0,
+        tenor: found.1,
         multiplier: schedule_or(alloc, 1_000_000_000, v, "floatingRateMultiplierSchedule")?,
         spread: schedule_or(alloc, 0, v, "spreadSchedule")?,
-        initial_rate: maybe_rate(v, "initialRate"),
+        initial_rate: leaf_value!(once(v, "initialRate"), text => numbers::small_rate(text.as_bytes())),
         rounding: rounding_or(v),
-        treatment: treatment(v, "negativeInterestRateTreatment"),
-        parameters: maybe_parameters(alloc, v, "calculationParameters")?,
+        treatment: or_else!(v, "negativeInterestRateTreatment", Treatment::AsIs, text => codes::treatment(text)),
+        parameters: maybe!(v, "calculationParameters", v => parameters(alloc, v)?),
     })
-}
-
-fn fixed_rates(alloc: Global, v: &Value, name: &str) -> Result<StepValues, Memory>
-    requires { IsSaid (One (schedule_by rate).says (once_of name.now (view v.now))) }
-    ensures { IfOk result (One (schedule_by rate).says (once_of name.now (view v.now))) }
-{
-    match once(v, name) {
-        None => unreachable!(),
-        Some(v) => schedule(alloc, Scale::Rates, v),
-    }
 }
 
 // The floating rate if it is present, else the fixed rate.
@@ -97,7 +99,9 @@ fn leg(alloc: Global, v: &Value) -> Result<Leg, Memory>
     ensures { IfOk result (leg_by.says (view v.now)) }
 {
     match once(v, "floatingRateCalculation") {
-        None => Ok(Leg::Fixed(fixed_rates(alloc, v, "fixedRateSchedule")?)),
+        None => Ok(Leg::Fixed(
+            one!(v, "fixedRateSchedule", v => schedule(alloc, Scale::Rates, v)?),
+        )),
         Some(float) => Ok(Leg::Floating(float_terms(alloc, float)?)),
     }
 }
@@ -113,31 +117,13 @@ fn pay_terms(
 {
     Ok(PayTerms {
         calc_ref: reference(dates, v, "calculationPeriodDatesReference"),
-        freq: frequency_at(v, "paymentFrequency"),
+        freq: one!(v, "paymentFrequency", v => frequency(v)),
         first: maybe_day(v, "firstPaymentDate"),
         last: maybe_day(v, "lastRegularPaymentDate"),
-        relative: relative(v, "payRelativeTo"),
-        offset: offset_or(v, "paymentDaysOffset"),
+        relative: must!(v, "payRelativeTo", text => codes::relative(text)),
+        offset: or!(v, "paymentDaysOffset", Offset { days: 0, kind: DayKind::Unsaid }, v => offset(v)),
         adj: adjustments_or(alloc, lists, v, "paymentDatesAdjustments")?,
     })
-}
-
-fn pay_at(
-    alloc: Global,
-    lists: &[Option<&Value>],
-    dates: &Value,
-    v: &Value,
-    name: &str,
-) -> Result<PayTerms, Memory>
-    requires { IsSaid (One (payment_dates (map seen lists.now) (Some (view dates.now))).says
-        (once_of name.now (view v.now))) }
-    ensures { IfOk result (One (payment_dates (map seen lists.now) (Some (view dates.now))).says
-        (once_of name.now (view v.now))) }
-{
-    match once(v, name) {
-        None => unreachable!(),
-        Some(v) => pay_terms(alloc, lists, dates, v),
-    }
 }
 
 // The offset and the adjustments of fixing dates, and how their reference to the resets resolves.
@@ -156,24 +142,6 @@ fn fixing_dates(
     Ok((FixTerms { offset, adj }, target))
 }
 
-// The same, if they are present.
-fn maybe_fixings(
-    alloc: Global,
-    lists: &[Option<&Value>],
-    v: &Value,
-) -> Result<(Option<FixTerms>, RefState), Memory>
-    requires { IsSaid (FixingsSaid (map seen lists.now) (view v.now)) }
-    ensures { IfOk result (FixingsSaid (map seen lists.now) (view v.now)) }
-{
-    match once(v, "fixingDates") {
-        None => Ok((None, RefState::Absent)),
-        Some(fixings) => {
-            let (terms, target) = fixing_dates(alloc, lists, v, fixings)?;
-            Ok((Some(terms), target))
-        }
-    }
-}
-
 fn reset_terms(
     alloc: Global,
     lists: &[Option<&Value>],
@@ -183,13 +151,19 @@ fn reset_terms(
     requires { IsSaid ((reset_dates (map seen lists.now) (Some (view dates.now))).says (view v.now)) }
     ensures { IfOk result ((reset_dates (map seen lists.now) (Some (view dates.now))).says (view v.now)) }
 {
-    let (fixing, fixing_ref) = maybe_fixings(alloc, lists, v)?;
+    let (fixing, fixing_ref) = match once(v, "fixingDates") {
+        None => (None, RefState::Absent),
+        Some(fixings) => {
+            let found = fixing_dates(alloc, lists, v, fixings)?;
+            (Some(found.0), found.1)
+        }
+    };
     Ok(ResetTerms {
         calc_ref: reference(dates, v, "calculationPeriodDatesReference"),
         fixing_ref,
-        relative: relative_or_start(v, "resetRelativeTo"),
+        relative: or_else!(v, "resetRelativeTo", Relative::Start, text => codes::relative(text)),
         fixing,
-        freq: frequency_at(v, "resetFrequency"),
+        freq: one!(v, "resetFrequency", v => frequency(v)),
         adj: adjustments_or(alloc, lists, v, "resetDatesAdjustments")?,
     })
 }
@@ -206,10 +180,7 @@ fn maybe_resets(
     ensures { IfOk result (Maybe (reset_dates (map seen lists.now) (Some (view dates.now))).says
         (once_of name.now (view v.now))) }
 {
-    match once(v, name) {
-        None => Ok(None),
-        Some(v) => Ok(Some(reset_terms(alloc, lists, dates, v)?)),
-    }
+    Ok(maybe!(v, name, v => reset_terms(alloc, lists, dates, v)?))
 }
 
 // The index of a stub if it is present, else its rate.
@@ -218,21 +189,13 @@ fn stub(alloc: Global, v: &Value) -> Result<StubRate, Memory>
     ensures { IfOk result (stub_by.says (view v.now)) }
 {
     match once(v, "floatingRate") {
-        None => Ok(StubRate::Fixed(small_rate(v, "stubRate"))),
+        None => Ok(StubRate::Fixed(
+            must!(v, "stubRate", text => numbers::small_rate(text.as_bytes())),
+        )),
         Some(float) => {
-            let index = index(alloc, float, "floatingRateIndex")?;
-            Ok(StubRate::Index(index, maybe_tenor(float, "indexTenor")))
+            let found = indexed(alloc, float)?;
+            Ok(StubRate::Index(found.0, found.1))
         }
-    }
-}
-
-fn maybe_stub(alloc: Global, v: &Value, name: &str) -> Result<Option<StubRate>, Memory>
-    requires { IsSaid (Maybe stub_by.says (once_of name.now (view v.now))) }
-    ensures { IfOk result (Maybe stub_by.says (once_of name.now (view v.now))) }
-{
-    match once(v, name) {
-        None => Ok(None),
-        Some(v) => Ok(Some(stub(alloc, v)?)),
     }
 }
 
@@ -242,8 +205,8 @@ fn stub_terms(alloc: Global, dates: &Value, v: &Value) -> Result<StubTerms, Memo
 {
     Ok(StubTerms {
         calc_ref: reference(dates, v, "calculationPeriodDatesReference"),
-        initial: maybe_stub(alloc, v, "initialStub")?,
-        last: maybe_stub(alloc, v, "finalStub")?,
+        initial: maybe!(v, "initialStub", v => stub(alloc, v)?),
+        last: maybe!(v, "finalStub", v => stub(alloc, v)?),
     })
 }
 
@@ -256,10 +219,7 @@ fn maybe_stubs(
     requires { IsSaid (Maybe (stubs_by (Some (view dates.now))).says (once_of name.now (view v.now))) }
     ensures { IfOk result (Maybe (stubs_by (Some (view dates.now))).says (once_of name.now (view v.now))) }
 {
-    match once(v, name) {
-        None => Ok(None),
-        Some(v) => Ok(Some(stub_terms(alloc, dates, v)?)),
-    }
+    Ok(maybe!(v, name, v => stub_terms(alloc, dates, v)?))
 }
 
 fn exchanges(v: &Value) -> ExchangeFlags
@@ -267,9 +227,9 @@ fn exchanges(v: &Value) -> ExchangeFlags
     ensures { exchanges_by.says (view v.now) result }
 {
     ExchangeFlags {
-        initial: truth(v, "initialExchange"),
-        intermediate: truth(v, "intermediateExchange"),
-        last: truth(v, "finalExchange"),
+        initial: must!(v, "initialExchange", text => codes::truth(text)),
+        intermediate: must!(v, "intermediateExchange", text => codes::truth(text)),
+        last: must!(v, "finalExchange", text => codes::truth(text)),
     }
 }
 
@@ -278,14 +238,7 @@ fn exchanges_or(v: &Value, name: &str) -> ExchangeFlags
     requires { IsSaid (Or exchanges_by.says no_exchange (once_of name.now (view v.now))) }
     ensures { Or exchanges_by.says no_exchange (once_of name.now (view v.now)) result }
 {
-    match once(v, name) {
-        None => ExchangeFlags {
-            initial: false,
-            intermediate: false,
-            last: false,
-        },
-        Some(v) => exchanges(v),
-    }
+    or!(v, name, ExchangeFlags { initial: false, intermediate: false, last: false }, v => exchanges(v))
 }
 
 // When a stream runs, and how the ends of its periods are adjusted.
@@ -302,10 +255,10 @@ fn term(alloc: Global, lists: &[Option<&Value>], dates: &Value) -> Result<TermDa
     ensures { IfOk result (TermSaid (map seen lists.now) (view dates.now)) }
 {
     Ok(TermDates {
-        effective: dated(alloc, lists, dates, "effectiveDate")?,
-        first_start: maybe_dated(alloc, lists, dates, "firstPeriodStartDate")?,
-        termination: dated(alloc, lists, dates, "terminationDate")?,
-        period_adj: adjustments(alloc, lists, dates, "calculationPeriodDatesAdjustments")?,
+        effective: one!(dates, "effectiveDate", v => adjustable_date(alloc, lists, v)?),
+        termination: one!(dates, "terminationDate", v => adjustable_date(alloc, lists, v)?),
+        period_adj: one!(dates, "calculationPeriodDatesAdjustments", v => adjusting(alloc, lists, v)?),
+        first_start: maybe!(dates, "firstPeriodStartDate", v => adjustable_date(alloc, lists, v)?),
     })
 }
 
@@ -353,7 +306,7 @@ fn stream_of(
         stub: stub_kind(dates, "stubPeriodType"),
         freq: frequency(freq),
         roll: roll(freq, "rollConvention"),
-        pay: pay_at(alloc, lists, dates, v, "paymentDates")?,
+        pay: one!(v, "paymentDates", v => pay_terms(alloc, lists, dates, v)?),
         reset: maybe_resets(alloc, lists, dates, v, "resetDates")?,
         notional: amounts.notional,
         currency: currency(notionals, "currency"),
@@ -365,27 +318,17 @@ fn stream_of(
     })
 }
 
-// A member that is there.
-fn there<'a>(v: &'a Value, name: &str) -> &'a Value
-    requires { is_some (once_of name.now (view v.now)) ≡ true }
-    ensures { once_of name.now (view v.now) ≡ Some (view result.now) }
-{
-    match once(v, name) {
-        None => unreachable!(),
-        Some(v) => v,
-    }
-}
-
+#[tactic(auto, unfolding(crate::specs::StreamElements::StreamSays))]
 fn stream(alloc: Global, lists: &[Option<&Value>], v: &Value) -> Result<Stream, Memory>
     requires { IsSaid (StreamSays (map seen lists.now) (view v.now)) }
     ensures { IfOk result (StreamSays (map seen lists.now) (view v.now)) }
 {
-    let dates = there(v, "calculationPeriodDates");
-    let freq = there(dates, "calculationPeriodFrequency");
-    let amount = there(v, "calculationPeriodAmount");
-    let calc = there(amount, "calculation");
-    let notional = there(calc, "notionalSchedule");
-    let notionals = there(notional, "notionalStepSchedule");
+    let dates = one!(v, "calculationPeriodDates", v => v);
+    let freq = one!(dates, "calculationPeriodFrequency", v => v);
+    let amount = one!(v, "calculationPeriodAmount", v => v);
+    let calc = one!(amount, "calculation", v => v);
+    let notional = one!(calc, "notionalSchedule", v => v);
+    let notionals = one!(notional, "notionalStepSchedule", v => v);
     stream_of(alloc, lists, v, dates, freq, calc, notionals)
 }
 
@@ -404,19 +347,13 @@ fn each_stream(
     Ok(list)
 }
 
-fn streams(alloc: Global, found: &[Value]) -> Result<StreamList, Memory>
-    requires { IsSaid (Pairs (StreamSays (lists_of (map view found.now))) (map view found.now)) }
-    ensures { IfOk result (Pairs (StreamSays (lists_of (map view found.now))) (map view found.now)) }
-{
-    let lists = lists(alloc, found)?;
-    each_stream(alloc, &lists, found)
-}
-
 /// The swap that a value says.
 pub fn swap_of(alloc: Global, v: &Value) -> Result<Swap, Memory>
     requires { IsSaid (SwapSays (view v.now)) }
     ensures { IfOk result (SwapSays (view v.now)) }
 {
-    let streams = streams(alloc, values_at(v, "swapStream"))?;
+    let found = values_at(v, "swapStream");
+    let lists = lists(alloc, found)?;
+    let streams = each_stream(alloc, &lists, found)?;
     Ok(Swap { streams })
 }

@@ -1,25 +1,19 @@
+-- Private: no public contract rests on this file.
 -- What the private readers give: each gives what its part of the document says (`StreamElements`). Each is called only
 -- where something is said, so none has a value for what must occur and is absent.
 use Rattle.irs_base.specs.declared.rounding.Direction.TheVariants.{Nearest}
-use Rattle.irs_elements.specs.Codes.{compounding_at, day_count_at, roll_at, stub_kind_at}
 use Rattle.irs_elements.specs.Elements.{once}
-use Rattle.irs_elements.specs.Leaves.{currency_at}
-use Rattle.irs_elements.specs.declared.table.Leaf.TheVariants.{Compounding as CompoundingKind, CurrencyName, DayCount, Roll}
-use Rattle.irs_elements.specs.declared.table.Leaf.TheVariants.{StubType}
-use Rattle.irs_read.specs.Readings.{ReadPart, Says, Value, maybe, one, or, said, text, ◌also◌, ◌gives◌}
-use Rattle.irs_read.specs.StreamElements.{adjustable, adjustments, date, exchanges, fixing_dates, frequency, leg}
-use Rattle.irs_read.specs.StreamElements.{notional, payment_dates, places_by, rate, reset_dates, rounding_read, schedule}
-use Rattle.irs_read.specs.StreamElements.{stubs}
-use Rattle.irs_read.specs.declared.stream.InterestTerms.{InterestTerms}
-use Rattle.irs_read.specs.declared.stream.TermDates.{TermDates}
-use Rattle.irs_read.specs.declared.leaf_values.Scale.{Scale}
+use Rattle.irs_read.specs.Readings.{ReadPart, Says, Value, maybe, one, or, said, ◌also◌, ◌gives◌}
+use Rattle.irs_read.specs.StreamElements.{adjustable, adjustments, exchanges, fixing_dates, leg, notional}
+use Rattle.irs_read.specs.StreamElements.{frequency_terms, notional_terms, period_terms, rate_terms, stubs}
+use Rattle.irs_read.specs.StreamElements.{payment_dates, places_by, rate, reset_dates, rounding_read, schedule}
 use Rattle.irs_read.specs.declared.leaf_values.Scale.TheVariants.{Notionals, Rates}
-use Rattle.irs_terms.specs.declared.amounts.ExchangeFlags.{ExchangeFlags}
-use Rattle.irs_terms.specs.declared.amounts.Rounding.{Rounding}
-use Rattle.irs_terms.specs.declared.codes.RefState.{RefState}
+use Rattle.irs_read.specs.declared.leaf_values.Scale.{Scale}
+use Rattle.irs_read.specs.declared.stream.{InterestTerms.InterestTerms, TermDates.TermDates}
+use Rattle.irs_terms.specs.declared.amounts.{ExchangeFlags.ExchangeFlags, Rounding.Rounding}
 use Rattle.irs_terms.specs.declared.codes.RefState.TheVariants.{Absent as NoReference}
+use Rattle.irs_terms.specs.declared.codes.RefState.{RefState}
 use Rattle.irs_terms.specs.declared.dates.FixTerms.{FixTerms}
-use Rattle.irs_terms.specs.declared.codes.CompCode.TheVariants.{Simple}
 use Rattle.irs_terms.specs.declared.stream.Stream.{Stream}
 use Rattle.serde_json.specs.Data.{Data}
 use Rattle.std.specs.Prelude.{◌≡◌, ℕ, false, List, ℤ, Option, Some, None, codes}
@@ -78,36 +72,6 @@ abbrev pub InterestSaid : Data → Data → InterestTerms → Type 0
 InterestSaid notionals calc t = (schedule notional).says notionals t.notional × leg.says calc t.leg
 
 -- ---- a stream, by the objects that hold its parts
-
--- `calculationPeriodDates`
-abbrev pub period_terms : List (Option Data) → ReadPart Stream
-period_terms lists =
-    one "effectiveDate" (adjustable lists) gives (λ (s : Stream). s.effective)
-    also one "terminationDate" (adjustable lists) gives (λ (s : Stream). s.termination)
-    also one "calculationPeriodDatesAdjustments" (adjustments lists) gives (λ (s : Stream). s.period_adj)
-    also maybe "firstPeriodStartDate" (adjustable lists) gives (λ (s : Stream). s.first_start)
-    also maybe "firstRegularPeriodStartDate" date gives (λ (s : Stream). s.first_regular)
-    also maybe "lastRegularPeriodEndDate" date gives (λ (s : Stream). s.last_regular)
-    also maybe "stubPeriodType" (text StubType stub_kind_at) gives (λ (s : Stream). s.stub)
-
--- `calculationPeriodFrequency`
-abbrev pub frequency_terms : ReadPart Stream
-frequency_terms =
-    frequency gives (λ (s : Stream). s.freq)
-    also one "rollConvention" (text Roll roll_at) gives (λ (s : Stream). s.roll)
-
--- `notionalStepSchedule`
-abbrev pub notional_terms : ReadPart Stream
-notional_terms =
-    schedule notional gives (λ (s : Stream). s.notional)
-    also one "currency" (text CurrencyName currency_at) gives (λ (s : Stream). s.currency)
-
--- `calculation`
-abbrev pub rate_terms : ReadPart Stream
-rate_terms =
-    leg gives (λ (s : Stream). s.leg)
-    also one "dayCountFraction" (text DayCount day_count_at) gives (λ (s : Stream). s.day_count)
-    also or "compoundingMethod" (text CompoundingKind compounding_at) Simple gives (λ (s : Stream). s.compounding)
 
 -- the stream itself
 abbrev pub whole_terms : List (Option Data) → Option Data → ReadPart Stream
