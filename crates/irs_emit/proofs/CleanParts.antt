@@ -3,9 +3,8 @@ use Rattle.irs_flows.specs.declared.flow_table.TheConstants.{FLOW_ROWS, PERIOD_R
 use Rattle.irs_flows.proofs.FlowLaws.{flow_code_names, flow_names_are, flow_rows_are, period_code_names}
 use Rattle.irs_flows.proofs.FlowLaws.{period_names_are, period_rows_are}
 use Rattle.irs_flows.specs.FlowFaults.{CashflowsFault, FlowFault, OnceFault, PeriodFault, PeriodsFault, FlowStreamFault}
-use Rattle.irs_flows.specs.FlowFaults.{FlowStreamsFault, FlowSwapFault, below, ended, has_both_rates, in_period}
-use Rattle.irs_flows.specs.FlowFaults.{in_stream, is_sound, many_periods, many_streams, no_stream, flow_names}
-use Rattle.irs_flows.specs.FlowFaults.{flow_rows, period_names, period_table_rows}
+use Rattle.irs_flows.specs.FlowFaults.{FlowStreamsFault, FlowSwapFault, has_both_rates, in_period, is_sound}
+use Rattle.irs_flows.specs.FlowFaults.{many_periods, flow_names, flow_rows, period_names, period_table_rows}
 use Rattle.irs_base.specs.Limits.{most_rows, most_streams}
 use Rattle.irs_base.proofs.MemberLemmas.{every_get}
 use Rattle.irs_base.specs.Lists.{Every}
@@ -27,7 +26,7 @@ use Rattle.irs_audit.proofs.BoundLemmas.{payments_few}
 use Rattle.irs_emit.proofs.PartsRead.{its_swap, mapped_length, periods_are, swap_reads}
 use Rattle.irs_emit.proofs.RowsRead.{all_listed, array_values, from_items}
 use Rattle.irs_read.proofs.TableLaws.{by_tables}
-use Rattle.irs_read.specs.Documents.{the_swap}
+use Rattle.irs_read.specs.Documents.{the_swap, below, ended, in_stream, many_streams, no_stream}
 use Rattle.irs_schedule.specs.RowsOf.{period_at}
 use Rattle.irs_schedule.specs.declared.views.CalculationPeriod.{CalculationPeriod}
 use Rattle.irs_terms.specs.declared.results.Reset.{Reset}

@@ -20,16 +20,15 @@ use Rattle.irs_elements.specs.declared.table.Kind.TheVariants.{Object}
 use Rattle.irs_elements.specs.declared.table.Leaf.TheVariants.{Date}
 use Rattle.irs_json.specs.Leaves.{present, element_names, items_of as held}
 use Rattle.irs_read.proofs.TableLaws.{by_tables}
-use Rattle.irs_read.specs.Documents.{the_swap}
+use Rattle.irs_read.specs.Documents.{the_swap, below, ended, in_stream, many_streams, no_stream}
 use Rattle.irs_schedule.specs.Parts.{EntriesCover, IsWithin, Part}
 use Rattle.irs_schedule.specs.declared.entries.PaymentEntry.{PaymentEntry}
 use Rattle.irs_audit.proofs.BoundLemmas.{payments_few}
 use Rattle.irs_flows.proofs.FlowLaws.{flow_names_are, flow_rows_are}
 use Rattle.irs_audit.proofs.StatedLemmas.{flows_agree}
 use Rattle.irs_flows.specs.FlowFaults.{CashflowsFault, FlowFault, OnceFault, PeriodsFault, FlowStreamFault}
-use Rattle.irs_flows.specs.FlowFaults.{FlowStreamsFault, FlowSwapFault, below, ended, few, in_stream, is_sound}
-use Rattle.irs_flows.specs.FlowFaults.{many_streams, no_stream, payments_in, periods_in, flow_periods_of, flow_names}
-use Rattle.irs_flows.specs.FlowFaults.{flow_rows}
+use Rattle.irs_flows.specs.FlowFaults.{FlowStreamsFault, FlowSwapFault, few, is_sound, payments_in, periods_in}
+use Rattle.irs_flows.specs.FlowFaults.{flow_periods_of, flow_names, flow_rows}
 use Rattle.irs_flows.specs.FlowReading.{exchange_in, flows_in, payment_in, period_in, flow_part_in, flow_parts_in}
 use Rattle.irs_flows.specs.FlowReading.{FlowPart}
 use Rattle.irs_flows.specs.declared.flows.FlowExchange.{FlowExchange}

@@ -1,100 +1,97 @@
--- In a document without faults no stream has too many calculation periods.
+-- In a document of cash flows without faults each stream has one `cashflows`, without faults. So no stream has too many
+-- calculation periods, and nothing is passed over.
 use Rattle.irs_flows.proofs.FlowRules.{of_flows, told}
-use Rattle.irs_flows.specs.FlowFaults.{FlowFault, OnceFault, FlowStreamFault, FlowStreamsFault, FlowSwapFault}
-use Rattle.irs_flows.specs.FlowFaults.{flow_broken_at, below, in_stream, many_periods, many_streams, payments_in}
-use Rattle.irs_flows.specs.FlowFaults.{flow_periods_of}
+use Rattle.irs_flows.specs.FlowFaults.{CashflowsFault, EachFlowStated, FlowFault, OnceFault, OwnFault, FlowStreamFault}
+use Rattle.irs_flows.specs.FlowFaults.{FlowSwapFault, flow_broken_at, in_period, many_periods, payments_in}
+use Rattle.irs_flows.specs.FlowFaults.{flow_periods_of, flow_names, flow_rows, period_names, period_table_rows}
 use Rattle.irs_flows.specs.Private.FlowMeaning.{AllHaveFewPeriods, HasFewPeriods}
 use Rattle.irs_flows.specs.FlowReading.{IsFirstFlowFault, shape_kind_of}
 use Rattle.irs_flows.specs.declared.error.FlowErr.TheVariants.{Shape}
-use Rattle.irs_base.specs.Elements.{cashflows, flow_period, swap_stream}
-use Rattle.irs_base.specs.declared.places.Broken.{Broken}
-use Rattle.irs_base.specs.declared.places.Rule.TheVariants.{K7}
+use Rattle.irs_base.specs.Elements.{cashflows, flow_period, swap, swap_stream}
+use Rattle.irs_base.specs.declared.places.Rule.TheVariants.{K2, K3, K7}
+use Rattle.irs_base.specs.{declared.places.Broken.Broken, Limits.most_rows, Outcomes.IsFirstBroken}
 use Rattle.irs_elements.specs.Elements.{once, values_in, values_of}
 use Rattle.irs_json.specs.Leaves.{child_of, element_names, items_of}
-use Rattle.irs_read.proofs.Clean.{le_or_lt}
-use Rattle.irs_read.specs.Documents.{the_swap}
-use Rattle.irs_base.specs.Limits.{most_rows, most_streams}
-use Rattle.serde_json.specs.Data.{Data, null, boolean, number, string, array, object}
-use Rattle.serde_json.specs.View.{view}
-use Rattle.serde_json.specs.declared.value.Value.{Value}
-use Rattle.std.proofs.Common.{◌≡◌, inl, inr, ℕ, ◌+◌, ◌<◌, ◌≤◌, true, List, [], ◌∷◌, length, Option, Some, None, Ok}
-use Rattle.std.proofs.Common.{option_and_then, option_map, map, slice_get, is_some, codes, refl, sym, ap, ◌∙◌, subst}
-use Rattle.std.proofs.Common.{arith}
-use Rattle.std.proofs.lemmas.Option.{slice_get_within, slice_get-map}
-use Rattle.irs_base.specs.Outcomes.{IsFirstBroken}
-
--- only an object has elements
-object_alone : (name : List ℕ) (d : Data) → 0 < length (values_in name (Some d)) → is_some (element_names d) ≡ true
-object_alone name null h = absurd (omega arith)
-object_alone name (boolean b) h = absurd (omega arith)
-object_alone name (number n) h = absurd (omega arith)
-object_alone name (string s) h = absurd (omega arith)
-object_alone name (array ds) h = absurd (omega arith)
-object_alone name (object ms) h = refl
+use Rattle.irs_read.proofs.{Each.are_free, StatedTables.stated}
+use Rattle.irs_read.specs.Documents.{below, the_swap}
+use Rattle.serde_json.specs.{Data.Data, View.view, declared.value.Value.Value}
+use Rattle.std.proofs.Common.{◌≡◌, inl, inr, ℕ, ◌+◌, ◌≤◌, Bool, true, false, List, [], ◌∷◌, length, Option, Some, None}
+use Rattle.std.proofs.Common.{Ok, option_and_then, option_map, map, slice_get, is_some, codes, refl, sym, ap, ◌∙◌}
+use Rattle.std.proofs.Common.{subst}
+use Rattle.std.proofs.lemmas.{Bool.cases_lt, Option.slice_get-map}
 
 -- an element that occurs once is the first of its values
 first_value : (o : Option Data) → option_and_then (λ m. slice_get (items_of m) 0) o ≡ slice_get (values_of o) 0
 first_value None = refl
 first_value (Some m) = refl
 
--- an element that may be absent is the first of its values
-pub once_is : (name : List ℕ) (d : Data) → once name d ≡ slice_get (values_in name (Some d)) 0
-once_is name d = first_value (child_of name d)
+-- what has no fault of its own is an object
+object_by : (stream elem : ℕ) (d : Data) (b : Bool) → is_some (element_names d) ≡ b
+    → ((f : Broken) → OwnFault stream elem d f → ⊥) → is_some (element_names d) ≡ true
+object_by stream elem d true e none = e
+object_by stream elem d false e none = absurd (none (flow_broken_at stream K3 elem) (rw e refl, refl))
 
 -- ---- the cash flows of a stream
 
--- the payments have no more calculation periods than the limit
-abbrev IsFew : Option Data → Type 0
-IsFew o = length (flow_periods_of (payments_in o)) ≤ most_rows
+-- the calculation periods of a `cashflows`
+abbrev Periods : Option Data → List Data
+Periods o = flow_periods_of (payments_in o)
 
--- a single `cashflows` without faults, or none, has no more periods than the limit
-once_few : (stream : ℕ) (ds : List Data) → ((f : Broken) → OnceFault stream ds f → ⊥) → IsFew (slice_get ds 0)
-once_few stream [] none = omega arith
-once_few stream (x ∷ []) none = elim (le_or_lt (length (flow_periods_of (payments_in (Some x)))) most_rows) [
-  | inl le ↦ le
-  | inr lt ↦ absurd (none (flow_broken_at stream K7 flow_period) (inr (many_periods lt)))
+-- a stream has one `cashflows`, which has no fault
+record IsFree (number : ℕ) (d : Data) : Type 0 where
+  flows : Data
+  found : once (codes "cashflows") d ≡ Some flows
+  few : length (Periods (Some flows)) ≤ most_rows
+  free : (f : Broken) → CashflowsFault number flows f → ⊥
+
+free_by : (number : ℕ) (d : Data) (ds : List Data) → values_in (codes "cashflows") (Some d) ≡ ds
+    → ((f : Broken) → OnceFault number ds f → ⊥) → IsFree number d
+free_by number d [] e none = absurd (none (flow_broken_at number K2 cashflows) refl)
+free_by number d (x ∷ []) e none = elim (cases_lt most_rows (length (Periods (Some x)))) [
+  | inl lt ↦ absurd (none (flow_broken_at number K7 flow_period) (inr (many_periods lt)))
+  | inr le ↦
+      let first = first_value (child_of (codes "cashflows") d) ∙ ap (λ xs. slice_get xs 0) e in
+      record { flows = x; found = first; few = le; free = none }
 ]
-once_few stream (x ∷ y ∷ rest) none = absurd (none (flow_broken_at stream K7 cashflows) refl)
+free_by number d (x ∷ y ∷ rest) e none = absurd (none (flow_broken_at number K7 cashflows) refl)
 
--- the values of `cashflows`
-abbrev Values : Data → List Data
-Values d = values_in (codes "cashflows") (Some d)
+free_stream : (number : ℕ) (d : Data) → ((f : Broken) → FlowStreamFault number d f → ⊥) → IsFree number d
+free_stream number d none =
+    let there = object_by number swap_stream d _ refl (λ f q. none f (inl q)) in
+    free_by number d _ refl (λ f q. none f (inr (there, q)))
 
-stream_by : (stream : ℕ) (d : Data) (ds : List Data) → Values d ≡ ds → ((f : Broken) → FlowStreamFault stream d f → ⊥)
-    → IsFew (slice_get ds 0)
-stream_by stream d [] e none = omega arith
-stream_by stream d (x ∷ xs) e none =
-    let some : 0 < length (Values d) = let l = ap length e in omega (arith, l) in
-    let there = object_alone (codes "cashflows") d some in
-    once_few stream (x ∷ xs) (λ f q. none f (inr (there, subst (λ (l : List Data). OnceFault stream l f) (sym e) q)))
+-- ---- the streams of a document without faults
 
-stream_few : (stream : ℕ) (d : Data) → ((f : Broken) → FlowStreamFault stream d f → ⊥) → HasFewPeriods d
-stream_few stream d none =
-    subst (λ (o : Option Data). IsFew o) (sym (once_is (codes "cashflows") d)) (stream_by stream d (Values d) refl none)
-
--- ---- the streams of a swap
-
-streams_few : (ds : List Data) → ((f : Broken) → FlowStreamsFault ds f → ⊥) → AllHaveFewPeriods ds
-streams_few ds none = elim (le_or_lt (length ds) most_streams) [
-  | inl le ↦ λ j d e.
-      let within = slice_get_within ds j d e in
-      stream_few (j + 1) d (λ f q. none f (in_stream f (omega (arith, within)) le (j, (d, (e, q)))))
-  | inr lt ↦ absurd (none (flow_broken_at 0 K7 swap_stream) (many_streams lt))
-]
-
--- the values of `swapStream`
+-- the streams of a swap
 abbrev Streams : Data → List Data
 Streams d = values_in (codes "swapStream") (Some d)
 
-swap_few : (d : Data) → ((f : Broken) → FlowSwapFault d f → ⊥) → AllHaveFewPeriods (Streams d)
-swap_few d none = λ j x e.
-    let within = slice_get_within (Streams d) j x e in
-    let there = object_alone (codes "swapStream") d (omega (arith, within)) in
-    streams_few (Streams d) (λ f q. none f (inr (there, q))) j x e
+free_at : (d s : Data) → the_swap d ≡ Ok s → ((f : Broken) → FlowFault d f → ⊥) → (j : ℕ) (x : Data)
+    → slice_get (Streams s) j ≡ Some x → IsFree (j + 1) x
+free_at d s found none j x e =
+    let clear : (f : Broken) → FlowSwapFault s f → ⊥ = λ f q. none f (below s f found q) in
+    let there = object_by 0 swap s _ refl (λ f q. clear f (inl q)) in
+    let all = are_free (λ i. FlowStreamFault (i + 1)) (Streams s) (λ f q. clear f (inr (there, q))) in
+    free_stream (j + 1) x (λ f. all.free j x f e)
 
 -- a document without faults has few calculation periods in each stream
 pub flows_few : (d s : Data) → the_swap d ≡ Ok s → ((f : Broken) → FlowFault d f → ⊥) → AllHaveFewPeriods (Streams s)
-flows_few d s e none = swap_few s (λ f q. none f (below s f e q))
+flows_few d s found none j x e =
+    let w = free_at d s found none j x e in
+    subst (λ (o : Option Data). length (Periods o) ≤ most_rows) (sym w.found) w.few
+
+-- in a document without faults nothing is passed over
+pub flows_stated : (d : Data) → ((f : Broken) → FlowFault d f → ⊥) → EachFlowStated d
+flows_stated d none s found j x e =
+    let w = free_at d s found none j x e in (
+      w.flows,
+      w.found,
+      record {
+        rows = stated flow_rows flow_names w.flows (j + 1) 0 (λ f q. w.free f (inl q));
+        periods = λ i period at. stated period_table_rows period_names period (j + 1) (0 + i + 1)
+            (λ f q. w.free f (inr (in_period f w.few (i, (period, (at, inl q))))));
+      },
+    )
 
 -- one of the streams that have no more calculation periods than the limit
 pub few_at : (vs : List Value) (j : ℕ) (v : Value) → slice_get vs j ≡ Some v → AllHaveFewPeriods (map view vs)

@@ -2,15 +2,11 @@
 use Rattle.irs_flows.specs.FlowFaults.{flow_elements, flow_names, flow_rows, flow_table, period_elements, period_names}
 use Rattle.irs_flows.specs.FlowFaults.{period_table_rows, period_table}
 use Rattle.irs_flows.specs.declared.flow_table.TheConstants.{FLOW_NAMES, FLOW_ROWS, PERIOD_NAMES, PERIOD_ROWS}
-use Rattle.irs_base.specs.Paths.{paths, printed_paths}
-use Rattle.irs_base.specs.declared.places.Broken.{Broken}
-use Rattle.irs_elements.specs.Elements.{FaultAt}
-use Rattle.irs_elements.specs.Lines.{Line}
-use Rattle.irs_elements.specs.declared.table.Kind.{Kind}
+use Rattle.irs_base.specs.{Paths.paths, Paths.printed_paths, declared.places.Broken.Broken, Outcomes.IsFirstBroken}
+use Rattle.irs_elements.specs.{Elements.FaultAt, Lines.Line, declared.table.Kind.Kind}
 use Rattle.irs_read.proofs.TableLaws.{by_tables}
 use Rattle.serde_json.specs.Data.{Data}
 use Rattle.std.proofs.Common.{◌≡◌, ℕ, List, map, Option, refl}
-use Rattle.irs_base.specs.Outcomes.{IsFirstBroken}
 
 -- the names as the code has them
 abbrev pub flow_code_names : List (List ℕ)

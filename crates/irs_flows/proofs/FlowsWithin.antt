@@ -1,21 +1,16 @@
 -- The flows that are read of a document keep the bounds of flows.
-use Rattle.std.proofs.Common.{◌≡◌, List, [], ◌∷◌, length, map}
-use Rattle.std.proofs.Common.{Option, Some, None, IfSome, arith, refl, subst, sym}
-use Rattle.std.specs.Prelude.{ℕ, option_and_then, sum_by, codes}
+use Rattle.std.proofs.Common.{◌≡◌, List, [], ◌∷◌, length, map, Option, Some, None, IfSome, arith, refl, subst, sym}
+use Rattle.std.proofs.Common.{ℕ, option_and_then, sum_by, codes}
 use Rattle.std.proofs.lemmas.List.{length-append, length-map}
 use Rattle.std.proofs.lemmas.List.Sums.{sum_by-cons}
-use Rattle.irs_base.specs.Days.{IsDay}
-use Rattle.irs_base.specs.Lists.{Every}
+use Rattle.irs_base.specs.{Days.IsDay, Lists.Every}
 use Rattle.irs_elements.proofs.DatesAt.{day_range}
-use Rattle.irs_elements.specs.Leaves.{leaf_date_at}
-use Rattle.irs_elements.specs.Elements.{once, leaf_text_in, values_in}
+use Rattle.irs_elements.specs.{Leaves.leaf_date_at, Elements.once, Elements.leaf_text_in, Elements.values_in}
 use Rattle.irs_read.specs.Readings.{said}
 use Rattle.irs_flows.specs.FlowReading.{FlowsAreWithin, KeepsFlowBounds, exchange_in, flows_in, payment_in, period_in}
 use Rattle.irs_flows.specs.FlowReading.{flow_part_in, flow_parts_in, FlowPart, FlowsOf}
 use Rattle.irs_flows.specs.FlowFaults.{payments_in, periods_in, flow_periods_of}
-use Rattle.irs_flows.specs.declared.flows.FlowExchange.{FlowExchange}
-use Rattle.irs_flows.specs.declared.flows.FlowPayment.{FlowPayment}
-use Rattle.irs_flows.specs.declared.flows.FlowPeriod.{FlowPeriod}
+use Rattle.irs_flows.specs.declared.flows.{FlowExchange.FlowExchange, FlowPayment.FlowPayment, FlowPeriod.FlowPeriod}
 use Rattle.serde_json.specs.Data.{Data}
 
 -- ---- the days that texts name

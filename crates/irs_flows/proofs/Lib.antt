@@ -1,5 +1,4 @@
 pub mod FlowLaws
-pub mod FlowStated
 pub mod FlowSteps
 pub mod FlowRules
 pub mod FlowClean

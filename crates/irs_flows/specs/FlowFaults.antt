@@ -1,24 +1,19 @@
 -- The elements of cash flows, and the faults of a document of them.
 use Rattle.std.specs.Prelude.{ℕ, ◌+◌, ◌-◌, List, [], ◌∷◌, drop, take, ◌≡◌, ◌⊎◌, ◌<◌, ◌≤◌, nat_le, Bool, true, not, ◌&&◌}
-use Rattle.std.specs.Prelude.{length, Option, Some, None, is_some, option_and_then, codes, Ok, Err, if◌then◌else◌}
-use Rattle.std.specs.Prelude.{slice_get}
+use Rattle.std.specs.Prelude.{length, Option, Some, None, is_some, option_and_then, codes, Ok, if◌then◌else◌, slice_get}
 use Rattle.serde_json.specs.Data.{Data}
 use Rattle.std.specs.List.{flat_map}
 use Rattle.irs_base.specs.Elements.{cashflows, flow_period, swap, swap_stream}
-use Rattle.irs_base.specs.Limits.{most_rows, most_streams}
-use Rattle.irs_base.specs.Paths.{printed_paths}
-use Rattle.irs_base.specs.declared.places.Broken.{Broken}
 use Rattle.irs_base.specs.declared.places.Rule.{Rule}
 use Rattle.irs_base.specs.declared.places.Rule.TheVariants.{K2, K3, K7}
+use Rattle.irs_base.specs.{Limits.most_rows, Paths.printed_paths, declared.places.Broken.Broken}
 use Rattle.irs_json.specs.Leaves.{child_of, element_names}
 use Rattle.irs_elements.specs.Lines.{Table, others_at, leaf, line, line_below, table_names, object, table_rows}
 use Rattle.irs_elements.specs.declared.table.Count.TheVariants.{Maybe, UpTo}
 use Rattle.irs_elements.specs.declared.table.Leaf.TheVariants.{Amount, CurrencyName, Date, Fraction, Whole}
-use Rattle.irs_elements.specs.declared.table.Row.{Row}
 use Rattle.irs_elements.specs.Elements.{FaultAt, has_odd, values_in, once}
-use Rattle.irs_elements.specs.declared.table.Choice.TheVariants.{Free}
-use Rattle.irs_elements.specs.declared.table.Kind.TheVariants.{Object}
-use Rattle.irs_read.specs.Documents.{the_swap, Among, IsStated}
+use Rattle.irs_elements.specs.declared.table.{Row.Row, Choice.TheVariants.Free, Kind.TheVariants.Object}
+use Rattle.irs_read.specs.Documents.{the_swap, Among, FaultOfStreams, FaultOfSwap, IsStated, WithMembers}
 
 -- ---- the elements of cash flows (FpML's `cashflows` of an InterestRateStream), line by line: the path, what is there,
 -- and how often
@@ -193,32 +188,22 @@ OnceFault stream (x ∷ y ∷ rest) f = f ≡ flow_broken_at stream K7 cashflows
 
 -- the faults of the stream with this number: its own, and where it is an object those of its cash flows
 abbrev pub FlowStreamFault : ℕ → Data → Broken → Type 0
-FlowStreamFault number d f = OwnFault number swap_stream d f
-    ⊎ ((is_some (element_names d) ≡ true) × OnceFault number (values_in (codes "cashflows") (Some d)) f)
+FlowStreamFault number d =
+    WithMembers (OwnFault number swap_stream d) (OnceFault number (values_in (codes "cashflows") (Some d))) d
 
 -- ---- the document
 
--- the faults of streams
-pub data FlowStreamsFault (ds : List Data) : Broken → Type 0 where
-  -- there is none
-  no_stream : length ds ≡ 0 → FlowStreamsFault ds (flow_broken_at 0 K2 swap_stream)
-  -- there are more than eight
-  many_streams : most_streams < length ds → FlowStreamsFault ds (flow_broken_at 0 K7 swap_stream)
-  -- there are one to eight, and one of them has the fault
-  in_stream : (f : Broken) → 0 < length ds → length ds ≤ most_streams → Among (λ j. FlowStreamFault (j + 1)) ds f
-      → FlowStreamsFault ds f
+-- the faults of streams: one to eight occur, and each may have faults
+abbrev pub FlowStreamsFault : List Data → Broken → Type 0
+FlowStreamsFault ds = FaultOfStreams (λ j. FlowStreamFault (j + 1)) ds
 
 -- the faults of a swap: its own, and where it is an object those of its streams
 abbrev pub FlowSwapFault : Data → Broken → Type 0
-FlowSwapFault d f = OwnFault 0 swap d f
-    ⊎ ((is_some (element_names d) ≡ true) × FlowStreamsFault (values_in (codes "swapStream") (Some d)) f)
+FlowSwapFault d = WithMembers (OwnFault 0 swap d) (FlowStreamsFault (values_in (codes "swapStream") (Some d))) d
 
--- the faults of a document of cash flows
-pub data FlowFault (d : Data) : Broken → Type 0 where
-  -- a rule ends the way to the swap
-  ended : (f : Broken) → the_swap d ≡ Err f → FlowFault d f
-  -- the swap has the fault
-  below : (s : Data) (f : Broken) → the_swap d ≡ Ok s → FlowSwapFault s f → FlowFault d f
+-- the faults of a document of cash flows: a rule ends the way to its swap, or the swap has the fault
+abbrev pub FlowFault : Data → Broken → Type 0
+FlowFault d = FaultOfSwap FlowSwapFault d
 
 -- ---- nothing is passed over in the cash flows of a document
 -- What must occur does, and each leaf that occurs has a value of its kind. So a field of what is read is absent exactly

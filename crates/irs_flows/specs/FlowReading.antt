@@ -1,30 +1,20 @@
 -- The cash flows that a document states, and what reading them answers.
-use Rattle.std.specs.Prelude.{List, ◌≡◌, length, sum_by, IfSome, map, ℤ, Option, Some, option_map, codes, ◌≢◌, Ok}
+use Rattle.std.specs.Prelude.{List, ◌≡◌, length, sum_by, IfSome, map, Option, Some, option_map, codes, ◌≢◌, Ok}
 use Rattle.serde_json.specs.Data.{Data}
-use Rattle.irs_base.specs.Days.{IsDay}
-use Rattle.irs_base.specs.Lists.{Every}
-use Rattle.irs_base.specs.declared.line.Dec.{Dec}
-use Rattle.irs_base.specs.declared.places.Broken.{Broken}
-use Rattle.irs_base.specs.declared.places.Place.{Place}
-use Rattle.irs_base.specs.declared.places.Rule.{Rule}
 use Rattle.irs_base.specs.declared.places.Rule.TheVariants.{K2, K3, K4, K5, K6, K7}
 use Rattle.irs_base.specs.Outcomes.{IsFirstBroken, First, is_before, Spec}
-use Rattle.irs_elements.specs.Codes.{first_there}
-use Rattle.irs_elements.specs.Leaves.{leaf_date_at, currency_at}
+use Rattle.irs_base.specs.{Days.IsDay, Lists.Every, declared.line.Dec.Dec, declared.places.Broken.Broken}
+use Rattle.irs_base.specs.{declared.places.Place.Place, declared.places.Rule.Rule}
 use Rattle.irs_elements.specs.Elements.{member, once, values_in}
 use Rattle.irs_elements.specs.Numbers.{fraction_at, amount_at, whole_at}
-use Rattle.irs_read.specs.Readings.{said}
-use Rattle.irs_read.specs.Documents.{the_swap}
-use Rattle.irs_flows.specs.declared.flows.FlowExchange.{FlowExchange}
-use Rattle.irs_flows.specs.declared.flows.FlowPayment.{FlowPayment}
-use Rattle.irs_flows.specs.declared.flows.FlowPeriod.{FlowPeriod}
+use Rattle.irs_elements.specs.{Codes.first_there, Leaves.leaf_date_at, Leaves.currency_at}
+use Rattle.irs_read.specs.{Readings.said, Documents.the_swap}
 use Rattle.irs_flows.specs.FlowFaults.{payments_in, periods_in, flow_periods_of, FlowFault}
-use Rattle.irs_flows.specs.declared.flows.FlowReset.{FlowReset}
-use Rattle.irs_flows.specs.declared.flows.StatedFraction.{StatedFraction}
-use Rattle.irs_flows.specs.declared.error.FlowErr.{FlowErr}
 use Rattle.irs_flows.specs.declared.error.FlowErr.TheVariants.{Memory, Shape}
-use Rattle.irs_flows.specs.declared.error.ShapeKind.{ShapeKind}
 use Rattle.irs_flows.specs.declared.error.ShapeKind.TheVariants.{Count, Kind, Missing, NotJson, Profile, Unknown, Value}
+use Rattle.irs_flows.specs.declared.{error.FlowErr.FlowErr, error.ShapeKind.ShapeKind, flows.FlowExchange.FlowExchange}
+use Rattle.irs_flows.specs.declared.{flows.FlowPayment.FlowPayment, flows.FlowPeriod.FlowPeriod}
+use Rattle.irs_flows.specs.declared.{flows.FlowReset.FlowReset, flows.StatedFraction.StatedFraction}
 
 -- ---- what is seen of cash flows: a list of parts, one a stream
 
@@ -84,10 +74,10 @@ stated v = record { units = v.units; places = v.places }
 abbrev pub reset_at : Data → Option FlowReset
 reset_at d = option_map flow_reset_in (member (codes "rateObservation") (once (codes "floatingRateDefinition") d))
 
--- the fields of a calculation period with this start, fraction and reset
-abbrev pub period_from : Option ℤ → Option StatedFraction → Option FlowReset → Data → FlowPeriod
-period_from first fraction reset d = record {
-  start = first;
+-- the fields of a calculation period
+abbrev pub period_in : Data → FlowPeriod
+period_in d = record {
+  start = said leaf_date_at (once (codes "unadjustedStartDate") d);
   «end» = said leaf_date_at (once (codes "unadjustedEndDate") d);
   adjusted_start = said leaf_date_at (once (codes "adjustedStartDate") d);
   adjusted_end = said leaf_date_at (once (codes "adjustedEndDate") d);
@@ -95,15 +85,9 @@ period_from first fraction reset d = record {
   notional = said amount_at (once (codes "notionalAmount") d);
   rate = first_there (said amount_at (once (codes "fixedRate") d))
       (said amount_at (member (codes "calculatedRate") (once (codes "floatingRateDefinition") d)));
-  fraction = fraction;
-  reset = reset;
+  fraction = option_map stated (said fraction_at (once (codes "dayCountYearFraction") d));
+  reset = reset_at d;
 }
-
--- the fields of a calculation period
-abbrev pub period_in : Data → FlowPeriod
-period_in d =
-    period_from (said leaf_date_at (once (codes "unadjustedStartDate") d))
-    (option_map stated (said fraction_at (once (codes "dayCountYearFraction") d))) (reset_at d) d
 
 -- the flows in a `cashflows` that may be absent
 abbrev pub flows_in : Option Data → FlowPart

@@ -3,26 +3,23 @@
 //! stream.
 //!
 //! The carrier, the table and the order of faults are our rule.
-ghost use Rattle.irs_flows.specs.FlowFaults.{CashflowsFault, FlowFault, OnceFault, OwnFault, PeriodFault, PeriodsFault};
+ghost use Rattle.irs_flows.specs.FlowFaults.{CashflowsFault, FlowFault, OnceFault, PeriodFault, PeriodsFault};
 ghost use Rattle.irs_flows.specs.FlowFaults.{PeriodsFrom, FlowStreamFault, FlowStreamsFault, FlowSwapFault};
 ghost use Rattle.irs_flows.specs.FlowFaults.{flow_broken_at as at_of, has_both_rates as has_both_rates_of};
 ghost use Rattle.irs_flows.specs.FlowFaults.{has_calculated_rate as has_calculated_rate_of, is_sound as is_sound_of};
 ghost use Rattle.irs_flows.specs.FlowFaults.{payments_in, flow_periods_of, sole as sole_of};
-ghost use Rattle.irs_base.specs.Elements.{flow_period};
-ghost use Rattle.irs_elements.specs.Elements.{is_odd as is_odd_of, seen};
-ghost use Rattle.irs_elements.specs.Private.Walk.{fault_if};
-ghost use Rattle.irs_json.specs.Leaves.{child_of};
-ghost use Rattle.irs_read.specs.Documents.{Among};
-ghost use Rattle.irs_base.specs.Limits.{most_rows, most_streams};
+ghost use Rattle.irs_base.specs.{Elements.flow_period, declared.places.Broken.Broken as BrokenRule, Limits.most_rows};
+ghost use Rattle.irs_base.specs.{Limits.most_streams, Outcomes.First, Outcomes.IsFirstBroken, Outcomes.is_before};
+ghost use Rattle.irs_elements.specs.{Elements.seen, Private.Walk.fault_if};
+ghost use Rattle.irs_read.specs.Documents.{Among, the_swap as the_swap_of};
 ghost use Rattle.serde_json.specs.View.{view};
-ghost use Rattle.std.specs.Prelude.{◌≡◌, ◌+◌, ◌<◌, ◌^◌, ◌≤◌, length, map, nat_le};
-ghost use Rattle.irs_base.specs.Outcomes.{IsFirstBroken};
+ghost use Rattle.std.specs.Prelude.{◌≡◌, ◌+◌, ◌<◌, ◌^◌, ◌≤◌, IfErr, IfOk, Ok, length, map, not};
 
 use crate::flow_table::{
     FLOW_ENDS, FLOW_NAMES, FLOW_ROWS, FLOWS, PERIOD, PERIOD_ENDS, PERIOD_NAMES, PERIOD_ROWS,
 };
 use irs_base::{Broken, Elem, MOST_ROWS, MOST_STREAMS, Place, Rule};
-use irs_elements::{Table, earlier, first_fault, values, values_at};
+use irs_elements::{Table, earlier, first_fault, has_odd, values, values_at};
 use irs_json::{Value, child, members};
 use irs_read::the_swap;
 
@@ -42,25 +39,15 @@ fn at(stream: u8, rule: Rule, elem: Elem) -> Broken
 
 // ---- an object of which most members are passed over
 
-// Whether an attribute is there and is no text.
-fn is_odd(v: &Value, name: &str) -> bool
-    ensures { result ≡ is_odd_of (child_of name.now (view v.now)) }
-{
-    match child(v, name) {
-        None => false,
-        Some(found) => found.as_str().is_none(),
-    }
-}
-
 // Whether `v` is an object whose `@id` and `@href`, where they occur, are texts.
 fn is_sound(v: &Value) -> bool
     ensures { result ≡ is_sound_of (view v.now) }
 {
-    members(v).is_some() && !(is_odd(v, "@id") || is_odd(v, "@href"))
+    members(v).is_some() && !has_odd(v)
 }
 
 fn own_fault(stream: u8, elem: Elem, v: &Value) -> Option<Broken>
-    ensures { IsFirstBroken (OwnFault stream elem (view v.now)) result }
+    ensures { result ≡ fault_if (not (is_sound_of (view v.now))) (at_of stream Rule.K3 elem) }
 {
     if is_sound(v) {
         None
@@ -136,49 +123,27 @@ fn periods_behind(stream: u8, before: u32, list: &[Value]) -> Option<Broken>
     first
 }
 
-// The first fault of the calculation periods of payments.
-fn each_period_fault(stream: u8, payments: &[Value]) -> Option<Broken>
-    requires { length (flow_periods_of (map view payments.now)) ≤ most_rows }
-    ensures { IsFirstBroken (PeriodsFrom stream 0 (flow_periods_of (map view payments.now))) result }
+// The first fault of the calculation periods of payments: that they are too many, or one of theirs.
+fn periods_fault(stream: u8, payments: &[Value]) -> Option<Broken>
+    ensures { IsFirstBroken (PeriodsFault stream (flow_periods_of (map view payments.now))) result }
 {
     let mut first = None;
     let mut before = 0;
     for p in 0..payments.len() {
         let list = values_at(&payments[p], "calculationPeriod");
+        if list.len() > (MOST_ROWS - before) as usize {
+            return Some(at(stream, Rule::K7, Elem::FLOW_PERIOD));
+        }
         first = earlier(first, periods_behind(stream, before, list));
         before += list.len() as u32;
     }
     first
 }
 
-// Whether payments have at most as many calculation periods as a stream may have.
-fn are_few(payments: &[Value]) -> bool
-    ensures { result ≡ nat_le (length (flow_periods_of (map view payments.now))) most_rows }
-{
-    let mut left = MOST_ROWS as usize;
-    for p in 0..payments.len() {
-        let count = values_at(&payments[p], "calculationPeriod").len();
-        if left < count {
-            return false;
-        }
-        left -= count;
-    }
-    true
-}
-
-fn periods_fault(stream: u8, payments: &[Value]) -> Option<Broken>
-    ensures { IsFirstBroken (PeriodsFault stream (flow_periods_of (map view payments.now))) result }
-{
-    if are_few(payments) {
-        each_period_fault(stream, payments)
-    } else {
-        Some(at(stream, Rule::K7, Elem::FLOW_PERIOD))
-    }
-}
-
 // ---- the cash flows of a stream
 
 /// The payments of cash flows; none where there are too many.
+#[tactic(auto, using(crate::proofs::FlowSteps::few_is, crate::proofs::FlowSteps::many_is))]
 pub fn payments_of<'a>(v: Option<&'a Value>) -> &'a [Value]
     ensures { map view result.now ≡ payments_in (seen v.entry) }
 {
@@ -263,12 +228,27 @@ fn swap_fault(v: &Value) -> Option<Broken>
     }
 }
 
+/// The swap of a document of cash flows, where it has no fault, and else the first fault.
+pub fn clean_swap(v: &Value) -> Result<&Value, Broken>
+    ensures found { IfOk result (λ swap. the_swap_of (view v.now) ≡ Ok (view swap.now)) }
+    ensures clean { IfOk result (λ _. (f : BrokenRule) → FlowFault (view v.now) f → ⊥) }
+    ensures broken { IfErr result (First is_before (FlowFault (view v.now))) }
+{
+    match the_swap(v) {
+        Err(broken) => Err(broken),
+        Ok(swap) => match swap_fault(swap) {
+            None => Ok(swap),
+            Some(broken) => Err(broken),
+        },
+    }
+}
+
 /// The first fault of a document of cash flows; `None` exactly where it has none.
 pub fn first_in_flows(v: &Value) -> Option<Broken>
     ensures { IsFirstBroken (FlowFault (view v.now)) result }
 {
-    match the_swap(v) {
-        Ok(swap) => swap_fault(swap),
+    match clean_swap(v) {
+        Ok(_) => None,
         Err(broken) => Some(broken),
     }
 }

@@ -1,8 +1,7 @@
 //! The values of the leaves of cash flows; `None` where a leaf is absent or has no value.
 ghost use Rattle.irs_flows.specs.FlowReading.{stated};
-ghost use Rattle.irs_elements.specs.Leaves.{leaf_date_at, currency_at};
-ghost use Rattle.irs_elements.specs.Elements.{seen};
 ghost use Rattle.irs_elements.specs.Numbers.{fraction_at, amount_at, whole_at};
+ghost use Rattle.irs_elements.specs.{Leaves.leaf_date_at, Leaves.currency_at, Elements.seen};
 ghost use Rattle.irs_read.specs.Readings.{said};
 ghost use Rattle.std.specs.Prelude.{◌≡◌, option_map};
 
@@ -42,19 +41,10 @@ pub fn days(v: Option<&Value>) -> Option<i64>
     leaf_value!(v, text => numbers::small_whole(text.as_bytes()))
 }
 
-// A fraction as a decimal.
-fn decimal(v: Option<&Value>) -> Option<Dec>
-    ensures { result ≡ said fraction_at (seen v.entry) }
-{
-    leaf_value!(v, text => fractions::fraction(text.as_bytes()))
-}
-
 /// A day count fraction.
 pub fn fraction(v: Option<&Value>) -> Option<StatedFraction>
     ensures { result ≡ option_map stated (said fraction_at (seen v.entry)) }
 {
-    match decimal(v) {
-        None => None,
-        Some(Dec { units, places }) => Some(StatedFraction { units, places }),
-    }
+    let Dec { units, places } = leaf_value!(v, text => fractions::fraction(text.as_bytes()))?;
+    Some(StatedFraction { units, places })
 }

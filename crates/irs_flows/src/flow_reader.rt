@@ -1,52 +1,34 @@
 //! Reading cash flows: the flows that a document states, or its first fault.
-ghost use Rattle.irs_elements.specs.Private.Walk.{IsOfTables};
 ghost use Rattle.irs_elements.specs.Elements.{values_in};
 ghost use Rattle.irs_flows.specs.FlowReading.{FlowsAreWithin, HidesNone, flows_of_document, flow_part_in};
 ghost use Rattle.irs_flows.specs.FlowReading.{flow_parts_in, FlowPart, FlowsOf, IsFirstFlowFault};
 ghost use Rattle.irs_flows.specs.FlowReading.{shape_kind_of as kind_by};
+ghost use Rattle.irs_flows.specs.{Private.FlowMeaning.AllHaveFewPeriods, FlowFaults.EachFlowStated};
 ghost use Rattle.irs_base.specs.Outcomes.{Determined};
-ghost use Rattle.irs_flows.specs.Private.FlowMeaning.{AllHaveFewPeriods};
-ghost use Rattle.irs_flows.specs.FlowFaults.{EachFlowStated};
-ghost use Rattle.irs_flows.specs.declared.error.FlowErr.TheVariants.{Shape};
-ghost use Rattle.serde_json.specs.Data.{Data};
-ghost use Rattle.serde_json.specs.View.{view};
+ghost use Rattle.serde_json.specs.{Data.Data, View.view};
 ghost use Rattle.std.specs.Prelude.{◌≡◌, IfErr, IfOk, List, Some, codes, map};
 
-use crate::flow_faults::first_in_flows;
+use crate::flow_faults::{clean_swap, first_in_flows};
 use crate::flow_rows::stream_flows;
 use crate::{FlowErr, FlowStream, Flows, ShapeKind};
-use irs_base::{Broken, Memory, Rule};
+use irs_base::{Memory, Rule};
 use irs_elements::values_at;
 use irs_json::Value;
-use irs_read::the_swap;
 use std::alloc::Global;
 
 // The kind of a fault by its rule. The tables of elements have the rules K2 to K7.
-#[tactic(auto, using(crate::proofs::FlowRules::last_kind))]
 fn kind_of(rule: Rule) -> ShapeKind
-    requires { IsOfTables rule }
     ensures { result ≡ kind_by rule }
 {
-    if rule == Rule::K2 {
-        ShapeKind::Missing
-    } else if rule == Rule::K3 {
-        ShapeKind::Kind
-    } else if rule == Rule::K4 {
-        ShapeKind::Unknown
-    } else if rule == Rule::K5 {
-        ShapeKind::Profile
-    } else if rule == Rule::K6 {
-        ShapeKind::Value
-    } else {
-        ShapeKind::Count
+    match rule {
+        Rule::K2 => ShapeKind::Missing,
+        Rule::K3 => ShapeKind::Kind,
+        Rule::K4 => ShapeKind::Unknown,
+        Rule::K5 => ShapeKind::Profile,
+        Rule::K6 => ShapeKind::Value,
+        Rule::K7 => ShapeKind::Count,
+        _ => ShapeKind::NotJson,
     }
-}
-
-fn shape(fault: Broken) -> FlowErr
-    requires { IsOfTables fault.rule }
-    ensures { result ≡ Shape (kind_by fault.rule) fault.place }
-{
-    FlowErr::Shape(kind_of(fault.rule), fault.place)
 }
 
 fn each_stream(alloc: Global, found: &[Value]) -> Result<Vec<FlowStream>, Memory>
@@ -82,11 +64,8 @@ pub fn read_flows(alloc: Global, v: &Value) -> Result<Flows, FlowErr>
     // Running out of memory hides no fault.
     ensures memory { IfErr result (λ e. HidesNone (view v.now) e) }
 {
-    if let Some(fault) = first_in_flows(v) {
-        return Err(shape(fault));
-    }
-    match the_swap(v) {
-        Err(fault) => Err(shape(fault)),
+    match clean_swap(v) {
+        Err(fault) => Err(FlowErr::Shape(kind_of(fault.rule), fault.place)),
         Ok(found) => Ok(flows_of(alloc, found)?),
     }
 }

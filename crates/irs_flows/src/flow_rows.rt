@@ -1,18 +1,17 @@
 //! The rows of cash flows: exchanges, payments with their calculation periods, and resets.
-ghost use Rattle.irs_flows.specs.FlowFaults.{payments_in, periods_in, flow_periods_of};
+ghost use Rattle.irs_flows.specs.FlowFaults.{payments_in, flow_periods_of};
 ghost use Rattle.irs_base.specs.Limits.{most_rows};
-ghost use Rattle.irs_flows.specs.FlowReading.{exchange_in, flows_in, payment_in, period_in, period_from, reset_at};
+ghost use Rattle.irs_flows.specs.FlowReading.{exchange_in, flows_in, payment_in, period_in, reset_at};
 ghost use Rattle.irs_flows.specs.FlowReading.{flow_reset_in, flow_part_in};
 ghost use Rattle.irs_flows.specs.Private.FlowMeaning.{HasFewPeriods};
-ghost use Rattle.irs_elements.specs.Codes.{first_there};
-ghost use Rattle.irs_elements.specs.Elements.{seen};
+ghost use Rattle.irs_elements.specs.Elements.{member as member_of, once as once_of, seen};
 ghost use Rattle.serde_json.specs.View.{view};
-ghost use Rattle.std.specs.Prelude.{◌≡◌, ◌≤◌, IfOk, length, map};
+ghost use Rattle.std.specs.Prelude.{◌≡◌, ◌≤◌, IfOk, codes, length, map, option_map};
 
 use crate::flow_faults::payments_of;
 use crate::flow_leaves::{amount, currency, day, days, fraction};
-use crate::{FlowExchange, FlowPayment, FlowPeriod, FlowReset, FlowStream, StatedFraction};
-use irs_base::{Day, Memory};
+use crate::{FlowExchange, FlowPayment, FlowPeriod, FlowReset, FlowStream};
+use irs_base::Memory;
 use irs_elements::{member, once, values, values_at};
 use irs_json::Value;
 use std::alloc::Global;
@@ -27,46 +26,32 @@ fn reset(v: &Value) -> FlowReset
     }
 }
 
-// The reset of a calculation period.
-fn reset_of(v: &Value) -> Option<FlowReset>
-    ensures { result ≡ reset_at (view v.now) }
+// The reset below a floating rate that may be absent.
+fn reset_of(float: Option<&Value>) -> Option<FlowReset>
+    ensures { result ≡ option_map flow_reset_in (member_of (codes "rateObservation") (seen float.entry)) }
 {
-    match member(once(v, "floatingRateDefinition"), "rateObservation") {
+    match member(float, "rateObservation") {
         None => None,
         Some(found) => Some(reset(found)),
     }
 }
 
-// The first of two amounts that is there.
-fn first_of(a: Option<i128>, b: Option<i128>) -> Option<i128>
-    ensures { result ≡ first_there a b }
+// The calculation period `v`, which has this floating rate and this reset.
+fn period(v: &Value, float: Option<&Value>, reset: Option<FlowReset>) -> FlowPeriod
+    requires float { seen float ≡ once_of (codes "floatingRateDefinition") (view v.now) }
+    requires reset { reset ≡ reset_at (view v.now) }
+    ensures { result ≡ period_in (view v.now) }
 {
-    match a {
-        None => b,
-        Some(n) => Some(n),
-    }
-}
-
-// The calculation period with this start, fraction and reset.
-fn period(
-    start: Option<Day>,
-    fraction: Option<StatedFraction>,
-    reset: Option<FlowReset>,
-    v: &Value,
-) -> FlowPeriod
-    ensures { result ≡ period_from start fraction reset (view v.now) }
-{
-    let float = once(v, "floatingRateDefinition");
     let fixed = amount(once(v, "fixedRate"));
     FlowPeriod {
-        start,
+        start: day(once(v, "unadjustedStartDate")),
         end: day(once(v, "unadjustedEndDate")),
         adjusted_start: day(once(v, "adjustedStartDate")),
         adjusted_end: day(once(v, "adjustedEndDate")),
         days: days(once(v, "calculationPeriodNumberOfDays")),
         notional: amount(once(v, "notionalAmount")),
-        rate: first_of(fixed, amount(member(float, "calculatedRate"))),
-        fraction,
+        rate: fixed.or(amount(member(float, "calculatedRate"))),
+        fraction: fraction(once(v, "dayCountYearFraction")),
         reset,
     }
 }
@@ -88,51 +73,36 @@ fn exchanges(alloc: Global, found: &[Value]) -> Result<Vec<FlowExchange>, Memory
     Ok(list)
 }
 
-// How many calculation periods a payment has.
-fn count_of(v: &Value) -> u32
-    requires { length (periods_in (view v.now)) ≤ most_rows }
-    ensures { result ≡ length (periods_in (view v.now)) }
-{
-    values_at(v, "calculationPeriod").len() as u32
-}
-
-fn payments(alloc: Global, found: &[Value]) -> Result<Vec<FlowPayment>, Memory>
+// The payments, and the calculation periods of all of them.
+fn payments(alloc: Global, found: &[Value]) -> Result<(Vec<FlowPayment>, Vec<FlowPeriod>), Memory>
     requires { length (flow_periods_of (map view found.now)) ≤ most_rows }
-    ensures { IfOk result (λ list. list.items ≡ map payment_in (map view found.now)) }
+    ensures payments { IfOk result (λ both. both.0.items ≡ map payment_in (map view found.now)) }
+    ensures periods { IfOk result (λ both. both.1.items ≡ map period_in (flow_periods_of (map view found.now))) }
 {
-    let mut list = Vec::new(alloc);
+    let mut payments = Vec::new(alloc);
+    let mut periods = Vec::new(alloc);
     for j in 0..found.len() {
         let v = &found[j];
+        let inside = values_at(v, "calculationPeriod");
         let forecast = once(v, "forecastPaymentAmount");
         let unadjusted = day(once(v, "unadjustedPaymentDate"));
         let adjusted = day(once(v, "adjustedPaymentDate"));
         let currency = currency(member(forecast, "currency"));
         let amount = amount(member(forecast, "amount"));
-        list.push(FlowPayment {
+        payments.push(FlowPayment {
             unadjusted,
             adjusted,
-            periods: count_of(v),
+            periods: inside.len() as u32,
             currency,
             amount,
         })?;
-    }
-    Ok(list)
-}
-
-// The calculation periods of all payments.
-fn periods(alloc: Global, payments: &[Value]) -> Result<Vec<FlowPeriod>, Memory>
-    ensures { IfOk result (λ list. list.items ≡ map period_in (flow_periods_of (map view payments.now))) }
-{
-    let mut list = Vec::new(alloc);
-    for payment in payments {
-        for v in values_at(payment, "calculationPeriod") {
-            let start = day(once(v, "unadjustedStartDate"));
-            let fraction = fraction(once(v, "dayCountYearFraction"));
-            let reset = reset_of(v);
-            list.push(period(start, fraction, reset, v))?;
+        for one in inside {
+            let float = once(one, "floatingRateDefinition");
+            let reset = reset_of(float);
+            periods.push(period(one, float, reset))?;
         }
     }
-    Ok(list)
+    Ok((payments, periods))
 }
 
 fn flows(alloc: Global, v: Option<&Value>) -> Result<FlowStream, Memory>
@@ -141,8 +111,7 @@ fn flows(alloc: Global, v: Option<&Value>) -> Result<FlowStream, Memory>
 {
     let found = payments_of(v);
     let exchanges = exchanges(alloc, values(v, "principalExchange"))?;
-    let payments = payments(alloc, found)?;
-    let periods = periods(alloc, found)?;
+    let (payments, periods) = payments(alloc, found)?;
     Ok(FlowStream::new(exchanges, payments, periods))
 }
 
