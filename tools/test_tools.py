@@ -614,6 +614,19 @@ kept n = IsSet n
         lines = ["low::first: 3 definitions, 8 lines, 2 files", "low::helped: 0 definitions, 0 lines, 0 files"]
         self.assertEqual(self.found()[1][1:], lines)
 
+    def test_names_behind_their_module(self) -> None:
+        path, same = self.top / "crates/low/specs/Days.antt", self.found("low::first")
+        text = path.read_text()
+        imports = "use Rattle.low.specs.Other.{sunday, monday, day}"
+        for module, other in {
+            "use Rattle.low.specs.Other": "Other.",
+            "use Rattle.low.specs.Other as week": "week.",
+            "use Rattle.low.specs.{Other.sunday, Other.monday, Other.day}": "",
+        }.items():
+            changed = re.sub(r"(?<= )(sunday|monday|day)$", rf"{other}\1", text.replace(imports, ""), flags=re.M)
+            path.write_text(text[: text.index(imports)] + module + changed[text.index(imports):])
+            self.assertEqual(self.found("low::first"), same)
+
     def test_what_no_contract_reaches(self) -> None:
         lines = ["low Days: last", "low Other: day", "6 definitions, 2 of them reached from no public contract"]
         self.assertEqual(self.found("--unreached"), (0, lines))
