@@ -4,7 +4,8 @@ use Rattle.std.proofs.Common.{◌∙◌, ap, subst, arith, append_assoc}
 use Rattle.std.specs.Prelude.{slice_get}
 use Rattle.std.proofs.lemmas.List.{length-take-le, append-nil}
 use Rattle.std.proofs.lemmas.Option.{same_Some, slice_get_within}
-use Rattle.irs_base.specs.Outcomes.{in_stream, Only, Spec, each_in_turn, refused_as}
+use Rattle.irs_base.specs.Outcomes.{Only, Spec, each_in_turn, refused_as}
+use Rattle.irs_terms.specs.Faults.{in_stream}
 use Rattle.irs_base.proofs.Outcomes.{answer_there}
 use Rattle.irs_terms.specs.declared.stream.Stream.{Stream}
 use Rattle.irs_schedule.specs.DaySets.{applicable_days, stream_sets}

@@ -1,7 +1,7 @@
 -- When two specifications allow no outcomes but the same.
 use Rattle.std.proofs.Common.{◌≡◌, ◌⊎◌, inl, inr, ℕ, List, refl, sym, ap, subst, ◌∙◌}
 use Rattle.irs_base.specs.Outcomes.{Only, Determined, Spec, ◌>>=◌, answer, answered, given_by, refused, refused_as}
-use Rattle.irs_base.specs.declared.places.Broken.{Broken}
+use Rattle.irs_terms.specs.declared.places.Broken.{Broken}
 use Rattle.irs_answers.specs.Messages.{Answer, Gives, keeping}
 
 -- whatever the two answer is the same in this sense, and whatever they refuse is the same; where one answers, the other

@@ -1,8 +1,9 @@
 -- Something is due for each task and its files: it can't be otherwise.
 use Rattle.std.proofs.Common.{◌⊎◌, inl, inr, ℕ, ℤ, List, [], ◌∷◌, Option, Some, None, Bool, true, false, refl}
 use Rattle.serde_json.specs.Data.{Data}
-use Rattle.irs_base.specs.Outcomes.{Determined, answered, is_before, refused}
-use Rattle.irs_base.specs.declared.places.Broken.{Broken}
+use Rattle.irs_base.specs.Outcomes.{Determined, answered, refused}
+use Rattle.irs_terms.specs.Faults.{is_before}
+use Rattle.irs_terms.specs.declared.places.Broken.{Broken}
 use Rattle.irs_read.specs.Documents.{DocumentFault, Means, swap_of_document}
 use Rattle.irs_read.proofs.EachValue.{faultless_means}
 use Rattle.irs_flows.specs.FlowFaults.{FlowFault}

@@ -1,8 +1,9 @@
 -- What can't be otherwise: cases that aren't decided, the first that breaks a rule, and outcomes of chains.
 use Rattle.std.proofs.Common.{◌≡◌, ◌⊎◌, inl, inr, Bool, refl}
-use Rattle.irs_base.specs.Outcomes.{Determined, First, Only, Spec, ◌>>=◌, answer, given_by, is_before, refused_as}
-use Rattle.irs_base.specs.Outcomes.{rule_number}
-use Rattle.irs_base.specs.declared.places.Broken.{Broken}
+use Rattle.irs_base.specs.Outcomes.{Determined, First, Only, Spec, ◌>>=◌, answer, given_by, refused_as}
+use Rattle.irs_terms.specs.Faults.{is_before}
+use Rattle.irs_terms.specs.Faults.{rule_number}
+use Rattle.irs_terms.specs.declared.places.Broken.{Broken}
 use Rattle.irs_base.proofs.Firsts.{IsFounded, level_founded, rank_founded}
 use Rattle.irs_answers.specs.Due.{IsCertain}
 use Rattle.irs_answers.proofs.Agreement.{IsOne, determined_by}

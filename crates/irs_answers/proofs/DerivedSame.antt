@@ -1,7 +1,7 @@
 -- What is due for derived rates depends on a table of rates by its rates alone.
 use Rattle.std.proofs.Common.{ℕ, List}
 use Rattle.irs_base.specs.Outcomes.{◌>>=◌, refused_as}
-use Rattle.irs_base.specs.declared.places.Broken.{Broken}
+use Rattle.irs_terms.specs.declared.places.Broken.{Broken}
 use Rattle.irs_terms.specs.declared.amounts.FloatTerms.{FloatTerms}
 use Rattle.irs_terms.specs.declared.frequency.Frequency.{Frequency}
 use Rattle.irs_terms.specs.declared.stream_list.Swap.{Swap}

@@ -4,9 +4,10 @@ use Rattle.std.proofs.Common.{◌∙◌, ap, subst}
 use Rattle.std.specs.Prelude.{IfSome, if◌then◌else◌, option_map, slice_get}
 use Rattle.std.proofs.lemmas.Option.{IfSome_then, same_Some}
 use Rattle.serde_json.specs.Data.{Data}
-use Rattle.irs_base.specs.Outcomes.{IfStopped, First, is_before}
+use Rattle.irs_base.specs.Outcomes.{IfStopped, First}
+use Rattle.irs_terms.specs.Faults.{is_before}
 use Rattle.irs_base.proofs.Outcomes.{answered_free}
-use Rattle.irs_base.specs.declared.places.Broken.{Broken}
+use Rattle.irs_terms.specs.declared.places.Broken.{Broken}
 use Rattle.irs_base.specs.declared.stopped.Stopped.{Stopped}
 use Rattle.irs_base.specs.declared.stopped.Stopped.TheVariants as stopped
 use Rattle.irs_xml.proofs.TextLaws.{reads_one}

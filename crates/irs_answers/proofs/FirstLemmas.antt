@@ -1,9 +1,10 @@
 -- There is one first broken rule, and one first line of a file of fixings that is at fault.
 use Rattle.std.proofs.Common.{◌≡◌, ℕ, List, Option, Some, None, Result, Ok, Err}
-use Rattle.irs_base.proofs.FaultOrder.{broken_ties}
+use Rattle.irs_terms.proofs.FaultOrder.{broken_ties}
 use Rattle.irs_base.proofs.Firsts.{one_first as one_of_order}
-use Rattle.irs_base.specs.Outcomes.{First, is_before}
-use Rattle.irs_base.specs.declared.places.Broken.{Broken}
+use Rattle.irs_base.specs.Outcomes.{First}
+use Rattle.irs_terms.specs.Faults.{is_before}
+use Rattle.irs_terms.specs.declared.places.Broken.{Broken}
 use Rattle.irs_resets.specs.Resets.{MeetsFile, fixings_of}
 use Rattle.irs_resets.specs.Rates.{RateTable}
 use Rattle.irs_resets.specs.declared.fixings.FixErr.{FixErr}

@@ -7,7 +7,7 @@ use Rattle.std.proofs.lemmas.Option.{same_Some, slice_get-get_or, slice_get_with
 use Rattle.irs_base.specs.Days.{IsDay}
 use Rattle.irs_base.specs.Limits.{most_rate}
 use Rattle.irs_base.specs.Lists.{Every}
-use Rattle.irs_base.specs.declared.places.Fault.{Fault}
+use Rattle.irs_terms.specs.declared.places.Fault.{Fault}
 use Rattle.irs_base.proofs.EveryLemmas.{all_numbered}
 use Rattle.irs_base.proofs.MemberLemmas.{every_get, numbered_get}
 use Rattle.irs_terms.specs.Lawful.{IsRate}

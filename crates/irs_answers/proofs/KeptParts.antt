@@ -2,7 +2,8 @@
 use Rattle.std.proofs.Common.{◌≡◌, ℕ, zero, suc, ◌+◌, ◌<◌, List, [], ◌∷◌, length, Some, refl, subst, arith}
 use Rattle.std.specs.Prelude.{slice_get}
 use Rattle.std.proofs.lemmas.Option.{same_Some, slice_get_within}
-use Rattle.irs_base.specs.Outcomes.{in_stream, Spec, each_in_turn, refused_as}
+use Rattle.irs_base.specs.Outcomes.{Spec, each_in_turn, refused_as}
+use Rattle.irs_terms.specs.Faults.{in_stream}
 use Rattle.irs_base.proofs.Outcomes.{answer_there}
 use Rattle.irs_terms.specs.Lawful.{IsLawfulStream}
 use Rattle.irs_terms.specs.declared.stream.Stream.{Stream}

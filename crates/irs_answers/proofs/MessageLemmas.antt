@@ -1,7 +1,7 @@
 -- Lines that have one text.
 use Rattle.std.proofs.Common.{◌≡◌, codes, refl, arith}
 use Rattle.std.proofs.lemmas.Fmt.{decimal_digit}
-use Rattle.irs_base.specs.Paths.{paths, printed_paths, path_of}
+use Rattle.irs_terms.specs.Paths.{paths, printed_paths, path_of}
 use Rattle.irs_answers.specs.Messages.{refused, unreadable}
 
 -- the line of a document without a reading

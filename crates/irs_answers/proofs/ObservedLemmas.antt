@@ -3,7 +3,8 @@ use Rattle.std.proofs.Common.{◌≡◌, inr, ℕ, zero, suc, ◌+◌, ◌^◌, 
 use Rattle.std.proofs.Common.{sym, ◌∙◌, ap, subst, arith}
 use Rattle.std.specs.Prelude.{slice_get}
 use Rattle.std.proofs.lemmas.Option.{same_Some, slice_get_within}
-use Rattle.irs_base.specs.Outcomes.{in_stream, Only, Spec, each_in_turn, refused_as}
+use Rattle.irs_base.specs.Outcomes.{Only, Spec, each_in_turn, refused_as}
+use Rattle.irs_terms.specs.Faults.{in_stream}
 use Rattle.irs_base.specs.Lists.{IsRising}
 use Rattle.irs_base.proofs.EveryLemmas.{pairs_length}
 use Rattle.irs_base.proofs.MemberLemmas.{numbered_map}

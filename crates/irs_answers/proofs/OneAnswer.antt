@@ -2,7 +2,7 @@
 use Rattle.std.proofs.Common.{◌≡◌, inl, inr, ℕ, ℤ, List, [], ◌∷◌, Option, refl, sym, ◌∙◌, ap, subst}
 use Rattle.std.proofs.lemmas.Option.{same_Some}
 use Rattle.irs_base.specs.Outcomes.{Determined, refused_as}
-use Rattle.irs_base.specs.declared.places.Broken.{Broken}
+use Rattle.irs_terms.specs.declared.places.Broken.{Broken}
 use Rattle.irs_audit.specs.Verdicts.{IsVerdict}
 use Rattle.irs_breaks.specs.BreakLists.{IsBreakList}
 use Rattle.irs_breaks.specs.Findings.{Findings}

@@ -1,8 +1,8 @@
 -- Averages and rates of stubs, and their rules, depend on a table of rates by its rates alone.
 use Rattle.std.proofs.Common.{◌≡◌, inl, inr, ℕ, ◌-◌, List, length, Option, Some, ℤ, refl, ◌∙◌, subst}
 use Rattle.irs_base.specs.Lists.{day_at}
-use Rattle.irs_base.specs.declared.places.Broken.{Broken}
-use Rattle.irs_base.specs.declared.places.Fault.{Fault}
+use Rattle.irs_terms.specs.declared.places.Broken.{Broken}
+use Rattle.irs_terms.specs.declared.places.Fault.{Fault}
 use Rattle.irs_base.proofs.MemberLemmas.{numbered_map}
 use Rattle.irs_terms.specs.declared.amounts.FloatTerms.{FloatTerms}
 use Rattle.irs_terms.specs.declared.frequency.Frequency.{Frequency}

@@ -1,9 +1,10 @@
 -- A schedule and the rules of dates and amounts depend on a table of rates by its rates alone.
 use Rattle.std.proofs.Common.{◌≡◌, inl, inr, List, [], ◌∷◌, Option, Some, None, sym, subst}
-use Rattle.irs_base.specs.Outcomes.{in_stream, refused_as}
+use Rattle.irs_base.specs.Outcomes.{refused_as}
+use Rattle.irs_terms.specs.Faults.{in_stream}
 use Rattle.irs_base.specs.Lists.{Pairs}
-use Rattle.irs_base.specs.declared.places.Broken.{Broken}
-use Rattle.irs_base.specs.declared.places.Fault.{Fault}
+use Rattle.irs_terms.specs.declared.places.Broken.{Broken}
+use Rattle.irs_terms.specs.declared.places.Fault.{Fault}
 use Rattle.irs_base.proofs.MemberLemmas.{numbered_map}
 use Rattle.irs_base.proofs.Outcomes.{each_refuses}
 use Rattle.irs_terms.specs.declared.amounts.FloatTerms.{FloatTerms}

@@ -1,7 +1,7 @@
 -- What is due for the tasks that derive rates, and schedules with derived rates.
 use Rattle.std.specs.Prelude.{◌≡◌, ℕ, ◌-◌, ◌≤◌, List, [], ◌∷◌, Option, Some, None, slice_get, length, ℤ}
 use Rattle.irs_base.specs.Outcomes.{Only, Spec, ◌>>=◌, answer, given_by, refused_as}
-use Rattle.irs_base.specs.declared.places.Broken.{Broken}
+use Rattle.irs_terms.specs.declared.places.Broken.{Broken}
 use Rattle.irs_base.specs.Lists.{HoldsOf}
 use Rattle.irs_terms.specs.declared.amounts.FloatTerms.{FloatTerms}
 use Rattle.irs_terms.specs.declared.amounts.Leg.TheVariants.{Floating}

@@ -2,8 +2,9 @@
 use Rattle.std.specs.Prelude.{◌≡◌, ℕ, List, [], Option, Some, None, Bool, true, false, if◌then◌else◌, ◌<◌, IfSome}
 use Rattle.std.specs.Prelude.{option_map, Result, Ok, Err}
 use Rattle.serde_json.specs.Data.{Data}
-use Rattle.irs_base.specs.Outcomes.{Spec, ◌>>=◌, answer, given_by, refused_as, First, Only, is_before}
-use Rattle.irs_base.specs.declared.places.Broken.{Broken}
+use Rattle.irs_base.specs.Outcomes.{Spec, ◌>>=◌, answer, given_by, refused_as, First, Only}
+use Rattle.irs_terms.specs.Faults.{is_before}
+use Rattle.irs_terms.specs.declared.places.Broken.{Broken}
 use Rattle.irs_base.specs.declared.stopped.Stopped.{Stopped}
 use Rattle.irs_base.specs.declared.stopped.Stopped.TheVariants as stopped
 use Rattle.irs_terms.specs.declared.stream_list.Swap.{Swap}

@@ -1,11 +1,12 @@
 -- What a task prints, what a reply is, and the step that decides it.
 use Rattle.std.specs.Prelude.{ℕ, List, [], ◌∷◌, ◌++◌, codes, decimal, ◌≡◌, ◌⊎◌, ◌<◌, ◌==◌, if◌then◌else◌}
-use Rattle.irs_base.specs.Elements.{document}
-use Rattle.irs_base.specs.Paths.{path_of}
-use Rattle.irs_base.specs.Outcomes.{rule_number, Spec}
-use Rattle.irs_base.specs.declared.places.Broken.{Broken}
-use Rattle.irs_base.specs.declared.places.Rule.TheVariants.{K1}
-use Rattle.irs_base.specs.declared.places.Place.{Place}
+use Rattle.irs_terms.specs.Elements.{document}
+use Rattle.irs_terms.specs.Paths.{path_of}
+use Rattle.irs_base.specs.Outcomes.{Spec}
+use Rattle.irs_terms.specs.Faults.{rule_number}
+use Rattle.irs_terms.specs.declared.places.Broken.{Broken}
+use Rattle.irs_terms.specs.declared.places.Rule.TheVariants.{K1}
+use Rattle.irs_terms.specs.declared.places.Place.{Place}
 use Rattle.irs_flows.specs.declared.error.ShapeKind.{ShapeKind}
 use Rattle.irs_flows.specs.declared.error.FlowErr.{FlowErr}
 use Rattle.irs_flows.specs.declared.error.ShapeKind.TheVariants.{NotJson}

@@ -2,11 +2,11 @@
 use Rattle.std.specs.Prelude.{◌≡◌, ℕ, ◌-◌, ◌==◌, List, Option, Some, None, slice_get, if◌then◌else◌, [], ◌∷◌, length}
 use Rattle.std.specs.Prelude.{take, IfSome, ◌||◌, Bool, true, false, IsSomeAnd}
 use Rattle.serde_json.specs.Data.{Data}
-use Rattle.irs_base.specs.declared.places.Place.{Place}
-use Rattle.irs_base.specs.Outcomes.{rule_number}
-use Rattle.irs_base.specs.declared.places.Broken.{Broken}
-use Rattle.irs_base.specs.declared.places.Rule.{Rule}
-use Rattle.irs_base.specs.Elements as elements
+use Rattle.irs_terms.specs.declared.places.Place.{Place}
+use Rattle.irs_terms.specs.Faults.{rule_number}
+use Rattle.irs_terms.specs.declared.places.Broken.{Broken}
+use Rattle.irs_terms.specs.declared.places.Rule.{Rule}
+use Rattle.irs_terms.specs.Elements as elements
 use Rattle.irs_terms.specs.Centers.{fixing_names, names_by, names_with, reset_names}
 use Rattle.irs_terms.specs.declared.stream.Stream.{Stream}
 use Rattle.irs_terms.specs.declared.stream_list.Swap.{Swap}

@@ -4,11 +4,12 @@ use Rattle.std.specs.Prelude.{Option, ◌⊎◌}
 use Rattle.std.specs.List.{flat_map}
 use Rattle.serde_json.specs.Data.{Data}
 use Rattle.serde_json.specs.Written.{compact_text}
-use Rattle.irs_base.specs.Outcomes.{Only, fault_at, in_stream, Spec, ◌>>=◌, answer, given_by, refused_as}
+use Rattle.irs_base.specs.Outcomes.{Only, Spec, ◌>>=◌, answer, given_by, refused_as}
+use Rattle.irs_terms.specs.Faults.{fault_at, in_stream}
 use Rattle.irs_base.specs.Texts.{day_text}
-use Rattle.irs_base.specs.Elements.{swap_stream}
-use Rattle.irs_base.specs.declared.places.Broken.{Broken}
-use Rattle.irs_base.specs.declared.places.Rule.TheVariants.{K49}
+use Rattle.irs_terms.specs.Elements.{swap_stream}
+use Rattle.irs_terms.specs.declared.places.Broken.{Broken}
+use Rattle.irs_terms.specs.declared.places.Rule.TheVariants.{K49}
 use Rattle.irs_terms.specs.Lawful.{IsLawfulTenor}
 use Rattle.irs_terms.specs.declared.stream.Stream.{Stream}
 use Rattle.irs_terms.specs.declared.stream_list.Swap.{Swap}

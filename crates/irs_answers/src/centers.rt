@@ -6,10 +6,12 @@ ghost use Rattle.irs_rules.specs.Parameters.{start_names as start_names_of};
 
 use crate::forms::{Source, read_document};
 use crate::spots::kept;
-use irs_base::{Elem, Names, Place, Text};
+use irs_base::{Names, Text};
 use irs_read::read_swap;
 use irs_rules::applicable_names;
-use irs_terms::{AdjustableDate, Stream, Swap, fixing_names, names_by, names_with, reset_names};
+use irs_terms::{
+    AdjustableDate, Elem, Place, Stream, Swap, fixing_names, names_by, names_with, reset_names,
+};
 use std::alloc::Global;
 
 /// The name of the centre at a place of K12 in a document. None where there is none, or memory ran out.

@@ -13,10 +13,10 @@ use crate::due::Found;
 use crate::refusals::Refusal;
 use crate::replies::Reply;
 use irs_average::{Mean, Side, average, interpolate, stub_index};
-use irs_base::{Broken, Line, Memory, Text};
+use irs_base::{Line, Memory, Text};
 use irs_overnight::{DerivedRow, check_stream, derived_text, overnight, stream_at};
 use irs_schedule::reset_days;
-use irs_terms::{FloatTerms, Frequency, Leg, Stream, Swap};
+use irs_terms::{Broken, FloatTerms, Frequency, Leg, Stream, Swap};
 use std::alloc::Global;
 
 /// The rates that daily rates give for the stream with that number.

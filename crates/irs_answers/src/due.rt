@@ -2,7 +2,7 @@
 ghost use Rattle.std.specs.Prelude.{◌≡◌, Some, IfOk, IfErr};
 ghost use Rattle.serde_json.specs.View.{view};
 ghost use Rattle.irs_base.specs.Outcomes.{MeetsExactly};
-ghost use Rattle.irs_base.specs.declared.places.Broken.{Broken as BrokenRule};
+ghost use Rattle.irs_terms.specs.declared.places.Broken.{Broken as BrokenRule};
 ghost use Rattle.irs_read.specs.Documents.{DocumentFault};
 ghost use Rattle.irs_terms.specs.Lawful.{IsLawfulSwap};
 ghost use Rattle.irs_answers.specs.Messages.{IsCauseOf, IsJudged, cause_of, reply_status, reply_text};
@@ -22,7 +22,7 @@ use crate::forms::{Source, read_document};
 use crate::notes::{NotedReply, fixed_note, refusal_note};
 use crate::refusals::Refusal;
 use crate::tasks::Task;
-use irs_base::{Broken, Memory};
+use irs_base::Memory;
 use irs_calendar::Calendars;
 use irs_json::Value;
 use irs_net::{Sides, read_sides};
@@ -30,7 +30,7 @@ use irs_read::read_swap;
 use irs_resets::Fixings;
 use irs_rules::check_terms;
 use irs_schedule::{Schedule, make_schedule};
-use irs_terms::Swap;
+use irs_terms::{Broken, Swap};
 use std::alloc::Global;
 
 /// What the files of a task say, and the schedule.

@@ -5,8 +5,9 @@ ghost use Rattle.irs_answers.specs.Messages.{bad_flows, departure_text, shape_na
 ghost use Rattle.irs_flows.specs.declared.error.ShapeKind.TheVariants.{NotJson};
 
 use irs_audit::Departure;
-use irs_base::{Elem, Line, Place};
+use irs_base::Line;
 use irs_flows::ShapeKind;
+use irs_terms::{Elem, Place};
 
 /// The line of flows that agree: `yes ROWS UNFIXED`.
 pub(crate) fn yes_line(rows: u32, unfixed: u32, line: &mut Line)

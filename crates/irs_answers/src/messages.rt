@@ -2,7 +2,8 @@
 ghost use Rattle.std.specs.Prelude.{◌≡◌, ◌≤◌, ◌++◌, ◌∷◌, codes, decimal, length};
 ghost use Rattle.irs_answers.specs.Messages.{refused, unreadable};
 
-use irs_base::{Broken, Elem, Line, Place, Rule};
+use irs_base::Line;
+use irs_terms::{Broken, Elem, Place, Rule};
 
 /// The line of a broken rule: `refused RULE STREAM PATH INDEX`.
 pub(crate) fn refused_line(broken: Broken, line: &mut Line)

@@ -5,9 +5,9 @@ ghost use Rattle.irs_answers.specs.Notes.{IsMisfitAt, IsMisfitIn};
 ghost use Rattle.irs_periods.specs.Spans.{given_anchor_of, stub_anchor};
 
 use crate::forms::{Source, read_document};
-use irs_base::{Day, Place};
+use irs_base::Day;
 use irs_read::read_swap;
-use irs_terms::{RollCode, Stream, StubKind, Swap};
+use irs_terms::{Place, RollCode, Stream, StubKind, Swap};
 use std::alloc::Global;
 
 /// The roll that K30 is about, and the day that it doesn't fit.

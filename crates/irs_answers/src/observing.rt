@@ -8,12 +8,12 @@ ghost use Rattle.irs_answers.specs.Private.Outcomes.{IsAccruing, daily_stream, M
 use crate::due::Found;
 use crate::refusals::Refusal;
 use crate::replies::Reply;
-use irs_base::{Broken, Elem, Fault, Memory, Rule, Stopped};
+use irs_base::{Memory, Stopped};
 use irs_daily::{ObservedRows, observations_text, observed_rows};
 use irs_overnight::stream_at;
 use irs_periods::span_of;
 use irs_schedule::{Schedule, StreamPart, applicable_days};
-use irs_terms::{CalculationParameters, FloatTerms, Leg, Stream, Swap};
+use irs_terms::{Broken, CalculationParameters, Elem, Fault, FloatTerms, Leg, Rule, Stream, Swap};
 use std::alloc::Global;
 
 /// The days that each rate of the stream with that number is made of.

@@ -6,10 +6,11 @@ ghost use Rattle.irs_answers.specs.declared.refusals.Refusal.TheVariants.{Fixing
 ghost use Rattle.irs_answers.specs.declared.refusals.Refusal.TheVariants.{Memory as OfMemory};
 
 use crate::forms::{ReadErr, Unread};
-use irs_base::{Broken, Memory, Stopped};
+use irs_base::{Memory, Stopped};
 use irs_calendar::CalErr;
 use irs_flows::FlowErr;
 use irs_resets::FixErr;
+use irs_terms::Broken;
 
 /// Why a task isn't carried out: the first step that fails.
 #[derive(Clone, Copy)]

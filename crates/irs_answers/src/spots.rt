@@ -12,8 +12,9 @@ use crate::common::Common;
 use crate::forms::{Form, Source, read_document};
 use crate::listed::{Listed, listed_centers};
 use crate::misfits::{Misfit, misfit_at};
-use irs_base::{Broken, Elem, Memory, Place, Rule, Text};
+use irs_base::{Memory, Text};
 use irs_locate::{Leaf, Shape, kind_of, line_of, member_of, shape_at, text_of};
+use irs_terms::{Broken, Elem, Place, Rule};
 use itoa::Buffer;
 use std::alloc::Global;
 

@@ -2,11 +2,12 @@
 use Rattle.std.proofs.Common.{◌≡◌, inl, ℕ, ◌+◌, ◌-◌, ◌^◌, ◌<◌, List, length, All, Some, ℤ, ◌<ℤ◌, ◌-ℤ◌, refl, sym, subst}
 use Rattle.std.proofs.Common.{◌∙◌, ap, arith}
 use Rattle.std.specs.Prelude.{slice_get}
-use Rattle.irs_base.specs.Outcomes.{in_stream, First}
+use Rattle.irs_base.specs.Outcomes.{First}
+use Rattle.irs_terms.specs.Faults.{in_stream}
 use Rattle.irs_base.specs.Lists.{Every}
 use Rattle.irs_base.proofs.MemberLemmas.{numbered_get}
-use Rattle.irs_base.specs.declared.places.Broken.{Broken}
-use Rattle.irs_base.specs.declared.places.Fault.{Fault}
+use Rattle.irs_terms.specs.declared.places.Broken.{Broken}
+use Rattle.irs_terms.specs.declared.places.Fault.{Fault}
 use Rattle.irs_base.proofs.Firsts.{one_first}
 use Rattle.irs_terms.specs.declared.amounts.FloatTerms.{FloatTerms}
 use Rattle.irs_schedule.specs.Parts.{KeepsBounds, Part, Rises}

@@ -2,8 +2,9 @@
 use Rattle.std.proofs.Common.{◌≡◌, ℕ, zero, suc, ◌+◌, List, [], ◌∷◌, Some, subst, arith}
 use Rattle.std.specs.Prelude.{slice_get}
 use Rattle.std.proofs.lemmas.Option.{same_Some, slice_get_within}
-use Rattle.irs_base.specs.Outcomes.{in_stream, Spec, each_in_turn, refused_as}
-use Rattle.irs_base.specs.declared.places.Fault.{Fault}
+use Rattle.irs_base.specs.Outcomes.{Spec, each_in_turn, refused_as}
+use Rattle.irs_terms.specs.Faults.{in_stream}
+use Rattle.irs_terms.specs.declared.places.Fault.{Fault}
 use Rattle.irs_base.proofs.Outcomes.{answer_there}
 use Rattle.irs_terms.specs.Lawful.{IsLawfulSwap}
 use Rattle.irs_terms.specs.declared.stream.Stream.{Stream}

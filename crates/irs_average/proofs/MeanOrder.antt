@@ -3,7 +3,7 @@ use Rattle.std.proofs.Common.{◌≡◌, inl, inr, ℕ, ◌<◌, false, refl, sy
 use Rattle.std.specs.Prelude.{nat_lt}
 use Rattle.std.proofs.lemmas.Bool.{cases_order}
 use Rattle.irs_base.specs.Outcomes.{First, level}
-use Rattle.irs_base.specs.declared.places.Fault.{Fault}
+use Rattle.irs_terms.specs.declared.places.Fault.{Fault}
 use Rattle.irs_base.proofs.Firsts.{level_later, level_same}
 use Rattle.irs_resets.specs.Resets.{IsPeriod}
 use Rattle.irs_overnight.specs.Overnight.{FixingNotAfter, derived_before, fixing_not_after_at}

@@ -1,7 +1,7 @@
 -- There is one list of averages.
 use Rattle.std.proofs.Common.{◌≡◌, inr, ℕ, ◌-◌, ◌≤◌, List, length, ℤ, pos, ◌<ℤ◌, ◌-ℤ◌, refl, sym, subst, ◌∙◌, arith}
 use Rattle.jiff_core.proofs.SignedLemmas.{signed_arith}
-use Rattle.irs_base.specs.declared.places.Fault.{Fault}
+use Rattle.irs_terms.specs.declared.places.Fault.{Fault}
 use Rattle.irs_base.proofs.MemberLemmas.{numbered_there, one_numbered}
 use Rattle.irs_resets.specs.Resets.{IsPeriod}
 use Rattle.irs_schedule.specs.Parts.{Rises}

@@ -4,11 +4,11 @@ use Rattle.std.proofs.Common.{IfOk, IfErr, ℤ, ◌<ℤ◌, refl, sym, subst, �
 use Rattle.std.specs.Prelude.{slice_get}
 use Rattle.jiff_core.proofs.SignedLemmas.{signed_arith}
 use Rattle.irs_base.proofs.Decided.{order_of}
-use Rattle.irs_base.specs.Elements.{initial_stub, final_stub}
-use Rattle.irs_base.specs.Outcomes.{fault_at, in_stream}
-use Rattle.irs_base.specs.declared.places.Broken.{Broken}
-use Rattle.irs_base.specs.declared.places.Fault.{Fault}
-use Rattle.irs_base.specs.declared.places.Rule.TheVariants.{K37}
+use Rattle.irs_terms.specs.Elements.{initial_stub, final_stub}
+use Rattle.irs_terms.specs.Faults.{fault_at, in_stream}
+use Rattle.irs_terms.specs.declared.places.Broken.{Broken}
+use Rattle.irs_terms.specs.declared.places.Fault.{Fault}
+use Rattle.irs_terms.specs.declared.places.Rule.TheVariants.{K37}
 use Rattle.irs_terms.specs.TermDates.{first_day_of}
 use Rattle.irs_terms.specs.declared.amounts.StubRate.{StubRate}
 use Rattle.irs_terms.specs.declared.amounts.StubRate.TheVariants.{Index}

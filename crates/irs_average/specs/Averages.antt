@@ -4,11 +4,12 @@ use Rattle.std.specs.Prelude.{[], ◌∷◌, None, IfSome, All, unwrap_or, ◌*�
 use Rattle.irs_base.specs.Lists.{EachNumbered, day_at}
 use Rattle.irs_base.specs.Limits.{Rounded}
 use Rattle.irs_base.specs.declared.rounding.Direction.TheVariants.{Nearest}
-use Rattle.irs_base.specs.Elements.{reset_dates}
-use Rattle.irs_base.specs.Outcomes.{fault_at, in_stream, First}
-use Rattle.irs_base.specs.declared.places.Fault.{Fault}
-use Rattle.irs_base.specs.declared.places.Rule.TheVariants.{K43}
-use Rattle.irs_base.specs.declared.places.Broken.{Broken}
+use Rattle.irs_terms.specs.Elements.{reset_dates}
+use Rattle.irs_base.specs.Outcomes.{First}
+use Rattle.irs_terms.specs.Faults.{fault_at, in_stream}
+use Rattle.irs_terms.specs.declared.places.Fault.{Fault}
+use Rattle.irs_terms.specs.declared.places.Rule.TheVariants.{K43}
+use Rattle.irs_terms.specs.declared.places.Broken.{Broken}
 use Rattle.irs_terms.specs.declared.amounts.FloatTerms.{FloatTerms}
 use Rattle.irs_terms.specs.declared.results.Reset.{Reset}
 use Rattle.irs_calendar.specs.GoodDays.{DaySet, Prev}

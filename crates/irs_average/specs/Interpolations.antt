@@ -5,11 +5,11 @@ use Rattle.irs_base.specs.Days.{InMonth, day_in_month, month_start, IsDay}
 use Rattle.irs_base.specs.Limits.{Rounded}
 use Rattle.irs_base.specs.declared.rounding.Direction.TheVariants.{Nearest}
 use Rattle.irs_base.specs.Lists.{day_at}
-use Rattle.irs_base.specs.Elements.{stub_amount}
-use Rattle.irs_base.specs.Outcomes.{fault_at, in_stream}
-use Rattle.irs_base.specs.declared.places.Broken.{Broken}
-use Rattle.irs_base.specs.declared.places.Fault.{Fault}
-use Rattle.irs_base.specs.declared.places.Rule.TheVariants.{K45, K46}
+use Rattle.irs_terms.specs.Elements.{stub_amount}
+use Rattle.irs_terms.specs.Faults.{fault_at, in_stream}
+use Rattle.irs_terms.specs.declared.places.Broken.{Broken}
+use Rattle.irs_terms.specs.declared.places.Fault.{Fault}
+use Rattle.irs_terms.specs.declared.places.Rule.TheVariants.{K45, K46}
 use Rattle.irs_terms.specs.declared.frequency.Frequency.{Frequency}
 use Rattle.irs_terms.specs.declared.frequency.Unit.{Unit as FrequencyUnit}
 use Rattle.irs_terms.specs.declared.frequency.Unit.TheVariants.{D, W, M, Y, T}

@@ -1,6 +1,6 @@
 //! The rate of a stub between those of two tenors of its index.
 ghost use Rattle.std.specs.Prelude.{◌≡◌, IfOk, IfErr, IfSome, IfNone, IsTrue};
-ghost use Rattle.irs_base.specs.declared.places.Broken.{Broken as BrokenRule};
+ghost use Rattle.irs_terms.specs.declared.places.Broken.{Broken as BrokenRule};
 ghost use Rattle.irs_resets.specs.Resets.{IsPeriod};
 ghost use Rattle.irs_overnight.specs.Private.Bounds.{IsInRange};
 ghost use Rattle.irs_overnight.specs.declared.derived.DerivedRow.{DerivedRow as Row};
@@ -10,11 +10,11 @@ ghost use Rattle.irs_average.specs.Interpolations.{IsStubAsked, stub_asked, stub
 
 use crate::stub_rates::{ends_around, found_between};
 use crate::stubs::{Side, stub_index, stub_number};
-use irs_base::{Broken, Elem, Fault, Rule, Text};
+use irs_base::Text;
 use irs_overnight::{DerivedRow, fixing_date};
 use irs_resets::Fixings;
 use irs_schedule::{Schedule, StreamPart};
-use irs_terms::{Frequency, Swap};
+use irs_terms::{Broken, Elem, Fault, Frequency, Rule, Swap};
 
 // K45.
 fn without_stub() -> Fault

@@ -1,7 +1,7 @@
 //! The averages of a stream, one for each calculation period.
 ghost use Rattle.std.specs.Prelude.{◌≡◌, ◌≤◌, All, IfOk, IfSome, IfNone, IsTrue, ◌<ℤ◌};
 ghost use Rattle.irs_base.specs.Outcomes.{IfBroken, First};
-ghost use Rattle.irs_base.specs.declared.places.Fault.{Fault as BrokenRule};
+ghost use Rattle.irs_terms.specs.declared.places.Fault.{Fault as BrokenRule};
 ghost use Rattle.irs_resets.specs.Resets.{IsPeriod};
 ghost use Rattle.irs_overnight.specs.Overnight.{derived_before};
 ghost use Rattle.irs_overnight.specs.Texts.{IsSmallFound};
@@ -12,14 +12,14 @@ ghost use Rattle.irs_average.specs.Averages.{mean_source, own_lines};
 
 use crate::means::{Mean, mean_found};
 use crate::samples::{Steps, samples};
-use irs_base::{Day, Elem, Fault, Memory, Rule, Stopped};
+use irs_base::{Day, Memory, Stopped};
 use irs_calendar::GoodDays;
 use irs_overnight::{
     Derived, DerivedRow, Found, days_between, first_unrising, fixing_date, unrising,
 };
 use irs_resets::Fixings;
 use irs_schedule::StreamPart;
-use irs_terms::FloatTerms;
+use irs_terms::{Elem, Fault, FloatTerms, Rule};
 use std::alloc::Global;
 
 // The mean of a period, or its first day whose rate is missing; `None` where an observation has no

@@ -14,14 +14,11 @@ pub mod Pairs
 pub mod TextLemmas
 pub mod TextLengths
 pub mod VisibleTexts
-pub mod PathLengths
 pub mod LineLemmas
 pub mod FieldLemmas
 pub mod DecimalLemmas
 pub mod Standards
-pub mod RuleNumbers
 pub mod Firsts
-pub mod FaultOrder
 pub mod Outcomes
 pub mod MemberLemmas
 pub mod Decided

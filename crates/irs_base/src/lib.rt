@@ -1,12 +1,11 @@
 //! What the other crates use, except irs_json: days and months, decimals and rounding, lists,
-//! texts and lines, and the places of broken rules.
+//! texts and lines, and the outcomes of calls.
 #![tactic(auto)]
 
 mod day;
 mod day_list;
 mod decimals;
 mod digits;
-mod elements;
 mod fields;
 mod file_dates;
 mod limits;
@@ -15,7 +14,6 @@ mod lines;
 mod memory;
 mod months;
 mod names;
-mod places;
 mod putting;
 mod reading;
 mod rounding;
@@ -27,7 +25,6 @@ pub use day::{Civil, Day, DayName, FIRST_DAY, LAST_DAY, ahead, civil_of, day_of,
 pub use day_list::DayList;
 pub use decimals::{decimal_parts, number_of_parts, read_dec};
 pub use digits::power_of_ten;
-pub use elements::{ELEMENTS, Elem, PATHS, elements_named, paths_fit, paths_listed};
 pub use fields::{first_field, is_gap, skip_gap};
 pub use file_dates::date;
 pub use limits::{
@@ -40,7 +37,6 @@ pub use lines::split_line;
 pub use memory::Memory;
 pub use months::{month_day, month_index};
 pub use names::Names;
-pub use places::{Broken, Fault, Place, Rule};
 pub use reading::read_date;
 pub use rounding::{Direction, round};
 pub use statuses::Status;

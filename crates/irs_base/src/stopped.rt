@@ -1,8 +1,8 @@
 //! Why a call that works dates or amounts out gives none.
 ghost use Rattle.std.specs.Prelude.{◌≡◌};
-ghost use Rattle.irs_base.specs.declared.stopped.Stopped.TheVariants.{Broken as OfBroken, Memory as OfMemory};
+ghost use Rattle.irs_base.specs.declared.stopped.Stopped.TheVariants.{Memory as OfMemory};
 
-use crate::{Fault, Memory};
+use crate::Memory;
 use std::alloc::AllocFailed;
 use thiserror::Error;
 
@@ -16,14 +16,6 @@ pub enum Stopped<F> {
     /// Memory ran out.
     #[error("out of memory")]
     Memory,
-}
-
-impl From<Fault> for Stopped<Fault> {
-    ghost from_gives = { λ f e. e ≡ OfBroken f };
-
-    fn from(fault: Fault) -> Stopped<Fault> {
-        Stopped::Broken(fault)
-    }
 }
 
 impl<F> From<Memory> for Stopped<F> {

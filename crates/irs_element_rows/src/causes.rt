@@ -2,11 +2,11 @@
 use crate::order_rows::{broken_of, elem_of};
 use irs_answers::{Refusal, Unread};
 use irs_audit::{Departure, Field, RowKind};
-use irs_base::Place;
 use irs_calendar::CalErr;
 use irs_cli::{Cause, Note, RunCause};
 use irs_flows::{FlowErr, ShapeKind};
 use irs_resets::FixErr;
+use irs_terms::Place;
 
 /// What a run came to that printed this line, without its end. `None` comes for a line that no run prints, and
 /// for one with a rule or a field that the rows don't have.

@@ -8,7 +8,7 @@ use crate::told::Told;
 use crate::words::words_of;
 use crate::xml_texts::bytes_of;
 use irs_answers::{Front, Listed, Misfit, Note, Refusal, Spot, Unfixed, Unread};
-use irs_base::{Broken, Names, Text, read_date};
+use irs_base::{Names, Text, read_date};
 use irs_cli::{Cause, RunCause};
 use irs_elements::codes::roll;
 use irs_json::parse;
@@ -16,6 +16,7 @@ use irs_locate::{Shape, kind_of, line_of, member_of, shape_at, text_of};
 use irs_main::put_sentence;
 use irs_outside::MemSink;
 use irs_resets::tenor;
+use irs_terms::Broken;
 use itoa::Buffer;
 use std::alloc::Global;
 

@@ -2,8 +2,8 @@
 //! them. It says whether the first comes before the second, or which of them is reported.
 use crate::told::Told;
 use crate::values::Tell;
-use irs_base::{Broken, Elem, Place, Rule};
 use irs_elements::{comes_before, earlier};
+use irs_terms::{Broken, Elem, Place, Rule};
 
 // A rule by its name; the rows have these.
 fn rule_of(name: &str) -> Option<Rule> {

@@ -1,10 +1,10 @@
 //! How the values of swaps and cash flows are reported.
 use crate::told::Told;
-use irs_base::{Broken, Day, Dec, Place};
+use irs_base::{Day, Dec};
 use irs_flows::StatedFraction;
 use irs_terms::{
-    AdjustableDate, Adjustments, CalculationParameters, Centers, Currency, Frequency, Offset,
-    StepValues, StubRate,
+    AdjustableDate, Adjustments, Broken, CalculationParameters, Centers, Currency, Frequency,
+    Offset, Place, StepValues, StubRate,
 };
 
 /// A value that can be reported.

@@ -2,9 +2,9 @@
 use Rattle.std.proofs.Common.{◌≡◌, ℕ, ◌<◌, ◌≤◌, ◌+◌, subst, ◌⊎◌, inl, inr, Option, Some}
 use Rattle.std.proofs.Common.{None, refl, sym, arith}
 use Rattle.std.proofs.Math.Nat.{eq-or-lt_of_le}
-use Rattle.irs_base.specs.declared.places.Broken.{Broken}
-use Rattle.irs_base.specs.Outcomes.{is_before, earlier_broken as earlier, IsFirstBroken as IsFirst}
-use Rattle.irs_base.proofs.FaultOrder.{broken_order}
+use Rattle.irs_terms.specs.declared.places.Broken.{Broken}
+use Rattle.irs_terms.specs.Faults.{is_before, earlier_broken as earlier, IsFirstBroken as IsFirst}
+use Rattle.irs_terms.proofs.FaultOrder.{broken_order}
 use Rattle.irs_base.proofs.Firsts.{first_or as either_first, first_same as same_first, first_one as alone_first}
 
 -- the earlier of the first of two sets is the first of both

@@ -10,14 +10,14 @@ use Rattle.serde_json.specs.Data.{Data}
 use Rattle.serde_json.specs.View.{view}
 use Rattle.serde_json.specs.declared.value.Value.{Value}
 use Rattle.irs_json.specs.Leaves.{child_of, items_of, element_names}
-use Rattle.irs_base.specs.declared.places.Broken.{Broken}
+use Rattle.irs_terms.specs.declared.places.Broken.{Broken}
 use Rattle.irs_elements.specs.declared.table.Row.{Row}
 use Rattle.irs_elements.specs.declared.table.Kind.{Kind}
 use Rattle.irs_elements.specs.declared.table.Kind.TheVariants.{Object, Leaf, Passed, Refused}
 use Rattle.irs_elements.specs.declared.table.Choice.{Choice}
 use Rattle.irs_elements.specs.declared.walk.Unmet.{Unmet}
-use Rattle.irs_base.specs.declared.places.Rule.{Rule}
-use Rattle.irs_base.specs.declared.places.Rule.TheVariants.{K2, K3, K4, K5, K7}
+use Rattle.irs_terms.specs.declared.places.Rule.{Rule}
+use Rattle.irs_terms.specs.declared.places.Rule.TheVariants.{K2, K3, K4, K5, K7}
 use Rattle.irs_elements.specs.Elements.{place, unmet_place, choice_unmet, is_chosen, own_rule, name_at, is_unknown}
 use Rattle.irs_elements.specs.Elements.{is_element, is_refused, is_required, most, absent_index, index_in, IsMemberRow}
 use Rattle.irs_elements.specs.Elements.{ShapeFault, unknown, unmet, odd, no_href, has_odd, lacks_href, FaultAt, own}
@@ -27,7 +27,7 @@ use Rattle.irs_elements.specs.Private.Walk.{are_one_right, is_right, is_right_le
 use Rattle.irs_elements.proofs.Exact.{both_true}
 use Rattle.irs_elements.specs.declared.table.Leaf.{Leaf as LeafKind}
 use Rattle.irs_elements.proofs.First.{first_or, first_same, first_one, first_is, first_more, first_skip, Below}
-use Rattle.irs_base.specs.Outcomes.{earlier_broken, IsFirstBroken}
+use Rattle.irs_terms.specs.Faults.{earlier_broken, IsFirstBroken}
 
 -- the faults that an optional rule makes
 pub first_of_rule : {A : Type 0} (at : A → Broken) (o : Option A)

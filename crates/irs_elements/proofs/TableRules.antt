@@ -1,7 +1,7 @@
 -- Every rule that is broken by a table of elements is one of K2 to K7.
-use Rattle.irs_base.specs.declared.places.Broken.{Broken}
-use Rattle.irs_base.specs.declared.places.Rule.{Rule}
-use Rattle.irs_base.specs.declared.places.Rule.TheVariants.{K3, K5, K6}
+use Rattle.irs_terms.specs.declared.places.Broken.{Broken}
+use Rattle.irs_terms.specs.declared.places.Rule.{Rule}
+use Rattle.irs_terms.specs.declared.places.Rule.TheVariants.{K3, K5, K6}
 use Rattle.irs_elements.specs.Elements.{FaultAt, FaultUnder, ShapeFault, inside, own, own_rule}
 use Rattle.irs_elements.specs.Elements.{shape, under, unmet}
 use Rattle.irs_elements.specs.Private.Walk.{IsOfTables}

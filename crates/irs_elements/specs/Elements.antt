@@ -9,10 +9,10 @@ use Rattle.std.specs.Prelude.{if◌then◌else◌, nat_lt}
 use Rattle.serde_json.specs.Find.{as_str}
 use Rattle.std.specs.List.{list_any, enumerate_from}
 use Rattle.std.specs.Str.{bytes_eq}
-use Rattle.irs_base.specs.Elements.{count, name_or_empty}
-use Rattle.irs_base.specs.declared.places.Broken.{Broken}
-use Rattle.irs_base.specs.declared.places.Rule.{Rule}
-use Rattle.irs_base.specs.declared.places.Rule.TheVariants.{K2, K3, K4, K5, K7}
+use Rattle.irs_terms.specs.Elements.{count, name_or_empty}
+use Rattle.irs_terms.specs.declared.places.Broken.{Broken}
+use Rattle.irs_terms.specs.declared.places.Rule.{Rule}
+use Rattle.irs_terms.specs.declared.places.Rule.TheVariants.{K2, K3, K4, K5, K7}
 use Rattle.irs_json.specs.Leaves.{child_of, leaf_of, items_of, is_attribute_name, element_names}
 use Rattle.irs_elements.specs.Leaves.{text_of_leaf, leaf_rule}
 use Rattle.irs_elements.specs.declared.table.Choice.{Choice}

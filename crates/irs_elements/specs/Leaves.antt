@@ -6,8 +6,8 @@ use Rattle.std.specs.Fmt.{signed_decimal}
 use Rattle.std.specs.Str.{bytes_eq}
 use Rattle.irs_base.specs.Limits.{most_index, most_name}
 use Rattle.irs_base.specs.Texts.{date_at}
-use Rattle.irs_base.specs.declared.places.Rule.{Rule}
-use Rattle.irs_base.specs.declared.places.Rule.TheVariants.{K3, K5, K6}
+use Rattle.irs_terms.specs.declared.places.Rule.{Rule}
+use Rattle.irs_terms.specs.declared.places.Rule.TheVariants.{K3, K5, K6}
 use Rattle.irs_terms.specs.declared.currency.Currency.{Currency}
 use Rattle.irs_json.specs.Leaves.{Leaf, word, whole, truth}
 use Rattle.irs_elements.specs.Codes

@@ -8,8 +8,8 @@ ghost use Rattle.std.specs.Str.{bytes_eq};
 
 use crate::find::leaf_text;
 use crate::{Leaf, codes, fractions, numbers, words};
-use irs_base::Rule;
 use irs_json::Value;
+use irs_terms::Rule;
 use itoa::Buffer;
 
 // Whether the text is one of these.

@@ -1,9 +1,9 @@
 //! The order in which broken rules are reported, which is our rule. The lower stream comes first,
 //! then the lower rule, then the earlier element, then the lower index.
 ghost use Rattle.std.specs.Prelude.{◌≡◌};
-ghost use Rattle.irs_base.specs.Outcomes.{earlier_broken as earlier_of, is_before, is_before_in};
+ghost use Rattle.irs_terms.specs.Faults.{earlier_broken as earlier_of, is_before, is_before_in};
 
-use irs_base::Broken;
+use irs_terms::Broken;
 
 /// Whether `f` is reported before `g`.
 pub fn comes_before(f: &Broken, g: &Broken) -> bool

@@ -19,13 +19,13 @@ ghost use Rattle.std.specs.Prelude.{◌≡◌, ◌↔◌, ◌+◌, ◌<◌, ◌�
 ghost use Rattle.std.specs.Prelude.{option_map};
 ghost use Rattle.std.specs.Str.{bytes_eq};
 ghost use Rattle.irs_elements.specs.Leaves.{leaf_rule as leaf_rule_of};
-ghost use Rattle.irs_base.specs.Outcomes.{IsFirstBroken, earlier_broken};
+ghost use Rattle.irs_terms.specs.Faults.{IsFirstBroken, earlier_broken};
 
 use crate::leaves::leaf_rule;
 use crate::order::earlier;
 use crate::{Choice, Count, Kind, Leaf, Row, Table};
-use irs_base::{Broken, Elem, Place, Rule};
 use irs_json::{MemberIter, Value, child, is_attribute_name, items, members};
+use irs_terms::{Broken, Elem, Place, Rule};
 
 // How an object fails its choice.
 #[derive(Clone, Copy)]

@@ -1,7 +1,7 @@
 -- The emitted objects have no fault of the tables of cash flows.
-use Rattle.irs_base.specs.declared.places.Broken.{Broken}
-use Rattle.irs_base.specs.declared.places.Rule.{Rule}
-use Rattle.irs_base.specs.declared.places.Rule.TheVariants.{K3}
+use Rattle.irs_terms.specs.declared.places.Broken.{Broken}
+use Rattle.irs_terms.specs.declared.places.Rule.{Rule}
+use Rattle.irs_terms.specs.declared.places.Rule.TheVariants.{K3}
 use Rattle.irs_elements.specs.Elements.{FaultAt, FaultUnder, has_odd, inside, index_in, is_element, is_refused}
 use Rattle.irs_elements.specs.Elements.{is_required, is_unknown, missing, most, name_at, no_href, odd, own, refused}
 use Rattle.irs_elements.specs.Elements.{shape, too_many, under, unknown, unmet}

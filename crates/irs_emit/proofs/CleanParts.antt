@@ -10,7 +10,7 @@ use Rattle.irs_base.proofs.MemberLemmas.{every_get}
 use Rattle.irs_base.specs.Lists.{Every}
 use Rattle.irs_base.specs.Texts.{day_text, dec_text}
 use Rattle.irs_base.specs.declared.line.Dec.{Dec}
-use Rattle.irs_base.specs.declared.places.Broken.{Broken}
+use Rattle.irs_terms.specs.declared.places.Broken.{Broken}
 use Rattle.irs_base.specs.Days.{IsDay}
 use Rattle.irs_elements.specs.Elements.{index_in, values_in}
 use Rattle.irs_elements.specs.Leaves.{is_currency}

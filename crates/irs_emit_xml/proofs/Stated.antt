@@ -10,7 +10,7 @@ use Rattle.irs_base.specs.Limits.{most_rows}
 use Rattle.irs_base.specs.Lists.{Every}
 use Rattle.irs_base.specs.Texts.{day_text}
 use Rattle.irs_base.specs.declared.line.Dec.{Dec}
-use Rattle.irs_base.specs.declared.places.Broken.{Broken}
+use Rattle.irs_terms.specs.declared.places.Broken.{Broken}
 use Rattle.irs_terms.specs.declared.currency.Currency.{Currency}
 use Rattle.irs_terms.specs.declared.results.Exchange.{Exchange}
 use Rattle.irs_elements.specs.Elements.{once, values_in, values_of}

@@ -1,5 +1,5 @@
 -- Of each value it is true that it states cash flows or has a fault.
-use Rattle.irs_base.specs.declared.places.Broken.{Broken}
+use Rattle.irs_terms.specs.declared.places.Broken.{Broken}
 use Rattle.irs_flows.specs.{FlowFaults.FlowFault, FlowReading.FlowPart, FlowReading.FlowsOf, FlowReading.flow_parts_in}
 use Rattle.irs_read.specs.Documents.{Way, ended, the_swap}
 use Rattle.serde_json.specs.Data.{Data}

@@ -7,9 +7,10 @@ use Rattle.irs_flows.specs.FlowFaults.{flow_periods_of, flow_names, flow_rows, p
 use Rattle.irs_flows.specs.Private.FlowMeaning.{AllHaveFewPeriods, HasFewPeriods}
 use Rattle.irs_flows.specs.FlowReading.{IsFirstFlowFault, shape_kind_of}
 use Rattle.irs_flows.specs.declared.error.FlowErr.TheVariants.{Shape}
-use Rattle.irs_base.specs.Elements.{cashflows, flow_period, swap, swap_stream}
-use Rattle.irs_base.specs.declared.places.Rule.TheVariants.{K2, K3, K7}
-use Rattle.irs_base.specs.{declared.places.Broken.Broken, Limits.most_rows, Outcomes.IsFirstBroken}
+use Rattle.irs_terms.specs.Elements.{cashflows, flow_period, swap, swap_stream}
+use Rattle.irs_terms.specs.declared.places.Rule.TheVariants.{K2, K3, K7}
+use Rattle.irs_base.specs.{Limits.most_rows}
+use Rattle.irs_terms.specs.{declared.places.Broken.Broken, Faults.IsFirstBroken}
 use Rattle.irs_elements.specs.Elements.{once, values_in, values_of}
 use Rattle.irs_json.specs.Leaves.{child_of, element_names, items_of}
 use Rattle.irs_read.proofs.{Each.are_free, StatedTables.stated}

@@ -2,7 +2,7 @@
 use Rattle.irs_flows.specs.FlowFaults.{flow_elements, flow_names, flow_rows, flow_table, period_elements, period_names}
 use Rattle.irs_flows.specs.FlowFaults.{period_table_rows, period_table}
 use Rattle.irs_flows.specs.declared.flow_table.TheConstants.{FLOW_NAMES, FLOW_ROWS, PERIOD_NAMES, PERIOD_ROWS}
-use Rattle.irs_base.specs.{Paths.paths, Paths.printed_paths, declared.places.Broken.Broken, Outcomes.IsFirstBroken}
+use Rattle.irs_terms.specs.{Paths.paths, Paths.printed_paths, declared.places.Broken.Broken, Faults.IsFirstBroken}
 use Rattle.irs_elements.specs.{Elements.FaultAt, Lines.Line, declared.table.Kind.Kind}
 use Rattle.irs_read.proofs.TableLaws.{by_tables}
 use Rattle.serde_json.specs.Data.{Data}

@@ -3,9 +3,11 @@ use Rattle.std.proofs.Common.{◌≡◌, List, Option, Some, None, Ok, sym, ap, 
 use Rattle.irs_flows.proofs.EachFlows.{faultless_flows}
 use Rattle.irs_flows.specs.FlowFaults.{FlowFault}
 use Rattle.irs_flows.specs.FlowReading.{flow_parts_in, flows_of_document, FlowPart, FlowsOf}
-use Rattle.irs_base.proofs.{FaultOrder.broken_ties, Firsts.one_first}
-use Rattle.irs_base.specs.Outcomes.{IsFirstBroken, is_before, Determined, answered, refused}
-use Rattle.irs_base.specs.declared.places.Broken.{Broken}
+use Rattle.irs_base.proofs.{Firsts.one_first}
+use Rattle.irs_terms.proofs.{FaultOrder.broken_ties}
+use Rattle.irs_base.specs.Outcomes.{Determined, answered, refused}
+use Rattle.irs_terms.specs.Faults.{IsFirstBroken, is_before}
+use Rattle.irs_terms.specs.declared.places.Broken.{Broken}
 use Rattle.irs_read.specs.Documents.{the_swap}
 use Rattle.serde_json.specs.Data.{Data}
 

@@ -5,9 +5,9 @@ use Rattle.irs_flows.specs.FlowFaults.{many_periods, payments_in, flow_periods_o
 use Rattle.irs_flows.specs.FlowFaults.{period_table_rows}
 use Rattle.irs_flows.specs.declared.flow_table.TheConstants.{FLOWS, PERIOD}
 use Rattle.irs_flows.specs.{FlowReading.shape_kind_of, declared.error.ShapeKind.TheVariants.NotJson}
-use Rattle.irs_base.specs.Elements.{cashflows, document, flow_period, swap, swap_stream}
-use Rattle.irs_base.specs.declared.places.Rule.TheVariants.{K2, K3, K4, K5, K6, K7}
-use Rattle.irs_base.specs.declared.places.{Broken.Broken, Rule.Rule}
+use Rattle.irs_terms.specs.Elements.{cashflows, document, flow_period, swap, swap_stream}
+use Rattle.irs_terms.specs.declared.places.Rule.TheVariants.{K2, K3, K4, K5, K6, K7}
+use Rattle.irs_terms.specs.declared.places.{Broken.Broken, Rule.Rule}
 use Rattle.irs_elements.proofs.TableRules.{of_table}
 use Rattle.irs_elements.specs.{Private.Walk.IsOfTables, Elements.values_in}
 use Rattle.irs_json.specs.Leaves.{element_names}

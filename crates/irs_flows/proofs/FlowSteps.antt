@@ -1,8 +1,9 @@
 -- The first fault at each step of the reading of cash flows.
 use Rattle.irs_flows.specs.FlowFaults.{FaultIf, OnceFault, PeriodFault, PeriodsFault, PeriodsFrom, flow_broken_at, few}
 use Rattle.irs_flows.specs.FlowFaults.{in_period, many_periods, periods_in, flow_periods_of}
-use Rattle.irs_base.specs.{Elements.cashflows, Elements.flow_period, Outcomes.IsFirstBroken, Outcomes.earlier_broken}
-use Rattle.irs_base.specs.{declared.places.Broken.Broken, declared.places.Rule.TheVariants.K7, Limits.most_rows}
+use Rattle.irs_terms.specs.{Elements.cashflows, Elements.flow_period, Faults.IsFirstBroken, Faults.earlier_broken}
+use Rattle.irs_base.specs.{Limits.most_rows}
+use Rattle.irs_terms.specs.{declared.places.Broken.Broken, declared.places.Rule.TheVariants.K7}
 use Rattle.irs_elements.proofs.{First.first_is, First.first_one, First.first_or, First.first_same, Steps.first_if}
 use Rattle.irs_elements.specs.Private.Walk.{fault_if}
 use Rattle.serde_json.specs.{Data.Data, View.view, declared.value.Value.Value}

@@ -1,10 +1,12 @@
 -- The cash flows that a document states, and what reading them answers.
 use Rattle.std.specs.Prelude.{List, ◌≡◌, length, sum_by, IfSome, map, Option, Some, option_map, codes, ◌≢◌, Ok}
 use Rattle.serde_json.specs.Data.{Data}
-use Rattle.irs_base.specs.declared.places.Rule.TheVariants.{K2, K3, K4, K5, K6, K7}
-use Rattle.irs_base.specs.Outcomes.{IsFirstBroken, First, is_before, Spec}
-use Rattle.irs_base.specs.{Days.IsDay, Lists.Every, declared.line.Dec.Dec, declared.places.Broken.Broken}
-use Rattle.irs_base.specs.{declared.places.Place.Place, declared.places.Rule.Rule}
+use Rattle.irs_terms.specs.declared.places.Rule.TheVariants.{K2, K3, K4, K5, K6, K7}
+use Rattle.irs_base.specs.Outcomes.{First, Spec}
+use Rattle.irs_terms.specs.Faults.{IsFirstBroken, is_before}
+use Rattle.irs_base.specs.{Days.IsDay, Lists.Every, declared.line.Dec.Dec}
+use Rattle.irs_terms.specs.{declared.places.Broken.Broken}
+use Rattle.irs_terms.specs.{declared.places.Place.Place, declared.places.Rule.Rule}
 use Rattle.irs_elements.specs.Elements.{member, once, values_in}
 use Rattle.irs_elements.specs.Numbers.{fraction_at, amount_at, whole_at}
 use Rattle.irs_elements.specs.{Codes.first_there, Leaves.leaf_date_at, Leaves.currency_at}

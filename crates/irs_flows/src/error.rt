@@ -2,7 +2,8 @@
 ghost use Rattle.irs_flows.specs.declared.error.FlowErr.TheVariants.{Memory as OfMemory};
 ghost use Rattle.std.specs.Prelude.{◌≡◌};
 
-use irs_base::{Memory, Place};
+use irs_base::Memory;
+use irs_terms::Place;
 use thiserror::Error;
 
 /// How a document of cash flows is out of shape, in the order in which faults are reported.

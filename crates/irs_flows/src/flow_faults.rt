@@ -8,8 +8,10 @@ ghost use Rattle.irs_flows.specs.FlowFaults.{PeriodsFrom, FlowStreamFault, FlowS
 ghost use Rattle.irs_flows.specs.FlowFaults.{flow_broken_at as at_of, has_both_rates as has_both_rates_of};
 ghost use Rattle.irs_flows.specs.FlowFaults.{has_calculated_rate as has_calculated_rate_of, is_sound as is_sound_of};
 ghost use Rattle.irs_flows.specs.FlowFaults.{payments_in, flow_periods_of, sole as sole_of};
-ghost use Rattle.irs_base.specs.{Elements.flow_period, declared.places.Broken.Broken as BrokenRule, Limits.most_rows};
-ghost use Rattle.irs_base.specs.{Limits.most_streams, Outcomes.First, Outcomes.IsFirstBroken, Outcomes.is_before};
+ghost use Rattle.irs_base.specs.{Limits.most_rows};
+ghost use Rattle.irs_terms.specs.{Elements.flow_period, declared.places.Broken.Broken as BrokenRule};
+ghost use Rattle.irs_base.specs.{Limits.most_streams, Outcomes.First};
+ghost use Rattle.irs_terms.specs.{Faults.IsFirstBroken, Faults.is_before};
 ghost use Rattle.irs_elements.specs.{Elements.seen, Private.Walk.fault_if};
 ghost use Rattle.irs_read.specs.Documents.{Among, the_swap as the_swap_of};
 ghost use Rattle.serde_json.specs.View.{view};
@@ -18,10 +20,11 @@ ghost use Rattle.std.specs.Prelude.{◌≡◌, ◌+◌, ◌<◌, ◌^◌, ◌≤
 use crate::flow_table::{
     FLOW_ENDS, FLOW_NAMES, FLOW_ROWS, FLOWS, PERIOD, PERIOD_ENDS, PERIOD_NAMES, PERIOD_ROWS,
 };
-use irs_base::{Broken, Elem, MOST_ROWS, MOST_STREAMS, Place, Rule};
+use irs_base::{MOST_ROWS, MOST_STREAMS};
 use irs_elements::{Table, earlier, first_fault, has_odd, values, values_at};
 use irs_json::{Value, child, members};
 use irs_read::the_swap;
+use irs_terms::{Broken, Elem, Place, Rule};
 
 // A rule that is broken at an element without index.
 fn at(stream: u8, rule: Rule, elem: Elem) -> Broken

@@ -11,9 +11,10 @@ ghost use Rattle.std.specs.Prelude.{◌≡◌, IfErr, IfOk, List, Some, codes, m
 use crate::flow_faults::{clean_swap, first_in_flows};
 use crate::flow_rows::stream_flows;
 use crate::{FlowErr, FlowStream, Flows, ShapeKind};
-use irs_base::{Memory, Rule};
+use irs_base::Memory;
 use irs_elements::values_at;
 use irs_json::Value;
+use irs_terms::Rule;
 use std::alloc::Global;
 
 // The kind of a fault by its rule. The tables of elements have the rules K2 to K7.

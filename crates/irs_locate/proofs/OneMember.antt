@@ -1,8 +1,8 @@
 -- The member that K4 or K5 means is one.
 use Rattle.std.proofs.Common.{◌≡◌, ℕ, List, Some, sym, ap, ◌∙◌}
 use Rattle.std.proofs.lemmas.Option.{same_Some}
-use Rattle.irs_base.specs.Outcomes.{rule_number}
-use Rattle.irs_base.specs.declared.places.Broken.{Broken}
+use Rattle.irs_terms.specs.Faults.{rule_number}
+use Rattle.irs_terms.specs.declared.places.Broken.{Broken}
 use Rattle.irs_json.specs.Leaves.{element_names}
 use Rattle.irs_locate.proofs.Lies.{one_value}
 use Rattle.irs_locate.proofs.OneRow.{one_row}

@@ -5,8 +5,8 @@ use Rattle.std.specs.Prelude.{if◌then◌else◌, nat_lt}
 use Rattle.std.proofs.lemmas.Bool.Decides.{nat_tests}
 use Rattle.std.proofs.lemmas.Option.{same_Some}
 use Rattle.irs_base.proofs.Orders.{both_true}
-use Rattle.irs_base.specs.Elements.{swap}
-use Rattle.irs_base.specs.Paths.{paths, printed_paths}
+use Rattle.irs_terms.specs.Elements.{swap}
+use Rattle.irs_terms.specs.Paths.{paths, printed_paths}
 use Rattle.irs_elements.specs.Elements.{is_element}
 use Rattle.irs_elements.specs.declared.table.Row.{Row}
 use Rattle.irs_locate.specs.Ways.{IsRowOf, Known, is_row_of, table_of}

@@ -5,14 +5,14 @@ use Rattle.std.specs.Prelude.{◌==◌, codes, if◌then◌else◌, slice_get}
 use Rattle.std.specs.Str.{bytes_eq}
 use Rattle.std.proofs.lemmas.Option.{same_Some}
 use Rattle.std.proofs.lemmas.Slice.Eq.{bytes_eq-Decides}
-use Rattle.irs_base.specs.declared.places.Place.{Place}
+use Rattle.irs_terms.specs.declared.places.Place.{Place}
 use Rattle.irs_locate.specs.Lines.{IsLast, IsTagOf, LacksElement, Open, IsOpenAfter, open_after, times_in, around}
 use Rattle.irs_locate.specs.Lines.{is_end, way_to, with_child, further, opens, ends_at_once, ended_at_once, too_few}
 use Rattle.irs_locate.specs.Lines.{cut_off, piece_of}
 use Rattle.irs_locate.specs.Private.Lines.{IsRootTag, root_piece}
 use Rattle.irs_locate.specs.Lines as markup
 use Rattle.irs_locate.specs.Private.Seen.{mark_seen, piece_seen}
-use Rattle.irs_base.specs.Elements.{document}
+use Rattle.irs_terms.specs.Elements.{document}
 use Rattle.irs_locate.specs.Ways.{WayStep, below_swap, once, to_swap, way}
 use Rattle.irs_locate.specs.declared.lines.Tag.{Tag}
 use Rattle.irs_locate.specs.declared.markup.Mark.{Mark}

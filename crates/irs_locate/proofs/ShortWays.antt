@@ -9,9 +9,9 @@ use Rattle.std.proofs.lemmas.List.{length-append, length-map}
 use Rattle.std.proofs.lemmas.Option.{same_Some}
 use Rattle.std.proofs.lemmas.Str.{IsUtf8-from_ascii}
 use Rattle.irs_base.proofs.Orders.{both_true}
-use Rattle.irs_base.specs.Elements.{document, name_or_empty, swap, swap_stream}
-use Rattle.irs_base.specs.Paths.{paths, printed_paths, path_of}
-use Rattle.irs_base.specs.declared.places.Place.{Place}
+use Rattle.irs_terms.specs.Elements.{document, name_or_empty, swap, swap_stream}
+use Rattle.irs_terms.specs.Paths.{paths, printed_paths, path_of}
+use Rattle.irs_terms.specs.declared.places.Place.{Place}
 use Rattle.irs_locate.specs.Ways.{root_in, WayStep, below_swap, names_on_way, once, step_below, stream_step, to_swap}
 use Rattle.irs_locate.specs.Ways.{way}
 use Rattle.irs_read.specs.Documents.{has}

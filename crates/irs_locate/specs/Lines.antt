@@ -4,7 +4,7 @@ use Rattle.std.specs.Prelude.{ℕ, ◌+◌, ◌-◌, ◌==◌, Bool, ◌&&◌, �
 use Rattle.std.specs.Prelude.{option_map, nat_eq, slice_index, codes, if◌then◌else◌, ◌≡◌, ◌^◌, ◌<◌, min, true, false}
 use Rattle.std.specs.Prelude.{◌++◌, take, slice_get}
 use Rattle.std.specs.Str.{bytes_eq}
-use Rattle.irs_base.specs.declared.places.Place.{Place}
+use Rattle.irs_terms.specs.declared.places.Place.{Place}
 use Rattle.irs_locate.specs.Ways.{WayStep, way}
 
 -- ---- the pieces of a text in XML: its tags, what is passed over, and plain bytes

@@ -4,11 +4,11 @@ use Rattle.std.specs.Prelude.{Option, Some, None, slice_get}
 use Rattle.std.specs.Str.{bytes_eq}
 use Rattle.serde_json.specs.Data.{Data, Num, array, boolean, float, negative, null, number, object, string, unsigned}
 use Rattle.std.specs.List.{enumerate_from, find, list_any}
-use Rattle.irs_base.specs.Elements.{document, swap, swap_stream}
-use Rattle.irs_base.specs.Paths.{path_of}
-use Rattle.irs_base.specs.declared.places.Place.{Place}
-use Rattle.irs_base.specs.Outcomes.{rule_number}
-use Rattle.irs_base.specs.declared.places.Broken.{Broken}
+use Rattle.irs_terms.specs.Elements.{document, swap, swap_stream}
+use Rattle.irs_terms.specs.Paths.{path_of}
+use Rattle.irs_terms.specs.declared.places.Place.{Place}
+use Rattle.irs_terms.specs.Faults.{rule_number}
+use Rattle.irs_terms.specs.declared.places.Broken.{Broken}
 use Rattle.irs_json.specs.Leaves.{element_names}
 use Rattle.irs_elements.specs.Elements.{is_element, is_refused, is_unknown, name_at, values_in, leaf_text_in}
 use Rattle.irs_elements.specs.declared.table.Row.{Row}

@@ -7,9 +7,9 @@ ghost use Rattle.serde_json.specs.View.{view};
 ghost use Rattle.std.specs.Prelude.{◌≡◌, IfSome, Some, option_and_then, slice_get};
 
 use crate::members::{row_of, table_of, value_at};
-use irs_base::{Elem, Place};
 use irs_elements::{Kind, Leaf, Row};
 use irs_json::Value;
+use irs_terms::{Elem, Place};
 
 /// What kind of value there is in a document.
 #[derive(Clone, Copy)]

@@ -10,7 +10,7 @@ ghost use Rattle.std.specs.Prelude.{◌≡◌, ◌<◌, ◌≤◌, IfNone, IfSom
 
 use crate::markup::{Mark, is_same, piece_at};
 use crate::ways::{Step, step_at};
-use irs_base::Place;
+use irs_terms::Place;
 
 /// The tag of an element: where it is, and how many bytes it has.
 #[derive(Clone, Copy)]

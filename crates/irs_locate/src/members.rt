@@ -1,6 +1,6 @@
 //! The name of the member by which an object breaks K4 or K5.
-ghost use Rattle.irs_base.specs.Outcomes.{rule_number};
-ghost use Rattle.irs_base.specs.declared.places.Broken.{Broken as BrokenRule};
+ghost use Rattle.irs_terms.specs.Faults.{rule_number};
+ghost use Rattle.irs_terms.specs.declared.places.Broken.{Broken as BrokenRule};
 ghost use Rattle.irs_elements.specs.Elements.{is_element as is_element_of, is_known as is_known_in};
 ghost use Rattle.irs_elements.specs.Elements.{is_refused as is_refused_of, is_unknown, name_at, referenced_texts, seen};
 ghost use Rattle.irs_elements.specs.Elements.{values_in};
@@ -17,10 +17,10 @@ ghost use Rattle.std.specs.Prelude.{slice_get, ℕ};
 ghost use Rattle.std.specs.Str.{IsUtf8, bytes_eq};
 
 use crate::ways::step_at;
-use irs_base::{Broken, Elem, Place, Rule};
 use irs_elements::{Kind, Row, values_at};
 use irs_json::{MemberIter, Value, child, is_attribute_name, members};
 use irs_read::{NAMES, ROWS, SWAP_NAMES, SWAP_ROWS};
+use irs_terms::{Broken, Elem, Place, Rule};
 use std::str;
 
 /// The most steps that are followed; no way has more.

@@ -4,9 +4,9 @@ ghost use Rattle.serde_json.specs.View.{view};
 ghost use Rattle.std.specs.Prelude.{◌≡◌, ℕ, IfSome, List, Some, option_map};
 
 use crate::members::value_at;
-use irs_base::Place;
 use irs_elements::leaf_text;
 use irs_json::Value;
+use irs_terms::Place;
 use itoa::Buffer;
 
 /// The text of the leaf at a place; a whole number's digits are written into `digits`. `None` exactly where

@@ -4,11 +4,11 @@ ghost use Rattle.irs_locate.specs.Ways.{is_repeated as is_repeated_of, first_in,
 ghost use Rattle.irs_locate.specs.Ways.{step_below as step_below_of, stream_step as stream_step_of};
 ghost use Rattle.irs_locate.specs.Ways.{to_swap as to_swap_of, way};
 ghost use Rattle.irs_locate.specs.Private.Lines.{IsRestOf};
-ghost use Rattle.irs_base.specs.Paths.{path_of};
+ghost use Rattle.irs_terms.specs.Paths.{path_of};
 ghost use Rattle.irs_locate.specs.Private.Seen.{step_seen};
 ghost use Rattle.std.specs.Prelude.{◌≡◌, ◌<◌, IfSome, length, map, option_map, slice_get};
 
-use irs_base::{Elem, Place};
+use irs_terms::{Elem, Place};
 
 /// An element on the way: its name, and its number from 1 among the elements of that name in one
 /// element.

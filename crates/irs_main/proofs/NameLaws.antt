@@ -3,9 +3,9 @@ use Rattle.irs_answers.specs.Messages.{shape_name}
 use Rattle.irs_flows.specs.declared.error.ShapeKind.{ShapeKind}
 use Rattle.irs_flows.specs.declared.error.ShapeKind.TheVariants as shape
 use Rattle.irs_base.proofs.TextLemmas.{of_two_digits}
-use Rattle.irs_base.specs.Outcomes.{rule_number}
-use Rattle.irs_base.specs.declared.places.Rule.{Rule}
-use Rattle.irs_base.specs.declared.places.Rule.TheVariants as rule
+use Rattle.irs_terms.specs.Faults.{rule_number}
+use Rattle.irs_terms.specs.declared.places.Rule.{Rule}
+use Rattle.irs_terms.specs.declared.places.Rule.TheVariants as rule
 use Rattle.irs_main.specs.Rules.{row_of_rule, row_of_shape, text_at, rule_codes, rows}
 use Rattle.std.proofs.Common.{◌≡◌, ◌++◌, [], codes, decimal, refl, arith}
 use Rattle.std.proofs.lemmas.Fmt.{decimal_digit}

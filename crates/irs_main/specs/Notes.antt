@@ -27,7 +27,7 @@ use Rattle.irs_main.specs.Shown.{centers_text, dots, shown_front}
 use Rattle.irs_main.specs.Elements.{value_words}
 use Rattle.std.specs.Prelude.{ℕ, ◌&&◌, Bool, true, false, List, [], ◌∷◌, ◌++◌, Option, Some, None, codes}
 use Rattle.std.specs.Prelude.{decimal, if◌then◌else◌}
-use Rattle.irs_base.specs.Elements.{name_or_empty}
+use Rattle.irs_terms.specs.Elements.{name_or_empty}
 
 -- ---- payments without an amount
 

@@ -1,8 +1,8 @@
 -- The rules in plain words, and the words of a rule and of a fault of cash flows.
 use Prim.Native.String.{String}
 use Rattle.std.specs.Prelude.{ℕ, List, [], ◌∷◌, map, codes, ◌-◌, ◌==◌, if◌then◌else◌}
-use Rattle.irs_base.specs.declared.places.Rule.{Rule}
-use Rattle.irs_base.specs.declared.places.Rule.TheVariants as of_rule
+use Rattle.irs_terms.specs.declared.places.Rule.{Rule}
+use Rattle.irs_terms.specs.declared.places.Rule.TheVariants as of_rule
 use Rattle.irs_flows.specs.declared.error.ShapeKind.{ShapeKind}
 use Rattle.irs_flows.specs.declared.error.ShapeKind.TheVariants as shape
 

@@ -11,13 +11,13 @@ use Rattle.irs_flows.specs.declared.error.FlowErr.{FlowErr}
 use Rattle.irs_flows.specs.declared.error.FlowErr.TheVariants as flowing
 use Rattle.irs_flows.specs.declared.error.ShapeKind.{ShapeKind}
 use Rattle.irs_flows.specs.declared.error.ShapeKind.TheVariants.{NotJson}
-use Rattle.irs_base.specs.Elements.{document}
-use Rattle.irs_base.specs.Paths.{path_of}
-use Rattle.irs_base.specs.Outcomes.{rule_number}
-use Rattle.irs_base.specs.declared.places.Broken.{Broken}
-use Rattle.irs_base.specs.declared.places.Place.{Place}
-use Rattle.irs_base.specs.declared.places.Rule.{Rule}
-use Rattle.irs_base.specs.declared.places.Rule.TheVariants.{K1}
+use Rattle.irs_terms.specs.Elements.{document}
+use Rattle.irs_terms.specs.Paths.{path_of}
+use Rattle.irs_terms.specs.Faults.{rule_number}
+use Rattle.irs_terms.specs.declared.places.Broken.{Broken}
+use Rattle.irs_terms.specs.declared.places.Place.{Place}
+use Rattle.irs_terms.specs.declared.places.Rule.{Rule}
+use Rattle.irs_terms.specs.declared.places.Rule.TheVariants.{K1}
 use Rattle.irs_calendar.specs.declared.calendars.CalErr.{CalErr}
 use Rattle.irs_calendar.specs.declared.calendars.CalErr.TheVariants as calendar
 use Rattle.irs_cli.specs.Commands.{word_texts}

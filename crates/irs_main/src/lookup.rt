@@ -5,8 +5,8 @@ ghost use Rattle.irs_main.specs.Private.Lookup.{texts};
 ghost use Rattle.std.specs.Prelude.{◌≡◌};
 
 use crate::table::{AFTER, BEFORE};
-use irs_base::Rule;
 use irs_flows::ShapeKind;
+use irs_terms::Rule;
 
 /// The row of a rule in the table.
 pub(crate) fn row_of_rule(rule: Rule) -> usize

@@ -6,7 +6,7 @@ ghost use Rattle.irs_main.specs.Notes.{day_intro as day_intro_of};
 ghost use Rattle.irs_main.specs.Notes.{front_texts, front_words as front_words_of, is_fixed as is_fixed_of};
 ghost use Rattle.irs_main.specs.Notes.{is_done as is_done_of, is_silent_reply as is_silent_reply_of};
 ghost use Rattle.irs_main.specs.Notes.{line_number as line_number_of, line_words as line_words_of};
-ghost use Rattle.irs_base.specs.Elements.{name_or_empty as name_in_of};
+ghost use Rattle.irs_terms.specs.Elements.{name_or_empty as name_in_of};
 ghost use Rattle.irs_main.specs.Notes.{member_words as member_words_of, note_of, noted};
 ghost use Rattle.irs_main.specs.Notes.{roll_code as roll_code_of, roll_in as roll_in_of, roll_intro as roll_intro_of};
 ghost use Rattle.irs_main.specs.Notes.{shape_of as shape_of_value, shape_words as shape_words_of, spot_added};

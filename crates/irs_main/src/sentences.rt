@@ -1,7 +1,7 @@
 //! The sentence on what a run comes to, with the names of the files in question.
 ghost use Rattle.irs_outside.specs.Outside.{Grew, GrewByFront, Rose};
 ghost use Rattle.irs_audit.specs.Verdicts.{field_name, row_name};
-ghost use Rattle.irs_base.specs.Paths.{path_of};
+ghost use Rattle.irs_terms.specs.Paths.{path_of};
 ghost use Rattle.irs_cli.specs.declared.causes.RunCause.{RunCause as RunCauseSpec};
 ghost use Rattle.irs_main.specs.Shown.{joined_texts};
 ghost use Rattle.irs_main.specs.Private.Parts.{part_text, said, told_text};
@@ -36,12 +36,12 @@ use crate::words::word_at;
 use crate::wrong_words::{is_help, unlisted};
 use irs_answers::{Refusal, Unread};
 use irs_audit::Departure;
-use irs_base::{Broken, Elem, Place, Rule};
 use irs_calendar::CalErr;
 use irs_cli::{Cause, Role, RunCause, file_name};
 use irs_flows::{FlowErr, ShapeKind};
 use irs_outside::{PutFailed, Sink};
 use irs_resets::FixErr;
+use irs_terms::{Broken, Elem, Place, Rule};
 
 // The first three parts of a sentence on a text, and the name of the text's file.
 #[derive(Clone, Copy)]

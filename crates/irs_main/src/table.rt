@@ -2,8 +2,8 @@
 //! is said before the element, and after it.
 ghost use Rattle.irs_answers.specs.Messages.{shape_name};
 ghost use Rattle.irs_flows.specs.declared.error.ShapeKind.{ShapeKind as ShapeSpec};
-ghost use Rattle.irs_base.specs.Outcomes.{rule_number};
-ghost use Rattle.irs_base.specs.declared.places.Rule.{Rule as RuleSpec};
+ghost use Rattle.irs_terms.specs.Faults.{rule_number};
+ghost use Rattle.irs_terms.specs.declared.places.Rule.{Rule as RuleSpec};
 ghost use Rattle.irs_main.specs.Rules.{row_of_rule, row_of_shape, text_at, rule_codes, texts_after, texts_before};
 ghost use Rattle.std.specs.Prelude.{◌≡◌, ◌++◌, [], codes, decimal, map};
 

@@ -11,13 +11,14 @@ use Rattle.serde_json.specs.Data.{Data, null, boolean, number, string, array, ob
 use Rattle.serde_json.specs.Find.{as_str}
 use Rattle.serde_json.specs.View.{view}
 use Rattle.serde_json.specs.declared.value.Value.{Value}
-use Rattle.irs_base.proofs.FaultOrder.{broken_ties}
+use Rattle.irs_terms.proofs.FaultOrder.{broken_ties}
 use Rattle.irs_base.proofs.Firsts.{level_later, level_same, one_first}
 use Rattle.irs_base.proofs.MemberLemmas.{some_is}
 use Rattle.irs_base.specs.Limits.{most_streams}
-use Rattle.irs_base.specs.Outcomes.{First, is_before}
-use Rattle.irs_base.specs.declared.places.Broken.{Broken}
-use Rattle.irs_base.specs.declared.places.Rule.TheVariants.{K3}
+use Rattle.irs_base.specs.Outcomes.{First}
+use Rattle.irs_terms.specs.Faults.{is_before}
+use Rattle.irs_terms.specs.declared.places.Broken.{Broken}
+use Rattle.irs_terms.specs.declared.places.Rule.TheVariants.{K3}
 use Rattle.irs_elements.specs.Elements.{own, own_rule, values_in}
 use Rattle.irs_elements.specs.declared.table.Choice.TheVariants.{Free}
 use Rattle.irs_elements.specs.declared.table.Kind.TheVariants.{Object}

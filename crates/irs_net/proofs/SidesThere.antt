@@ -5,8 +5,9 @@ use Rattle.std.specs.Prelude.{slice_get}
 use Rattle.std.proofs.lemmas.Option.{slice_get-get_or}
 use Rattle.serde_json.specs.Data.{Data}
 use Rattle.irs_base.specs.Limits.{most_streams}
-use Rattle.irs_base.specs.Outcomes.{First, is_before}
-use Rattle.irs_base.specs.declared.places.Broken.{Broken}
+use Rattle.irs_base.specs.Outcomes.{First}
+use Rattle.irs_terms.specs.Faults.{is_before}
+use Rattle.irs_terms.specs.declared.places.Broken.{Broken}
 use Rattle.irs_terms.specs.declared.stream_list.Swap.{Swap}
 use Rattle.irs_read.specs.Documents.{Means}
 use Rattle.irs_read.specs.Readings.{streams_in}

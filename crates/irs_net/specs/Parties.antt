@@ -2,11 +2,11 @@
 -- receiverPartyReference). That all streams name the same two parties is our rule, K8.
 use Rattle.std.specs.Prelude.{◌≡◌, ℕ, ◌+◌, ◌≤◌, Bool, true, false, List, [], ◌∷◌, length, Some, Ok, slice_get}
 use Rattle.std.specs.Prelude.{slice_index_or, codes}
-use Rattle.irs_base.specs.Elements.{payer_party_reference}
+use Rattle.irs_terms.specs.Elements.{payer_party_reference}
 use Rattle.irs_base.specs.Limits.{most_streams}
-use Rattle.irs_base.specs.Outcomes.{fault_at, in_stream}
-use Rattle.irs_base.specs.declared.places.Broken.{Broken}
-use Rattle.irs_base.specs.declared.places.Rule.TheVariants.{K8}
+use Rattle.irs_terms.specs.Faults.{fault_at, in_stream}
+use Rattle.irs_terms.specs.declared.places.Broken.{Broken}
+use Rattle.irs_terms.specs.declared.places.Rule.TheVariants.{K8}
 use Rattle.irs_elements.specs.Elements.{values_in}
 use Rattle.irs_json.specs.Leaves.{child_of}
 use Rattle.irs_read.specs.Documents.{the_swap}

@@ -3,17 +3,18 @@
 ghost use Rattle.std.specs.Prelude.{◌≡◌, ◌<◌, ◌≤◌, length, map, IfOk, IfErr};
 ghost use Rattle.serde_json.specs.View.{view};
 ghost use Rattle.irs_base.specs.Limits.{most_streams};
-ghost use Rattle.irs_base.specs.Outcomes.{First, is_before};
-ghost use Rattle.irs_base.specs.declared.places.Broken.{Broken};
+ghost use Rattle.irs_base.specs.Outcomes.{First};
+ghost use Rattle.irs_terms.specs.Faults.{is_before};
+ghost use Rattle.irs_terms.specs.declared.places.Broken.{Broken};
 ghost use Rattle.irs_read.specs.Documents.{DocumentFault};
 ghost use Rattle.irs_net.specs.declared.sides.Sides.{Sides};
 ghost use Rattle.irs_net.specs.Parties.{AreSides, BreaksK8, BreaksK8Of, SidesOf, broken_at as broken_at_of};
 
 use crate::parties::side;
-use irs_base::{Broken, Elem, Fault, Rule};
 use irs_elements::values_at;
 use irs_json::Value;
 use irs_read::the_swap;
+use irs_terms::{Broken, Elem, Fault, Rule};
 
 /// Which party pays each stream.
 #[derive(Clone, Copy)]

@@ -2,8 +2,9 @@
 use Rattle.std.proofs.Common.{◌≡◌, inl, inr, ℕ, false, Option, Some, None, refl, sym, subst}
 use Rattle.std.specs.Prelude.{nat_lt}
 use Rattle.std.proofs.lemmas.Bool.{cases_order}
-use Rattle.irs_base.specs.Outcomes.{First, IsFirst, comes_before}
-use Rattle.irs_base.specs.declared.places.Fault.{Fault}
+use Rattle.irs_base.specs.Outcomes.{First, IsFirst}
+use Rattle.irs_terms.specs.Faults.{comes_before}
+use Rattle.irs_terms.specs.declared.places.Fault.{Fault}
 use Rattle.irs_base.proofs.Firsts.{lt_false}
 use Rattle.irs_observed.specs.Observations.{reported_before}
 use Rattle.irs_observed.specs.OvernightRates.{BreaksObservations, LacksAt, OvernightSource, observation_fault}

@@ -5,13 +5,14 @@ use Rattle.std.specs.Prelude.{if◌then◌else◌, nat_lt, pos, ◌<ℤ◌, slic
 use Rattle.std.proofs.lemmas.Bool.{cases_lt}
 use Rattle.irs_base.specs.Days.{IsDay}
 use Rattle.irs_base.specs.Lists.{Every}
-use Rattle.irs_base.specs.Outcomes.{First, IsFirst, comes_before, earlier, IfStopped, Determined, Meets}
+use Rattle.irs_base.specs.Outcomes.{First, IsFirst, earlier, IfStopped, Determined, Meets}
+use Rattle.irs_terms.specs.Faults.{comes_before}
 use Rattle.irs_base.specs.Private.Order.{IsDecided}
 use Rattle.irs_base.specs.declared.stopped.Stopped.{Stopped}
 use Rattle.irs_base.specs.declared.stopped.Stopped.TheVariants.{Broken as OfBroken, Memory as OfMemory}
-use Rattle.irs_base.specs.declared.places.Fault.{Fault}
+use Rattle.irs_terms.specs.declared.places.Fault.{Fault}
 use Rattle.irs_base.proofs.EveryLemmas.{every_numbered}
-use Rattle.irs_base.proofs.FaultOrder.{fault_order, one_fault}
+use Rattle.irs_terms.proofs.FaultOrder.{fault_order, one_fault}
 use Rattle.irs_base.proofs.Firsts.{first_or, lt_false}
 use Rattle.irs_base.proofs.MemberLemmas.{numbered_get, numbered_has, numbered_map, numbered_there, one_numbered}
 use Rattle.irs_base.proofs.Outcomes.{unless_broken_determined}

@@ -2,11 +2,12 @@
 use Rattle.std.specs.Prelude.{◌≡◌, ℤ, Option, None, IsSome, ◌⊎◌, ℕ, ◌-◌, ◌^◌, ◌<◌, List, length, Some, option_and_then}
 use Rattle.std.specs.Prelude.{slice_get, pos, ◌*ℤ◌, min, [], ◌∷◌, if◌then◌else◌, int_lt, ◌+ℤ◌, ◌-ℤ◌, ◌<ℤ◌, ◌≤ℤ◌}
 use Rattle.std.specs.Prelude.{unsigned_abs, ◌*◌, ◌≤◌, IfSome}
-use Rattle.irs_base.specs.Elements.{calculation_parameters}
-use Rattle.irs_base.specs.Outcomes.{fault_at, comes_before, Spec, unless_broken}
+use Rattle.irs_terms.specs.Elements.{calculation_parameters}
+use Rattle.irs_base.specs.Outcomes.{Spec, unless_broken}
+use Rattle.irs_terms.specs.Faults.{fault_at, comes_before}
 use Rattle.irs_base.specs.Lists.{EachNumbered, day_at}
-use Rattle.irs_base.specs.declared.places.Fault.{Fault}
-use Rattle.irs_base.specs.declared.places.Rule.TheVariants.{K33, K48}
+use Rattle.irs_terms.specs.declared.places.Fault.{Fault}
+use Rattle.irs_terms.specs.declared.places.Rule.TheVariants.{K33, K48}
 use Rattle.irs_base.specs.Limits.{rounded}
 use Rattle.irs_base.specs.declared.rounding.Direction.TheVariants.{Nearest}
 use Rattle.irs_terms.specs.declared.amounts.FloatTerms.{FloatTerms}

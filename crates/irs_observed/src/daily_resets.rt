@@ -16,10 +16,10 @@ ghost use Rattle.irs_observed.specs.Private.OvernightRates.{ArePrinted, IsPrinte
 use crate::order::earlier_fault;
 use crate::overnight_rate::{OvernightRate, OvernightRates};
 use crate::overnight_rates::overnight_rates;
-use irs_base::{DayList, Fault, Memory, Stopped};
+use irs_base::{DayList, Memory, Stopped};
 use irs_calendar::GoodDays;
 use irs_resets::{Fixings, ResErr, resets};
-use irs_terms::{CalculationParameters, FloatTerms, Reset, Resets, Span, Stream};
+use irs_terms::{CalculationParameters, Fault, FloatTerms, Reset, Resets, Span, Stream};
 use std::alloc::Global;
 
 /// The resets of a stream with calculation parameters, and its observed rates, one for each

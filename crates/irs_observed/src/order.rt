@@ -1,8 +1,9 @@
 //! Which of two broken rules of a stream is reported.
 ghost use Rattle.std.specs.Prelude.{◌≡◌, if◌then◌else◌};
-ghost use Rattle.irs_base.specs.Outcomes.{comes_before, level, turn};
+ghost use Rattle.irs_base.specs.Outcomes.{level};
+ghost use Rattle.irs_terms.specs.Faults.{comes_before, turn};
 
-use irs_base::{Fault, Rule};
+use irs_terms::{Fault, Rule};
 
 // Rules on where dates may be come before those on what is worked out of them.
 fn turn(rule: Rule) -> u8

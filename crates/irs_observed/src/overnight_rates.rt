@@ -1,7 +1,8 @@
 //! The observed rates of the calculation periods of a stream with calculation parameters. A stub with a
 //! rate of its own has that rate, and every other period the rate of its daily rates.
 ghost use Rattle.std.specs.Prelude.{◌≡◌, ◌↔◌, ◌<◌, ◌^◌, ◌<ℤ◌, length, All, IfOk, IfSome, IsTrue, nat_lt};
-ghost use Rattle.irs_base.specs.Outcomes.{IfBroken, First, IsFirst, comes_before, Meets};
+ghost use Rattle.irs_base.specs.Outcomes.{IfBroken, First, IsFirst, Meets};
+ghost use Rattle.irs_terms.specs.Faults.{comes_before};
 ghost use Rattle.irs_base.specs.Lists.{IsRising, day_at};
 ghost use Rattle.irs_terms.specs.Lawful.{IsLawfulStubs};
 ghost use Rattle.irs_resets.specs.Resets.{IsPeriod};
@@ -19,12 +20,12 @@ use crate::observation::NoObservations;
 use crate::origin::own_rate;
 use crate::overnight_rate::{OvernightRate, OvernightRates, rate_by_days};
 use crate::walk::observations;
-use irs_base::{Day, Elem, Fault, Memory, Rule, Stopped, Text};
+use irs_base::{Day, Memory, Stopped, Text};
 use irs_calendar::GoodDays;
 use irs_resets::{Fixings, period_kind};
 use irs_terms::{
-    CalculationMethod, CalculationParameters, DayCountCode, FloatTerms, ObservationOffset, Span,
-    Stream,
+    CalculationMethod, CalculationParameters, DayCountCode, Elem, Fault, FloatTerms,
+    ObservationOffset, Rule, Span, Stream,
 };
 use std::alloc::Global;
 

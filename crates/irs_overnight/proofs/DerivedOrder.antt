@@ -2,11 +2,12 @@
 use Rattle.std.proofs.Common.{◌≡◌, inl, inr, ℕ, ◌<◌, Bool, true, false, Some, None, refl, sym, subst, ◌∙◌}
 use Rattle.std.specs.Prelude.{nat_lt}
 use Rattle.std.proofs.lemmas.Bool.{cases_order}
-use Rattle.irs_base.specs.Outcomes.{fault_at, First, level, rule_number}
-use Rattle.irs_base.specs.declared.places.Fault.{Fault}
-use Rattle.irs_base.specs.declared.places.Rule.{Rule}
+use Rattle.irs_base.specs.Outcomes.{First, level}
+use Rattle.irs_terms.specs.Faults.{fault_at, rule_number}
+use Rattle.irs_terms.specs.declared.places.Fault.{Fault}
+use Rattle.irs_terms.specs.declared.places.Rule.{Rule}
 use Rattle.irs_base.proofs.Firsts.{AreTied, false_lt, level_later, level_same, tied, tied_last}
-use Rattle.irs_base.proofs.RuleNumbers.{same_rule}
+use Rattle.irs_terms.proofs.RuleNumbers.{same_rule}
 use Rattle.irs_resets.specs.Resets.{IsPeriod}
 use Rattle.irs_overnight.specs.Overnight.{derived_period_at, BreaksBasis, BreaksDerived, BreaksPeriod, FixingNotAfter}
 use Rattle.irs_overnight.specs.Overnight.{derived_before, derived_turn, no_basis, fixing_not_after_at, period_fault}

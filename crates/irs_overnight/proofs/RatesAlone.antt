@@ -1,8 +1,8 @@
 -- Rates that are compounded from a table of rates, and their rules, depend on it by its rates alone.
 use Rattle.std.proofs.Common.{◌≡◌, inl, inr, ℕ, ◌-◌, List, Option, Some, ℤ, ◌-ℤ◌, refl, sym, ◌∙◌, ap, subst}
 use Rattle.irs_base.specs.Lists.{day_at}
-use Rattle.irs_base.specs.declared.places.Broken.{Broken}
-use Rattle.irs_base.specs.declared.places.Fault.{Fault}
+use Rattle.irs_terms.specs.declared.places.Broken.{Broken}
+use Rattle.irs_terms.specs.declared.places.Fault.{Fault}
 use Rattle.irs_base.proofs.MemberLemmas.{numbered_map}
 use Rattle.irs_terms.specs.declared.stream_list.Swap.{Swap}
 use Rattle.irs_calendar.specs.GoodDays.{DaySet}

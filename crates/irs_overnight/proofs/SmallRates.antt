@@ -2,7 +2,7 @@
 use Rattle.std.proofs.Common.{◌≡◌, inl, inr, ℕ, ◌<◌, List, [], ◌∷◌, None, ℤ, ◌-ℤ◌, unsigned_abs, refl}
 use Rattle.std.proofs.lemmas.Bool.{cases_lt}
 use Rattle.irs_base.specs.Limits.{most_rate}
-use Rattle.irs_base.specs.declared.places.Fault.{Fault}
+use Rattle.irs_terms.specs.declared.places.Fault.{Fault}
 use Rattle.irs_overnight.specs.Overnight.{derived_period_at, DerivedSource, IsDerivedRow, BreaksDerived, period_fault}
 use Rattle.irs_overnight.specs.Observations.{DerivedGrows, IsDerivedRate, derived_one, DailyPeriod, FindsRate}
 use Rattle.irs_overnight.specs.Observations.{PassesRange, first_absent}

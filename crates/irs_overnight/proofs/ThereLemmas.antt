@@ -4,7 +4,7 @@ use Rattle.std.proofs.Common.{Some, None, ℤ, pos, ◌+ℤ◌, ◌-ℤ◌, ◌*
 use Rattle.std.specs.Prelude.{unsigned_abs}
 use Rattle.jiff_core.proofs.SignedLemmas.{signed_arith}
 use Rattle.irs_base.specs.Lists.{Every, day_at}
-use Rattle.irs_base.specs.declared.places.Fault.{Fault}
+use Rattle.irs_terms.specs.declared.places.Fault.{Fault}
 use Rattle.irs_base.proofs.MemberLemmas.{numbered_there}
 use Rattle.irs_base.proofs.RoundingLaws.{nearest_exists}
 use Rattle.irs_calendar.specs.GoodDays.{DaySet, InCover}

@@ -2,12 +2,13 @@
 use Rattle.std.specs.Prelude.{ℕ, ◌-◌, List, ℤ, slice_index_or, ◌≡◌, ◌+◌, length, Some, ◌⊎◌, ◌≤◌, Bool, None, ◌≤ℤ◌}
 use Rattle.std.specs.Prelude.{nat_lt, ◌==◌, if◌then◌else◌, [], slice_get}
 use Rattle.irs_base.specs.Lists.{day_at, EachNumbered}
-use Rattle.irs_base.specs.Elements.{swap_stream, reset_dates, calculation_period_amount, day_count_fraction}
-use Rattle.irs_base.specs.Outcomes.{fault_at, in_stream, level, rule_number, First}
-use Rattle.irs_base.specs.declared.places.Broken.{Broken}
-use Rattle.irs_base.specs.declared.places.Fault.{Fault}
-use Rattle.irs_base.specs.declared.places.Rule.{Rule}
-use Rattle.irs_base.specs.declared.places.Rule.TheVariants.{K40, K41, K42, K43, K44}
+use Rattle.irs_terms.specs.Elements.{swap_stream, reset_dates, calculation_period_amount, day_count_fraction}
+use Rattle.irs_base.specs.Outcomes.{level, First}
+use Rattle.irs_terms.specs.Faults.{fault_at, in_stream, rule_number}
+use Rattle.irs_terms.specs.declared.places.Broken.{Broken}
+use Rattle.irs_terms.specs.declared.places.Fault.{Fault}
+use Rattle.irs_terms.specs.declared.places.Rule.{Rule}
+use Rattle.irs_terms.specs.declared.places.Rule.TheVariants.{K40, K41, K42, K43, K44}
 use Rattle.irs_terms.specs.declared.codes.DayCountCode.{DayCountCode}
 use Rattle.irs_terms.specs.declared.results.Reset.{Reset}
 use Rattle.irs_terms.specs.Lawful.{IsLawfulSwap}

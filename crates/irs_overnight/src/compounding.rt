@@ -3,7 +3,7 @@
 //! rule.
 ghost use Rattle.std.specs.Prelude.{◌≡◌, All, List, IfOk};
 ghost use Rattle.irs_base.specs.Outcomes.{IfBroken};
-ghost use Rattle.irs_base.specs.declared.places.Broken.{Broken as BrokenRule};
+ghost use Rattle.irs_terms.specs.declared.places.Broken.{Broken as BrokenRule};
 ghost use Rattle.irs_overnight.specs.Overnight.{IsAsked, IsFirstDerived, IsOvernight, OvernightKept, RowsReadBack};
 ghost use Rattle.irs_overnight.specs.Overnight.{asked};
 ghost use Rattle.irs_overnight.specs.Private.Bounds.{IsInRange};
@@ -12,11 +12,11 @@ ghost use Rattle.irs_overnight.specs.declared.derived.DerivedRow.{DerivedRow as 
 use crate::derived::Derived;
 use crate::rules::derived_rows;
 use crate::streams::floating_at;
-use irs_base::{Broken, Stopped};
+use irs_base::Stopped;
 use irs_calendar::GoodDays;
 use irs_resets::Fixings;
 use irs_schedule::Schedule;
-use irs_terms::Swap;
+use irs_terms::{Broken, Swap};
 use std::alloc::Global;
 
 /// Why no rates are derived: the first broken rule, with the stream's number in its place, or memory

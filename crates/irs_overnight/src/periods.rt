@@ -14,10 +14,11 @@ use crate::derived::{Derived, DerivedRow, Found};
 use crate::factors::compounded_rate;
 use crate::observations::{Observation, observations};
 use crate::starts::days_between;
-use irs_base::{Day, Elem, Fault, Rule, Stopped, Text};
+use irs_base::{Day, Stopped, Text};
 use irs_calendar::GoodDays;
 use irs_resets::Fixings;
 use irs_schedule::StreamPart;
+use irs_terms::{Elem, Fault, Rule};
 use std::alloc::Global;
 
 /// Why a period has no rate.
@@ -167,5 +168,5 @@ pub(crate) fn period_rows<G: GoodDays>(
     Ok(rows)
 }
 
-ghost use Rattle.irs_base.specs.declared.places.Fault.{Fault as BrokenRule};
+ghost use Rattle.irs_terms.specs.declared.places.Fault.{Fault as BrokenRule};
 ghost use Rattle.irs_overnight.specs.Observations.{derived_period};

@@ -2,7 +2,7 @@
 //! dates.
 ghost use Rattle.std.specs.Prelude.{◌≡◌, All, ◌<◌, ◌≤◌, ◌^◌, IfOk, IfSome, None, Some, IsTrue, length, nat_lt};
 ghost use Rattle.irs_base.specs.Outcomes.{IfBroken, First, IsFirst};
-ghost use Rattle.irs_base.specs.declared.places.Fault.{Fault as BrokenRule};
+ghost use Rattle.irs_terms.specs.declared.places.Fault.{Fault as BrokenRule};
 ghost use Rattle.irs_overnight.specs.Overnight.{AreDerived, BreaksDerived, FixingNotAfter, derived_before, no_basis};
 ghost use Rattle.irs_overnight.specs.Overnight.{fixing_not_after_at, derived_source};
 ghost use Rattle.irs_overnight.specs.Private.Bounds.{IsInRange};
@@ -10,11 +10,11 @@ ghost use Rattle.irs_overnight.specs.Observations.{basis_of};
 
 use crate::derived::Derived;
 use crate::periods::period_rows;
-use irs_base::{Elem, Fault, Rule, Stopped, Text};
+use irs_base::{Stopped, Text};
 use irs_calendar::GoodDays;
 use irs_resets::Fixings;
 use irs_schedule::StreamPart;
-use irs_terms::{DayCountCode, Reset};
+use irs_terms::{DayCountCode, Elem, Fault, Reset, Rule};
 use std::alloc::Global;
 
 // The days of the year by which daily interest counts.

@@ -4,8 +4,7 @@ ghost use Rattle.irs_terms.specs.declared.amounts.FloatTerms.{FloatTerms as Floa
 ghost use Rattle.irs_overnight.specs.Overnight.{no_floating_stream};
 ghost use Rattle.irs_overnight.specs.Observations.{Floats, PaysFloating};
 
-use irs_base::{Broken, Elem, Fault, Rule};
-use irs_terms::{FloatTerms, Leg, Stream, Swap};
+use irs_terms::{Broken, Elem, Fault, FloatTerms, Leg, Rule, Stream, Swap};
 
 /// The stream of a swap with that number, from 1.
 pub fn stream_at(swap: &Swap, number: u8) -> Option<&Stream>

@@ -12,10 +12,10 @@ use Rattle.irs_payments.specs.Private.Dating.{cut_at, ArePlaces, date_place, IsC
 use Rattle.irs_payments.specs.Private.Dating.{ArePaid, Dated, LeavesAt, LeavesFirst, LacksAt, LacksFirst, Settles}
 use Rattle.irs_payments.specs.Private.Dating.{IsOutcome, IsDateFault}
 use Rattle.irs_payments.specs.Payments.{PaymentLacksResult, PaymentLeavesRange, Covers}
-use Rattle.irs_base.specs.Elements.{payment_dates}
-use Rattle.irs_base.specs.Outcomes.{fault_at}
-use Rattle.irs_base.specs.declared.places.Fault.{Fault}
-use Rattle.irs_base.specs.declared.places.Rule.TheVariants.{K33}
+use Rattle.irs_terms.specs.Elements.{payment_dates}
+use Rattle.irs_terms.specs.Faults.{fault_at}
+use Rattle.irs_terms.specs.declared.places.Fault.{Fault}
+use Rattle.irs_terms.specs.declared.places.Rule.TheVariants.{K33}
 use Rattle.irs_base.specs.Lists.{day_at}
 use Rattle.irs_base.proofs.Firsts.{lt_false, false_lt}
 use Rattle.irs_base.proofs.MemberLemmas.{numbered_push}

@@ -7,9 +7,9 @@ use Rattle.std.proofs.lemmas.List.Elements.{All-append, All-cons}
 use Rattle.std.proofs.lemmas.Option.{slice_get_within, get_or_from_slice_get}
 use Rattle.jiff_core.proofs.SignedLemmas.{signed_arith}
 use Rattle.irs_base.specs.Days.{IsDay}
-use Rattle.irs_base.specs.Elements.{principal_exchanges}
-use Rattle.irs_base.specs.declared.places.Rule.TheVariants.{K33}
-use Rattle.irs_base.specs.declared.places.Fault.{Fault}
+use Rattle.irs_terms.specs.Elements.{principal_exchanges}
+use Rattle.irs_terms.specs.declared.places.Rule.TheVariants.{K33}
+use Rattle.irs_terms.specs.declared.places.Fault.{Fault}
 use Rattle.irs_base.proofs.RoundingLaws.{nearest_exists}
 use Rattle.irs_terms.specs.Lawful.{decimals_of, IsLawfulStream}
 use Rattle.irs_terms.specs.declared.step_list.Step.{Step}
@@ -20,10 +20,11 @@ use Rattle.irs_adjust.specs.MovedDays.{Adjusts}
 use Rattle.irs_payments.specs.declared.exchanges.Transfer.{Transfer}
 use Rattle.irs_payments.specs.Exchanges.{transfer, initial_of, change, changes, intermediate_of, last_value, final_of}
 use Rattle.irs_payments.specs.Exchanges.{transfers_of, IsExchange, AreExchanges, LacksTransferDay, BreaksExchanges}
-use Rattle.irs_base.specs.Outcomes.{fault_at, First, comes_before}
+use Rattle.irs_base.specs.Outcomes.{First}
+use Rattle.irs_terms.specs.Faults.{fault_at, comes_before}
 use Rattle.irs_adjust.proofs.FoundDays.{InRange, IsFound, decides_adjusts}
 use Rattle.irs_base.specs.Private.Order.{IsDecided}
-use Rattle.irs_base.proofs.FaultOrder.{one_fault}
+use Rattle.irs_terms.proofs.FaultOrder.{one_fault}
 use Rattle.irs_base.proofs.MemberLemmas.{pairs_there}
 use Rattle.irs_payments.proofs.ExchangeLemmas.{ten_power}
 use Rattle.irs_payments.proofs.FirstFaults.{FirstOrNone}

@@ -1,8 +1,9 @@
 -- The first of the faults of two sets, and which of two faults comes before the other.
 use Rattle.std.proofs.Common.{◌≡◌, ◌⊎◌, inl, inr, ℕ, ◌<◌, false, Result, Ok, Err, refl}
-use Rattle.irs_base.specs.Outcomes.{rule_number, fault_at, First, comes_before, turn, MeetsExactly, unbroken}
-use Rattle.irs_base.specs.declared.places.Rule.{Rule}
-use Rattle.irs_base.specs.declared.places.Fault.{Fault}
+use Rattle.irs_base.specs.Outcomes.{First, MeetsExactly, unbroken}
+use Rattle.irs_terms.specs.Faults.{rule_number, fault_at, comes_before, turn}
+use Rattle.irs_terms.specs.declared.places.Rule.{Rule}
+use Rattle.irs_terms.specs.declared.places.Fault.{Fault}
 use Rattle.irs_base.proofs.Firsts.{level_same, level_later, lt_false}
 
 -- a fault is the first of these, or there is none

@@ -2,13 +2,14 @@
 use Rattle.std.proofs.Common.{◌≡◌, inl, inr, List, Option, Some, None, ℤ, ◌<ℤ◌, false, refl, sym, ◌∙◌, subst, arith}
 use Rattle.jiff_core.proofs.SignedLemmas.{signed_arith}
 use Rattle.irs_base.specs.Lists.{AreDays, Member}
-use Rattle.irs_base.specs.Elements.{first_payment_date, last_regular_payment_date}
-use Rattle.irs_base.specs.Outcomes.{fault_at, First, comes_before}
+use Rattle.irs_terms.specs.Elements.{first_payment_date, last_regular_payment_date}
+use Rattle.irs_base.specs.Outcomes.{First}
+use Rattle.irs_terms.specs.Faults.{fault_at, comes_before}
 use Rattle.irs_base.specs.Private.Order.{IsDecided}
-use Rattle.irs_base.specs.declared.places.Rule.TheVariants.{K35}
-use Rattle.irs_base.specs.declared.places.Fault.{Fault}
+use Rattle.irs_terms.specs.declared.places.Rule.TheVariants.{K35}
+use Rattle.irs_terms.specs.declared.places.Fault.{Fault}
 use Rattle.irs_base.proofs.Decided.{order_of, decides_same}
-use Rattle.irs_base.proofs.FaultOrder.{fault_order}
+use Rattle.irs_terms.proofs.FaultOrder.{fault_order}
 use Rattle.irs_base.proofs.Firsts.{first_one}
 use Rattle.irs_terms.specs.TermDates.{first_day_of}
 use Rattle.irs_terms.specs.Lawful.{IsLawfulStream}

@@ -5,12 +5,13 @@ use Rattle.std.proofs.Common.{◌∙◌, subst, sym}
 use Rattle.std.specs.List.{slice_get}
 use Rattle.std.proofs.lemmas.List.{take_all}
 use Rattle.std.proofs.lemmas.Option.{get_or_from_slice_get, slice_get_within}
-use Rattle.irs_base.specs.Elements.{principal_exchanges}
-use Rattle.irs_base.specs.Outcomes.{fault_at, First, comes_before}
+use Rattle.irs_terms.specs.Elements.{principal_exchanges}
+use Rattle.irs_base.specs.Outcomes.{First}
+use Rattle.irs_terms.specs.Faults.{fault_at, comes_before}
 use Rattle.irs_base.specs.Limits.{most_exchanges}
 use Rattle.irs_base.specs.Lists.{Pairs}
-use Rattle.irs_base.specs.declared.places.Fault.{Fault}
-use Rattle.irs_base.specs.declared.places.Rule.TheVariants.{K33}
+use Rattle.irs_terms.specs.declared.places.Fault.{Fault}
+use Rattle.irs_terms.specs.declared.places.Rule.TheVariants.{K33}
 use Rattle.irs_base.proofs.MemberLemmas.{none_of_more, pairs_more}
 use Rattle.irs_terms.specs.Lawful.{IsLawfulStream}
 use Rattle.irs_terms.specs.declared.results.Exchange.{Exchange}

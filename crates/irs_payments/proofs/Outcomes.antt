@@ -1,9 +1,10 @@
 -- Each call of this crate has one outcome.
 use Rattle.std.proofs.Common.{◌≡◌, ℕ, List, ℤ, length, Result, Ok, Err}
 use Rattle.irs_base.specs.Lists.{RunsFromTo}
-use Rattle.irs_base.specs.Outcomes.{comes_before, Determined, Meets}
+use Rattle.irs_base.specs.Outcomes.{Determined, Meets}
+use Rattle.irs_terms.specs.Faults.{comes_before}
 use Rattle.irs_base.proofs.Outcomes.{unbroken_determined, unless_broken_determined}
-use Rattle.irs_base.specs.declared.places.Fault.{Fault}
+use Rattle.irs_terms.specs.declared.places.Fault.{Fault}
 use Rattle.irs_base.specs.declared.stopped.Stopped.{Stopped}
 use Rattle.irs_base.specs.declared.stopped.Stopped.TheVariants.{Broken as OfBroken, Memory as OfMemory}
 use Rattle.irs_terms.specs.TermDates.{first_day_of}

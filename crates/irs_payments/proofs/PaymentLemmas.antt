@@ -3,18 +3,19 @@ use Rattle.std.proofs.Common.{◌≡◌, inl, inr, ℕ, zero, suc, ◌+◌, ◌-
 use Rattle.std.proofs.Common.{subst, ap, false, ℤ, ◌<ℤ◌, ◌≤ℤ◌}
 use Rattle.std.proofs.lemmas.Bool.{cases_lt}
 use Rattle.jiff_core.proofs.SignedLemmas.{signed_arith}
-use Rattle.irs_base.specs.Elements.{payment_dates, first_payment_date, last_regular_payment_date}
+use Rattle.irs_terms.specs.Elements.{payment_dates, first_payment_date, last_regular_payment_date}
 use Rattle.irs_base.specs.Lists.{Member, IsRising, RunsFromTo, day_at, EachNumbered}
 use Rattle.irs_base.proofs.Rising.{one_rising}
-use Rattle.irs_base.specs.declared.places.Rule.TheVariants.{K33, K35, K38}
-use Rattle.irs_base.specs.declared.places.Fault.{Fault}
+use Rattle.irs_terms.specs.declared.places.Rule.TheVariants.{K33, K35, K38}
+use Rattle.irs_terms.specs.declared.places.Fault.{Fault}
 use Rattle.irs_terms.specs.declared.codes.Relative.{Relative}
 use Rattle.irs_terms.specs.declared.codes.Relative.TheVariants.{Start, End}
 use Rattle.irs_terms.specs.declared.results.Payment.{Payment}
 use Rattle.irs_terms.specs.TermDates.{first_day_of}
 use Rattle.irs_terms.specs.declared.stream.Stream.{Stream}
 use Rattle.irs_calendar.specs.GoodDays.{DaySet}
-use Rattle.irs_base.specs.Outcomes.{fault_at, First, comes_before}
+use Rattle.irs_base.specs.Outcomes.{First}
+use Rattle.irs_terms.specs.Faults.{fault_at, comes_before}
 use Rattle.irs_payments.specs.Payments.{BreaksGrouping, IsPaymentDate, PaymentLacksResult, PaymentLeavesRange}
 use Rattle.irs_payments.specs.Payments.{pay_place, CoversPeriods, IsPayment, ArePayments, Covers, PaysFrom, IsLacking}
 use Rattle.irs_payments.specs.Payments.{IsLeaving, BreaksPaymentDate}

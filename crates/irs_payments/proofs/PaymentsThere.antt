@@ -2,13 +2,14 @@
 use Rattle.std.proofs.Common.{◌≡◌, ◌⊎◌, inl, inr, ℕ, zero, suc, ◌<◌, ◌≤◌, List, length, ℤ, refl, arith}
 use Rattle.std.proofs.lemmas.Bool.{cases_lt}
 use Rattle.irs_base.specs.Lists.{AreDays, RunsFromTo, day_at}
-use Rattle.irs_base.specs.Elements.{payment_dates}
-use Rattle.irs_base.specs.Outcomes.{fault_at, First, comes_before}
+use Rattle.irs_terms.specs.Elements.{payment_dates}
+use Rattle.irs_base.specs.Outcomes.{First}
+use Rattle.irs_terms.specs.Faults.{fault_at, comes_before}
 use Rattle.irs_base.specs.Private.Order.{IsDecided}
-use Rattle.irs_base.specs.declared.places.Rule.TheVariants.{K33, K38}
-use Rattle.irs_base.specs.declared.places.Fault.{Fault}
+use Rattle.irs_terms.specs.declared.places.Rule.TheVariants.{K33, K38}
+use Rattle.irs_terms.specs.declared.places.Fault.{Fault}
 use Rattle.irs_base.proofs.DayListLemmas.{day_at_day}
-use Rattle.irs_base.proofs.FaultOrder.{one_fault}
+use Rattle.irs_terms.proofs.FaultOrder.{one_fault}
 use Rattle.irs_terms.specs.Centers.{IsSaid}
 use Rattle.irs_terms.specs.TermDates.{first_day_of}
 use Rattle.irs_terms.specs.Lawful.{IsLawfulStream}

@@ -1,13 +1,14 @@
 -- Steps on boundaries: a step is the first whose date is no boundary, or the date of each is one.
 use Rattle.std.proofs.Common.{◌≡◌, ℕ, ◌<◌, List, [], ◌∷◌, ℤ, false, inl, inr, arith}
-use Rattle.irs_base.specs.Elements.{notional_step_date, fixed_rate_step_date, multiplier_step_date, spread_step_date}
+use Rattle.irs_terms.specs.Elements.{notional_step_date, fixed_rate_step_date, multiplier_step_date, spread_step_date}
 use Rattle.irs_base.specs.Lists.{Member}
-use Rattle.irs_base.specs.Outcomes.{fault_at, First, comes_before}
+use Rattle.irs_base.specs.Outcomes.{First}
+use Rattle.irs_terms.specs.Faults.{fault_at, comes_before}
 use Rattle.irs_base.specs.Private.Order.{IsDecided}
-use Rattle.irs_base.specs.declared.places.Rule.TheVariants.{K36}
-use Rattle.irs_base.specs.declared.places.Fault.{Fault}
+use Rattle.irs_terms.specs.declared.places.Rule.TheVariants.{K36}
+use Rattle.irs_terms.specs.declared.places.Fault.{Fault}
 use Rattle.irs_base.proofs.Decided.{decides_same}
-use Rattle.irs_base.proofs.FaultOrder.{one_fault}
+use Rattle.irs_terms.proofs.FaultOrder.{one_fault}
 use Rattle.irs_terms.specs.declared.amounts.Leg.{Leg}
 use Rattle.irs_terms.specs.declared.amounts.Leg.TheVariants.{Fixed, Floating}
 use Rattle.irs_terms.specs.declared.step_list.Step.{Step}

@@ -1,15 +1,15 @@
 -- Principal exchanges and steps, and their rules.
 use Rattle.std.specs.Prelude.{◌≡◌, ℕ, List, ℤ, ◌-◌, ◌^◌, [], ◌∷◌, ◌++◌, pos, ◌-ℤ◌, if◌then◌else◌, ◌⊎◌}
 use Rattle.std.specs.Ordering.{int_eq}
-use Rattle.irs_base.specs.Outcomes.{fault_at}
+use Rattle.irs_terms.specs.Faults.{fault_at}
 use Rattle.irs_base.specs.Lists.{HoldsOf, Pairs, Member}
-use Rattle.irs_base.specs.declared.places.Rule.{Rule}
-use Rattle.irs_base.specs.declared.places.Fault.{Fault}
+use Rattle.irs_terms.specs.declared.places.Rule.{Rule}
+use Rattle.irs_terms.specs.declared.places.Fault.{Fault}
 use Rattle.irs_base.specs.Limits.{Rounded}
-use Rattle.irs_base.specs.Elements.{principal_exchanges, notional_step_date, fixed_rate_step_date, multiplier_step_date}
-use Rattle.irs_base.specs.Elements.{spread_step_date}
+use Rattle.irs_terms.specs.Elements.{principal_exchanges, notional_step_date, fixed_rate_step_date, multiplier_step_date}
+use Rattle.irs_terms.specs.Elements.{spread_step_date}
 use Rattle.irs_base.specs.declared.rounding.Direction.TheVariants.{Nearest}
-use Rattle.irs_base.specs.declared.places.Rule.TheVariants.{K33, K36}
+use Rattle.irs_terms.specs.declared.places.Rule.TheVariants.{K33, K36}
 use Rattle.irs_terms.specs.Lawful.{decimals_of}
 use Rattle.irs_terms.specs.declared.step_list.Step.{Step}
 use Rattle.irs_terms.specs.declared.results.Exchange.{Exchange}

@@ -2,10 +2,11 @@
 use Rattle.std.specs.Prelude.{ℤ, ◌≡◌, ◌⊎◌, Bool, List, ◌∷◌, Option, Some, None, IfSome, if◌then◌else◌, ◌≤ℤ◌, ◌<ℤ◌, ◌↔◌}
 use Rattle.std.specs.Prelude.{ℕ, ◌+◌, ◌-◌, ◌<◌, ◌≤◌, length}
 use Rattle.irs_base.specs.Lists.{Member, Lists, day_at, CoverNumbers, EachNumbered}
-use Rattle.irs_base.specs.Elements.{first_payment_date, last_regular_payment_date, payment_dates}
-use Rattle.irs_base.specs.declared.places.Rule.TheVariants.{K35, K33, K38}
-use Rattle.irs_base.specs.declared.places.Fault.{Fault}
-use Rattle.irs_base.specs.Outcomes.{fault_at, comes_before, Spec, unbroken, unless_broken}
+use Rattle.irs_terms.specs.Elements.{first_payment_date, last_regular_payment_date, payment_dates}
+use Rattle.irs_terms.specs.declared.places.Rule.TheVariants.{K35, K33, K38}
+use Rattle.irs_terms.specs.declared.places.Fault.{Fault}
+use Rattle.irs_base.specs.Outcomes.{Spec, unbroken, unless_broken}
+use Rattle.irs_terms.specs.Faults.{fault_at, comes_before}
 use Rattle.irs_terms.specs.declared.dates.PayTerms.{PayTerms}
 use Rattle.irs_terms.specs.TermDates.{first_day_of, same_length}
 use Rattle.irs_terms.specs.declared.stream.Stream.{Stream}

@@ -8,7 +8,7 @@ ghost use Rattle.std.specs.Prelude.{◌≡◌, ◌-◌, ◌^◌, ◌≤◌, ◌+
 ghost use Rattle.std.specs.Prelude.{IfNone, IfSome, Some};
 ghost use Rattle.irs_base.specs.Limits.{most_exchanges, most_notional, Rounded};
 ghost use Rattle.irs_base.specs.Outcomes.{Determined, IfMemory, Meets, MeetsExactly};
-ghost use Rattle.irs_base.specs.declared.places.Fault.{Fault};
+ghost use Rattle.irs_terms.specs.declared.places.Fault.{Fault};
 ghost use Rattle.irs_base.specs.declared.rounding.Direction.TheVariants.{Nearest};
 ghost use Rattle.irs_terms.specs.Lawful.{IsLawfulStream, IsLawfulValues, IsNotional};
 ghost use Rattle.irs_terms.specs.declared.results.Exchange.{Exchange};
@@ -21,9 +21,9 @@ ghost use Rattle.irs_payments.specs.declared.exchanges.Transfer.{Transfer};
 use crate::PayErr;
 use crate::faults::fault;
 use irs_adjust::adjust_by;
-use irs_base::{Day, Dec, Direction, Elem, Fault, Rule, round};
+use irs_base::{Day, Dec, Direction, round};
 use irs_calendar::GoodDays;
-use irs_terms::{Exchange, Exchanges, Step, StepValues, Stream};
+use irs_terms::{Elem, Exchange, Exchanges, Fault, Rule, Step, StepValues, Stream};
 use std::alloc::Global;
 
 /// What the payer pays on a date, in units of 10^-4 of the currency; negative where it receives.

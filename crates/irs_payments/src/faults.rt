@@ -1,8 +1,8 @@
 //! Broken rules of a stream, with their elements and indices.
 ghost use Rattle.std.specs.Prelude.{◌≡◌, ◌<◌, ◌^◌};
-ghost use Rattle.irs_base.specs.Outcomes.{fault_at};
+ghost use Rattle.irs_terms.specs.Faults.{fault_at};
 
-use irs_base::{Elem, Fault, Rule};
+use irs_terms::{Elem, Fault, Rule};
 
 /// The rule is broken at the element; the index is that of a step, a payment or an exchange, else 0.
 pub fn fault(rule: Rule, elem: Elem, index: usize) -> Fault

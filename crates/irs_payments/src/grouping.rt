@@ -8,7 +8,8 @@
 //! anchor need not be a roll day.
 ghost use Rattle.std.specs.Prelude.{◌≡◌, ◌↔◌, ◌<◌, ◌<ℤ◌, ◌≤ℤ◌, IsTrue, IfSome, length};
 ghost use Rattle.irs_base.specs.Lists.{Member, IsRising};
-ghost use Rattle.irs_base.specs.Outcomes.{comes_before, MeetsExactly, unbroken};
+ghost use Rattle.irs_base.specs.Outcomes.{MeetsExactly, unbroken};
+ghost use Rattle.irs_terms.specs.Faults.{comes_before};
 ghost use Rattle.irs_terms.specs.TermDates.{first_day_of};
 ghost use Rattle.irs_terms.specs.Lawful.{IsLawfulStream, IsLawfulFrequency, IsLawfulRoll};
 ghost use Rattle.irs_roll.specs.Rolls.{OnGrid};
@@ -17,9 +18,9 @@ ghost use Rattle.irs_payments.specs.Payments.{BreaksGrouping};
 
 use crate::faults::fault;
 use crate::steps::has_day;
-use irs_base::{Day, Elem, Fault, Rule};
+use irs_base::Day;
 use irs_roll::{Anchor, on_grid_from};
-use irs_terms::{Frequency, RollCode, Stream, Unit};
+use irs_terms::{Elem, Fault, Frequency, RollCode, Rule, Stream, Unit};
 
 /// The anchor of the payment grid.
 pub fn payment_anchor(s: &Stream, boundaries: &[Day]) -> Anchor

@@ -1,10 +1,11 @@
 //! The payments of a stream in order. A rule that is broken by any of them is K33 before K38, and
 //! under each the first payment.
 ghost use Rattle.std.specs.Prelude.{◌≡◌, ◌+◌, ◌-◌, ◌^◌, ◌<◌, ◌<ℤ◌, List, length, IfOk, Err};
-ghost use Rattle.irs_base.specs.Elements.{payment_dates};
-ghost use Rattle.irs_base.specs.declared.places.Rule.TheVariants.{K33};
-ghost use Rattle.irs_base.specs.declared.places.Fault.{Fault};
-ghost use Rattle.irs_base.specs.Outcomes.{fault_at, IfBroken, Determined, IfMemory, Meets};
+ghost use Rattle.irs_terms.specs.Elements.{payment_dates};
+ghost use Rattle.irs_terms.specs.declared.places.Rule.TheVariants.{K33};
+ghost use Rattle.irs_terms.specs.declared.places.Fault.{Fault};
+ghost use Rattle.irs_base.specs.Outcomes.{IfBroken, Determined, IfMemory, Meets};
+ghost use Rattle.irs_terms.specs.Faults.{fault_at};
 ghost use Rattle.irs_terms.specs.TermDates.{first_day_of};
 ghost use Rattle.irs_terms.specs.Lawful.{IsLawfulStream};
 ghost use Rattle.irs_payments.specs.Payments.{BreaksGrouping, payments_of, ArePayments, Covers};
@@ -19,9 +20,9 @@ use crate::dating::pay_place;
 use crate::faults::fault;
 use crate::grouping::check_grouping;
 use irs_adjust::{NoDate, move_and_adjust};
-use irs_base::{Day, DayList, Elem, Rule};
+use irs_base::{Day, DayList};
 use irs_calendar::GoodDays;
-use irs_terms::{Payment, Payments, Span, Stream};
+use irs_terms::{Elem, Payment, Payments, Rule, Span, Stream};
 use std::alloc::Global;
 
 // Payment j, from the places at which payment periods end.

@@ -2,15 +2,16 @@
 //! of a calculation period (K36). It is our rule: the amount of a period then has one value of each.
 ghost use Rattle.std.specs.Prelude.{◌↔◌, ◌≤◌, IsTrue, length};
 ghost use Rattle.irs_base.specs.Lists.{Member, IsRising};
-ghost use Rattle.irs_base.specs.Outcomes.{comes_before, Determined, MeetsExactly, unbroken};
+ghost use Rattle.irs_base.specs.Outcomes.{Determined, MeetsExactly, unbroken};
+ghost use Rattle.irs_terms.specs.Faults.{comes_before};
 ghost use Rattle.irs_terms.specs.Lawful.{IsLawfulStream, IsLawfulLeg};
 ghost use Rattle.irs_base.specs.Limits.{most_steps};
 ghost use Rattle.irs_payments.specs.Payments.{steps_of};
 ghost use Rattle.irs_payments.specs.Exchanges.{BreaksUnder, BreaksRateSteps};
 
 use crate::faults::fault;
-use irs_base::{Day, DayList, Elem, Fault, Rule};
-use irs_terms::{Leg, Step, Stream};
+use irs_base::{Day, DayList};
+use irs_terms::{Elem, Fault, Leg, Rule, Step, Stream};
 
 /// Whether the day is in the rising list.
 pub fn has_day(days: &[Day], d: Day) -> bool

@@ -5,10 +5,11 @@ use Rattle.jiff_core.proofs.SignedLemmas.{signed_arith}
 use Rattle.irs_base.specs.declared.stopped.Stopped.{Stopped}
 use Rattle.std.proofs.lemmas.Bool.{cases_lt}
 use Rattle.irs_base.specs.Lists.{AreDays, AllAfter, IsRising, day_at}
-use Rattle.irs_base.specs.Outcomes.{First, comes_before}
+use Rattle.irs_base.specs.Outcomes.{First}
+use Rattle.irs_terms.specs.Faults.{comes_before}
 use Rattle.irs_base.specs.Private.Order.{IsDecided}
-use Rattle.irs_base.specs.declared.places.Fault.{Fault}
-use Rattle.irs_base.proofs.FaultOrder.{one_fault}
+use Rattle.irs_terms.specs.declared.places.Fault.{Fault}
+use Rattle.irs_terms.proofs.FaultOrder.{one_fault}
 use Rattle.irs_terms.specs.declared.stream.Stream.{Stream}
 use Rattle.irs_adjust.proofs.FoundDays.{InRange, IsFound, decides_adjusts, decides_le}
 use Rattle.irs_periods.specs.Boundaries.{AdjustedList, AdjustsAt, BoundaryDays, BreaksAdjusted, DoesNotRise}

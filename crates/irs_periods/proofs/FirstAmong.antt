@@ -1,10 +1,11 @@
 -- Of faults that are decided up to a limit, one is the first, or there is none.
 use Rattle.std.proofs.Common.{◌≡◌, ◌⊎◌, inl, inr, ℕ, zero, suc, ◌<◌, Option, Some, None, refl, subst, arith}
 use Rattle.std.proofs.lemmas.Bool.{cases_lt}
-use Rattle.irs_base.specs.Outcomes.{First, IsFirst, comes_before, earlier}
+use Rattle.irs_base.specs.Outcomes.{First, IsFirst, earlier}
+use Rattle.irs_terms.specs.Faults.{comes_before}
 use Rattle.irs_base.specs.Private.Order.{IsDecided}
-use Rattle.irs_base.specs.declared.places.Fault.{Fault}
-use Rattle.irs_base.proofs.FaultOrder.{fault_order}
+use Rattle.irs_terms.specs.declared.places.Fault.{Fault}
+use Rattle.irs_terms.proofs.FaultOrder.{fault_order}
 use Rattle.irs_base.proofs.Firsts.{first_one, first_or, first_same}
 
 -- f is the fault of one of the numbers below n that have P

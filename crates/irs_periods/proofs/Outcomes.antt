@@ -1,7 +1,8 @@
 -- Each call of this crate has one outcome.
 use Rattle.std.proofs.Common.{List, [], ◌∷◌, ℤ, arith}
 use Rattle.irs_base.specs.Lists.{AreDays}
-use Rattle.irs_base.specs.Outcomes.{comes_before, Determined}
+use Rattle.irs_base.specs.Outcomes.{Determined}
+use Rattle.irs_terms.specs.Faults.{comes_before}
 use Rattle.irs_base.proofs.Outcomes.{unless_broken_determined}
 use Rattle.irs_terms.specs.Lawful.{IsLawfulStream}
 use Rattle.irs_terms.specs.TermDates.{first_day_of, IsWholeTerm, DatesInOrder, termination_of}

@@ -2,9 +2,10 @@
 use Rattle.std.proofs.Common.{◌≡◌, ◌⊎◌, inl, inr, ◌+◌, ◌≤◌, List, length, ℤ, refl, ap, arith}
 use Rattle.std.proofs.lemmas.Bool.{cases_lt}
 use Rattle.irs_base.specs.Limits.{most_periods}
-use Rattle.irs_base.specs.Outcomes.{First, comes_before}
-use Rattle.irs_base.specs.declared.places.Fault.{Fault}
-use Rattle.irs_base.proofs.FaultOrder.{fault_order, one_fault}
+use Rattle.irs_base.specs.Outcomes.{First}
+use Rattle.irs_terms.specs.Faults.{comes_before}
+use Rattle.irs_terms.specs.declared.places.Fault.{Fault}
+use Rattle.irs_terms.proofs.FaultOrder.{fault_order, one_fault}
 use Rattle.irs_base.proofs.Firsts.{first_one}
 use Rattle.irs_terms.specs.Lawful.{IsLawfulStream}
 use Rattle.irs_terms.specs.TermDates.{DatesInOrder}

@@ -1,10 +1,11 @@
 -- K30 or K31 is the first rule that the span of a stream breaks, or it breaks none.
 use Rattle.std.proofs.Common.{◌≡◌, ◌⊎◌, inl, inr, ⊎_elim, false, refl, sym, subst}
 use Rattle.irs_base.specs.Days.{IsDay}
-use Rattle.irs_base.specs.Outcomes.{First, comes_before}
+use Rattle.irs_base.specs.Outcomes.{First}
+use Rattle.irs_terms.specs.Faults.{comes_before}
 use Rattle.irs_base.specs.Private.Order.{IsDecided}
-use Rattle.irs_base.specs.declared.places.Fault.{Fault}
-use Rattle.irs_base.proofs.FaultOrder.{fault_order, one_fault}
+use Rattle.irs_terms.specs.declared.places.Fault.{Fault}
+use Rattle.irs_terms.proofs.FaultOrder.{fault_order, one_fault}
 use Rattle.irs_terms.specs.Lawful.{IsLawfulStream}
 use Rattle.irs_terms.specs.TermDates.{IsWholeTerm, DatesInOrder}
 use Rattle.irs_terms.specs.declared.results.Span.{Span}

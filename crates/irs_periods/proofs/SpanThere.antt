@@ -3,7 +3,7 @@
 use Rattle.std.proofs.Common.{◌≡◌, inl, inr, Bool, Option, Some, None, unwrap_or, ℤ, ◌≤ℤ◌, ◌<ℤ◌, refl, sym, subst, arith}
 use Rattle.jiff_core.proofs.SignedLemmas.{signed_arith}
 use Rattle.irs_base.specs.Days.{IsDay}
-use Rattle.irs_base.specs.declared.places.Fault.{Fault}
+use Rattle.irs_terms.specs.declared.places.Fault.{Fault}
 use Rattle.irs_terms.specs.Lawful.{IsLawfulStream}
 use Rattle.irs_terms.specs.declared.codes.StubKind.{StubKind}
 use Rattle.irs_terms.specs.declared.codes.StubKind.TheVariants.{ShortInitial, LongInitial, ShortFinal, LongFinal}

@@ -2,11 +2,12 @@
 use Rattle.std.specs.Prelude.{◌≡◌, ◌⊎◌, ◌+◌, ◌-◌, ◌<◌, List, length, ℤ, ◌<ℤ◌, ◌≤ℤ◌, ℕ, ◌==◌, if◌then◌else◌}
 use Rattle.irs_base.specs.Limits.{most_periods}
 use Rattle.irs_base.specs.Lists.{Lists, day_at, IsRising}
-use Rattle.irs_base.specs.Elements.{calculation_period_frequency, calculation_period_dates, termination_date}
-use Rattle.irs_base.specs.Elements.{period_dates_adjustments}
-use Rattle.irs_base.specs.declared.places.Fault.{Fault}
-use Rattle.irs_base.specs.Outcomes.{fault_at, comes_before, Spec, unless_broken}
-use Rattle.irs_base.specs.declared.places.Rule.TheVariants.{K32, K33, K34}
+use Rattle.irs_terms.specs.Elements.{calculation_period_frequency, calculation_period_dates, termination_date}
+use Rattle.irs_terms.specs.Elements.{period_dates_adjustments}
+use Rattle.irs_terms.specs.declared.places.Fault.{Fault}
+use Rattle.irs_base.specs.Outcomes.{Spec, unless_broken}
+use Rattle.irs_terms.specs.Faults.{fault_at, comes_before}
+use Rattle.irs_terms.specs.declared.places.Rule.TheVariants.{K32, K33, K34}
 use Rattle.irs_terms.specs.declared.stream.Stream.{Stream}
 use Rattle.irs_terms.specs.declared.results.Span.{Span}
 use Rattle.irs_terms.specs.TermDates.{first_day_of, termination_of, first_date_of, first_day_element}

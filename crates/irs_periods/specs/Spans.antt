@@ -1,9 +1,9 @@
 -- The regular span of a stream between its stubs, and its rules.
 use Rattle.std.specs.Prelude.{◌≡◌, ◌⊎◌, ℤ, ◌≤ℤ◌, ◌<ℤ◌, Bool, true, false, Option, Some, None, ℕ, unwrap_or}
-use Rattle.irs_base.specs.declared.places.Rule.TheVariants.{K30, K31}
-use Rattle.irs_base.specs.declared.places.Fault.{Fault}
-use Rattle.irs_base.specs.Outcomes.{fault_at}
-use Rattle.irs_base.specs.Elements.{termination_date, first_regular_period_start_date, last_regular_period_end_date}
+use Rattle.irs_terms.specs.declared.places.Rule.TheVariants.{K30, K31}
+use Rattle.irs_terms.specs.declared.places.Fault.{Fault}
+use Rattle.irs_terms.specs.Faults.{fault_at}
+use Rattle.irs_terms.specs.Elements.{termination_date, first_regular_period_start_date, last_regular_period_end_date}
 use Rattle.irs_terms.specs.declared.codes.StubKind.{StubKind}
 use Rattle.irs_terms.specs.declared.codes.StubKind.TheVariants.{ShortInitial, LongInitial, ShortFinal, LongFinal}
 use Rattle.irs_terms.specs.declared.frequency.Unit.{Unit as FrequencyUnit}

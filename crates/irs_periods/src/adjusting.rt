@@ -4,8 +4,9 @@
 //! `calculationPeriodDatesAdjustments`; 2006 ISDA Definitions, 4.10 and 4.12). That they have to
 //! rise is our rule.
 ghost use Rattle.std.specs.Prelude.{◌≡◌, ◌<◌, ◌≤◌, ◌^◌, ℕ, ℤ, length, IfSome, IfNone};
-ghost use Rattle.irs_base.specs.Outcomes.{fault_at, Determined, IfMemory, Meets};
-ghost use Rattle.irs_base.specs.declared.places.Rule.TheVariants.{K33};
+ghost use Rattle.irs_base.specs.Outcomes.{Determined, IfMemory, Meets};
+ghost use Rattle.irs_terms.specs.Faults.{fault_at};
+ghost use Rattle.irs_terms.specs.declared.places.Rule.TheVariants.{K33};
 ghost use Rattle.irs_terms.specs.TermDates.{DatesInOrder};
 ghost use Rattle.irs_terms.specs.declared.results.Span.{Span};
 ghost use Rattle.irs_periods.specs.Boundaries.{AdjustedList, AdjustsAt, MissesResult, NotAfter, boundary_days_by};
@@ -16,9 +17,9 @@ ghost use Rattle.irs_periods.specs.Private.Spans.{EachLaterHasResult};
 use crate::PerErr;
 use crate::span::first_day_elem;
 use irs_adjust::adjust_by;
-use irs_base::{Day, DayList, Elem, Fault, Rule};
+use irs_base::{Day, DayList};
 use irs_calendar::GoodDays;
-use irs_terms::Stream;
+use irs_terms::{Elem, Fault, Rule, Stream};
 use std::alloc::Global;
 
 /// The adjusted boundaries of a stream. The condition is that `unadjusted` are the stream's

@@ -18,9 +18,9 @@ ghost use Rattle.irs_periods.specs.Spans.{SpanKept, Regular};
 
 use crate::PerErr;
 use crate::span::is_whole_term;
-use irs_base::{Day, DayList, Elem, Fault, MOST_PERIODS, Memory, Rule};
+use irs_base::{Day, DayList, MOST_PERIODS, Memory};
 use irs_roll::{Grid, StreamGrid};
-use irs_terms::{Span, Stream};
+use irs_terms::{Elem, Fault, Rule, Span, Stream};
 use std::alloc::Global;
 
 /// The unadjusted boundaries of a stream, in order: with n periods the n + 1 days at which they

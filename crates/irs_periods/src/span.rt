@@ -26,9 +26,9 @@ ghost use Rattle.irs_periods.specs.Spans.{anchor_element, last_element, last_off
 ghost use Rattle.irs_periods.specs.Private.Spans.{GivenSpanOf};
 
 use crate::nearest::{Way, long_end, short_end};
-use irs_base::{Day, Elem, Fault, Rule};
+use irs_base::Day;
 use irs_roll::{Grid, StreamGrid, fits};
-use irs_terms::{Frequency, Span, Stream, StubKind, Unit};
+use irs_terms::{Elem, Fault, Frequency, Rule, Span, Stream, StubKind, Unit};
 
 /// The regular span of a stream. The conditions are that its dates are in order (K13) and that its
 /// frequency and roll suit each other (K14).

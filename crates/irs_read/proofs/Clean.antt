@@ -1,6 +1,6 @@
 -- What holds of a value that breaks no rule at its row.
-use Rattle.irs_base.specs.declared.places.Rule.TheVariants.{K2, K3, K5, K6, K7}
-use Rattle.irs_base.specs.declared.places.{Broken.Broken, Rule.Rule}
+use Rattle.irs_terms.specs.declared.places.Rule.TheVariants.{K2, K3, K5, K6, K7}
+use Rattle.irs_terms.specs.declared.places.{Broken.Broken, Rule.Rule}
 use Rattle.irs_elements.proofs.Exact.{both_true}
 use Rattle.irs_elements.proofs.Steps.{choice_kept}
 use Rattle.irs_elements.specs.Elements.{FaultAt, FaultUnder, IsMemberRow, absent_index, index_in, is_chosen, inside}

@@ -1,7 +1,7 @@
 -- The first rule that is broken among the values of a list, and by the streams of a swap.
-use Rattle.irs_base.specs.Elements.{swap_stream}
-use Rattle.irs_base.specs.declared.places.Broken.{Broken}
-use Rattle.irs_base.specs.declared.places.Rule.TheVariants.{K2, K7}
+use Rattle.irs_terms.specs.Elements.{swap_stream}
+use Rattle.irs_terms.specs.declared.places.Broken.{Broken}
+use Rattle.irs_terms.specs.declared.places.Rule.TheVariants.{K2, K7}
 use Rattle.irs_elements.proofs.First.{Below, first_is, first_more, first_one, first_or, first_same}
 use Rattle.irs_json.specs.Leaves.{element_names}
 use Rattle.irs_read.specs.Documents.{Among, FaultOfStreams, WithMembers, in_stream, many_streams, no_stream, outside}
@@ -15,7 +15,7 @@ use Rattle.std.proofs.lemmas.Bool.{cases_lt}
 use Rattle.std.proofs.lemmas.List.{length-map}
 use Rattle.std.proofs.lemmas.Option.{slice_get_read, slice_get_within, slice_get-map}
 use Rattle.std.specs.Prelude.{slice_get, is_some}
-use Rattle.irs_base.specs.Outcomes.{IsFirstBroken, earlier_broken}
+use Rattle.irs_terms.specs.Faults.{IsFirstBroken, earlier_broken}
 
 module _ (P : ℕ → Data → Broken → Type 0) where
   -- the rules that the value at a place breaks

@@ -1,5 +1,5 @@
 -- Of each value it is true that it means a swap or breaks a rule of its elements.
-use Rattle.irs_base.specs.declared.places.Broken.{Broken}
+use Rattle.irs_terms.specs.declared.places.Broken.{Broken}
 use Rattle.irs_read.proofs.LawfulSwaps.{document_means, document_tells}
 use Rattle.irs_read.specs.Documents.{DocumentFault, Means, Way, ended, the_swap}
 use Rattle.irs_terms.specs.declared.stream_list.Swap.{Swap}

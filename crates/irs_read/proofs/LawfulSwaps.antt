@@ -1,7 +1,7 @@
 -- A document that breaks no rule means one swap, and that one is lawful.
 use Rattle.irs_base.specs.Lists.{Pairs}
-use Rattle.irs_base.specs.declared.places.Broken.{Broken}
-use Rattle.irs_base.specs.declared.places.Rule.TheVariants.{K3}
+use Rattle.irs_terms.specs.declared.places.Broken.{Broken}
+use Rattle.irs_terms.specs.declared.places.Rule.TheVariants.{K3}
 use Rattle.irs_elements.specs.Elements.{own, place}
 use Rattle.irs_json.specs.Leaves.{element_names}
 use Rattle.irs_read.proofs.Clean.{clean_from}

@@ -2,9 +2,10 @@
 use Rattle.std.proofs.Common.{◌≡◌, Result, Ok, Err, sym, ap, subst, ◌∙◌}
 use Rattle.std.specs.Borrow.{Bor}
 use Rattle.std.specs.Prelude.{IfErr, IfOk}
-use Rattle.irs_base.specs.Outcomes.{First, is_before, Determined, answered, refused}
-use Rattle.irs_base.specs.declared.places.Broken.{Broken}
-use Rattle.irs_base.proofs.FaultOrder.{broken_ties}
+use Rattle.irs_base.specs.Outcomes.{First, Determined, answered, refused}
+use Rattle.irs_terms.specs.Faults.{is_before}
+use Rattle.irs_terms.specs.declared.places.Broken.{Broken}
+use Rattle.irs_terms.proofs.FaultOrder.{broken_ties}
 use Rattle.irs_base.proofs.Firsts.{one_first}
 use Rattle.irs_read.proofs.LawfulSwaps.{document_means, document_tells}
 use Rattle.irs_read.specs.Documents.{DocumentFault, Way, the_swap, swap_of_document, Means}

@@ -1,7 +1,7 @@
 -- The code's tables are those of the specification.
-use Rattle.irs_base.specs.Outcomes.{IsFirstBroken}
-use Rattle.irs_base.specs.Paths.{paths, printed_paths}
-use Rattle.irs_base.specs.declared.places.Broken.{Broken}
+use Rattle.irs_terms.specs.Faults.{IsFirstBroken}
+use Rattle.irs_terms.specs.Paths.{paths, printed_paths}
+use Rattle.irs_terms.specs.declared.places.Broken.{Broken}
 use Rattle.irs_elements.specs.Elements.{FaultAt}
 use Rattle.irs_elements.specs.Lines.{Line}
 use Rattle.irs_elements.specs.declared.table.{Kind.Kind, Row.Row}

@@ -1,10 +1,11 @@
 -- A document: the way to its swap, the swap that it spells, and the rules that it breaks.
-use Rattle.irs_base.specs.Elements.{calculation_period_dates, cashflows, swap_stream, document, swap}
+use Rattle.irs_terms.specs.Elements.{calculation_period_dates, cashflows, swap_stream, document, swap}
 use Rattle.irs_base.specs.Limits.{most_streams}
-use Rattle.irs_base.specs.Outcomes.{First, is_before, Spec}
-use Rattle.irs_base.specs.Paths.{printed_paths}
-use Rattle.irs_base.specs.declared.places.Rule.TheVariants.{K2, K7, K3}
-use Rattle.irs_base.specs.declared.places.{Broken.Broken, Rule.Rule}
+use Rattle.irs_base.specs.Outcomes.{First, Spec}
+use Rattle.irs_terms.specs.Faults.{is_before}
+use Rattle.irs_terms.specs.Paths.{printed_paths}
+use Rattle.irs_terms.specs.declared.places.Rule.TheVariants.{K2, K7, K3}
+use Rattle.irs_terms.specs.declared.places.{Broken.Broken, Rule.Rule}
 use Rattle.irs_elements.specs.Elements.{FaultAt, values_in, IsMemberRow, is_chosen, is_element, is_required, name_at}
 use Rattle.irs_elements.specs.Elements.{once, leaf_text_in}
 use Rattle.irs_elements.specs.Leaves.{has_value}

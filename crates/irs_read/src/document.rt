@@ -7,13 +7,14 @@ ghost use Rattle.irs_read.specs.Documents.{swap_below as swap_below_of, the_swap
 ghost use Rattle.irs_read.specs.Documents.{trade_below as trade_below_of, way_seen};
 ghost use Rattle.serde_json.specs.View.{view};
 ghost use Rattle.std.specs.Prelude.{◌≡◌, IfErr, IfOk, Ok, map};
-ghost use Rattle.irs_base.specs.Outcomes.{First, IsFirstBroken, is_before};
-ghost use Rattle.irs_base.specs.declared.places.Broken.{Broken as BrokenRule};
+ghost use Rattle.irs_base.specs.Outcomes.{First};
+ghost use Rattle.irs_terms.specs.Faults.{IsFirstBroken, is_before};
+ghost use Rattle.irs_terms.specs.declared.places.Broken.{Broken as BrokenRule};
 
 use crate::swap::{first_in_swap, outside};
-use irs_base::{Broken, Elem, Rule};
 use irs_elements::values_at;
 use irs_json::{Value, child, members};
+use irs_terms::{Broken, Elem, Rule};
 
 // An element on the way to the swap occurs once and is an object.
 fn one_object(list: &[Value]) -> Result<&Value, Broken>

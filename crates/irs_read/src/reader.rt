@@ -1,6 +1,7 @@
 //! Reading a trade's document: the swap that it spells, or the first rule that it breaks.
-ghost use Rattle.irs_base.specs.Outcomes.{IfBroken, First, is_before, Determined, IfMemory};
-ghost use Rattle.irs_base.specs.declared.places.Broken.{Broken as BrokenRule};
+ghost use Rattle.irs_base.specs.Outcomes.{IfBroken, First, Determined, IfMemory};
+ghost use Rattle.irs_terms.specs.Faults.{is_before};
+ghost use Rattle.irs_terms.specs.declared.places.Broken.{Broken as BrokenRule};
 ghost use Rattle.irs_read.specs.Documents.{DocumentFault, swap_of_document, Means, EachStated};
 ghost use Rattle.irs_terms.specs.Lawful.{IsLawfulSwap};
 ghost use Rattle.irs_terms.specs.declared.stream_list.Swap.{Swap as MeantSwap};
@@ -10,9 +11,9 @@ ghost use Rattle.std.specs.Prelude.{IfOk};
 
 use crate::document::clean_swap;
 use crate::stream::swap_of;
-use irs_base::{Broken, Stopped};
+use irs_base::Stopped;
 use irs_json::Value;
-use irs_terms::Swap;
+use irs_terms::{Broken, Swap};
 use std::alloc::Global;
 
 /// Why a document gave no swap. It breaks a rule of K2 to K7, and this is the first in the order of

@@ -3,12 +3,13 @@ ghost use Rattle.irs_read.specs.Documents.{Among, StreamFault, StreamsFault, Swa
 ghost use Rattle.irs_base.specs.Limits.{most_streams};
 ghost use Rattle.serde_json.specs.View.{view};
 ghost use Rattle.std.specs.Prelude.{◌≡◌, ◌≤◌, length, map};
-ghost use Rattle.irs_base.specs.Outcomes.{IsFirstBroken};
+ghost use Rattle.irs_terms.specs.Faults.{IsFirstBroken};
 
 use crate::table::{ENDS, NAMES, ROWS, STREAM, SWAP, SWAP_ENDS, SWAP_NAMES, SWAP_ROWS};
-use irs_base::{Broken, Elem, MOST_STREAMS, Place, Rule};
+use irs_base::MOST_STREAMS;
 use irs_elements::{Table, earlier, first_fault, values_at};
 use irs_json::{Value, members};
+use irs_terms::{Broken, Elem, Place, Rule};
 
 /// A rule that is broken outside the streams.
 pub fn outside(rule: Rule, elem: Elem) -> Broken

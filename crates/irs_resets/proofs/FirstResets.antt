@@ -3,10 +3,11 @@
 use Rattle.std.proofs.Common.{◌≡◌, inl, inr, ℕ, ◌<◌, false, Option, Some, None, refl, sym, subst, ◌∙◌, arith}
 use Rattle.std.specs.Prelude.{nat_lt}
 use Rattle.std.proofs.lemmas.Bool.{cases_order}
-use Rattle.irs_base.specs.declared.places.Rule.TheVariants.{K37}
-use Rattle.irs_base.specs.declared.places.Fault.{Fault}
-use Rattle.irs_base.specs.Elements.{initial_stub, final_stub}
-use Rattle.irs_base.specs.Outcomes.{fault_at, First, IsFirst, level, comes_before}
+use Rattle.irs_terms.specs.declared.places.Rule.TheVariants.{K37}
+use Rattle.irs_terms.specs.declared.places.Fault.{Fault}
+use Rattle.irs_terms.specs.Elements.{initial_stub, final_stub}
+use Rattle.irs_base.specs.Outcomes.{First, IsFirst, level}
+use Rattle.irs_terms.specs.Faults.{fault_at, comes_before}
 use Rattle.irs_base.proofs.Firsts.{level_same, level_later}
 use Rattle.irs_terms.specs.declared.dates.ResetTerms.{ResetTerms}
 use Rattle.irs_terms.specs.declared.stream.Stream.{Stream}

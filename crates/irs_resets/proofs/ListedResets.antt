@@ -2,8 +2,9 @@
 use Rattle.std.proofs.Common.{is_some, false, true≢false, ◌≡◌, inl, inr, ◌+◌, ◌<◌, List, length, Option}
 use Rattle.std.proofs.Common.{Some, None, subst, arith}
 use Rattle.irs_base.proofs.MemberLemmas.{numbered_has}
-use Rattle.irs_base.specs.Outcomes.{IsFirst, comes_before}
-use Rattle.irs_base.specs.declared.places.Fault.{Fault}
+use Rattle.irs_base.specs.Outcomes.{IsFirst}
+use Rattle.irs_terms.specs.Faults.{comes_before}
+use Rattle.irs_terms.specs.declared.places.Fault.{Fault}
 use Rattle.irs_terms.specs.declared.amounts.FloatTerms.{FloatTerms}
 use Rattle.irs_terms.specs.declared.dates.ResetTerms.{ResetTerms}
 use Rattle.irs_terms.specs.declared.results.Reset.{Reset}

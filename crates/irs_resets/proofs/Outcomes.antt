@@ -1,7 +1,8 @@
 -- Each call of this crate has one outcome.
 use Rattle.std.proofs.Common.{inl, inr}
-use Rattle.irs_base.specs.Outcomes.{comes_before, Determined, Spec, ◌>>=◌, answered, refused}
-use Rattle.irs_base.proofs.FaultOrder.{one_fault}
+use Rattle.irs_base.specs.Outcomes.{Determined, Spec, ◌>>=◌, answered, refused}
+use Rattle.irs_terms.specs.Faults.{comes_before}
+use Rattle.irs_terms.proofs.FaultOrder.{one_fault}
 use Rattle.irs_base.proofs.Outcomes.{unless_broken_determined}
 use Rattle.irs_terms.specs.Centers.{IsSaidReset}
 use Rattle.irs_terms.specs.Lawful.{FitsLeg}

@@ -5,9 +5,10 @@ use Rattle.std.specs.Prelude.{nat_lt}
 use Rattle.std.proofs.lemmas.Bool.{cases_lt, cases_eq}
 use Rattle.irs_base.specs.Days.{IsDay}
 use Rattle.irs_base.specs.Lists.{AreDays}
-use Rattle.irs_base.specs.Outcomes.{First, comes_before}
+use Rattle.irs_base.specs.Outcomes.{First}
+use Rattle.irs_terms.specs.Faults.{comes_before}
 use Rattle.irs_base.specs.Private.Order.{IsDecided}
-use Rattle.irs_base.specs.declared.places.Fault.{Fault}
+use Rattle.irs_terms.specs.declared.places.Fault.{Fault}
 use Rattle.irs_base.proofs.DayListLemmas.{day_at_day}
 use Rattle.irs_base.proofs.Firsts.{lt_false}
 use Rattle.irs_terms.specs.declared.codes.Relative.{Relative}

@@ -2,10 +2,11 @@
 use Rattle.std.specs.Prelude.{◌≡◌, ℕ, ◌-◌, ◌<◌, ◌≤◌, List, length, Option, Some, None, ℤ, [], IfSome, ◌⊎◌, IsSome, ◌<ℤ◌}
 use Rattle.std.specs.Prelude.{Result, Ok, Err}
 use Rattle.irs_base.specs.Lists.{day_at, EachNumbered}
-use Rattle.irs_base.specs.declared.places.Rule.TheVariants.{K33, K37, K38}
-use Rattle.irs_base.specs.declared.places.Fault.{Fault}
-use Rattle.irs_base.specs.Elements.{reset_dates, fixing_dates, initial_stub, final_stub}
-use Rattle.irs_base.specs.Outcomes.{fault_at, Only, comes_before, Spec, unless_broken}
+use Rattle.irs_terms.specs.declared.places.Rule.TheVariants.{K33, K37, K38}
+use Rattle.irs_terms.specs.declared.places.Fault.{Fault}
+use Rattle.irs_terms.specs.Elements.{reset_dates, fixing_dates, initial_stub, final_stub}
+use Rattle.irs_base.specs.Outcomes.{Only, Spec, unless_broken}
+use Rattle.irs_terms.specs.Faults.{fault_at, comes_before}
 use Rattle.irs_terms.specs.declared.codes.Relative.{Relative}
 use Rattle.irs_terms.specs.declared.codes.Relative.TheVariants.{Start, End}
 use Rattle.irs_terms.specs.declared.dates.FixTerms.{FixTerms}

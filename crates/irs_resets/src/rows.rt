@@ -2,7 +2,8 @@
 //! 6; FpML `resetDates`).
 ghost use Rattle.std.specs.Prelude.{◌≡◌, ◌<◌, ◌^◌, ◌↔◌, Some, length, IsTrue, IfOk, IfSome, All};
 ghost use Rattle.irs_base.specs.Lists.{IsRising};
-ghost use Rattle.irs_base.specs.Outcomes.{IsFirst, comes_before, Determined, IfMemory, Meets};
+ghost use Rattle.irs_base.specs.Outcomes.{IsFirst, Determined, IfMemory, Meets};
+ghost use Rattle.irs_terms.specs.Faults.{comes_before};
 ghost use Rattle.irs_terms.specs.declared.amounts.Leg.TheVariants.{Floating as OfFloating};
 ghost use Rattle.irs_terms.specs.Centers.{IsSaidFixing, IsSaidReset};
 ghost use Rattle.irs_terms.specs.Lawful.{IsLawfulFloat, IsLawfulStubs, IsLawfulStream, FitsLeg};
@@ -13,9 +14,11 @@ ghost use Rattle.irs_resets.specs.Resets.{BreaksResetDates, BreaksResets};
 use crate::Fixings;
 use crate::dates::{DateFault, first_with, period_dates};
 use crate::observed::{observed, period_kind};
-use irs_base::{Day, DayList, Elem, Fault, Rule, Stopped};
+use irs_base::{Day, DayList, Stopped};
 use irs_calendar::GoodDays;
-use irs_terms::{FloatTerms, Leg, Reset, ResetTerms, Resets, Span, Stream, StubTerms};
+use irs_terms::{
+    Elem, Fault, FloatTerms, Leg, Reset, ResetTerms, Resets, Rule, Span, Stream, StubTerms,
+};
 use std::alloc::Global;
 
 /// Why there are no resets: the first broken rule of K37, K33 and K38, or memory ran out. The index

@@ -1,9 +1,10 @@
 -- The first rule of those that a stream breaks.
 use Rattle.std.proofs.Common.{◌≡◌, ℕ, ◌+◌, ◌<◌, Bool, false, ◌⊎◌, Option, Some, None, refl, sym, subst, arith}
 use Rattle.std.specs.Prelude.{◌↔◌, IsTrue, nat_lt}
-use Rattle.irs_base.specs.declared.places.Rule.{Rule}
-use Rattle.irs_base.specs.declared.places.Fault.{Fault}
-use Rattle.irs_base.specs.Outcomes.{rule_number, fault_at, earlier, level}
+use Rattle.irs_terms.specs.declared.places.Rule.{Rule}
+use Rattle.irs_terms.specs.declared.places.Fault.{Fault}
+use Rattle.irs_base.specs.Outcomes.{earlier, level}
+use Rattle.irs_terms.specs.Faults.{rule_number, fault_at}
 use Rattle.irs_base.proofs.Firsts.{IsOrder, rank_order, level_order, level_same, lt_false, first_or, first_same}
 use Rattle.irs_rules.specs.Private.TermsKept.{is_before_here, IsFirstHere}
 use Rattle.irs_rules.specs.TermsRules.{Breaks, BreaksItem}

@@ -2,11 +2,11 @@
 use Rattle.std.proofs.Common.{◌≡◌, inl, inr, ℕ, zero, suc, ◌+◌, ◌≤ℤ◌, ◌<ℤ◌, List, [], ◌∷◌, Option, Some, None, IfSome}
 use Rattle.std.proofs.Common.{slice_get, unwrap_or, ℤ, refl, subst}
 use Rattle.std.proofs.lemmas.Option.{slice_get_within, get_or_from_slice_get}
-use Rattle.irs_base.specs.declared.places.Rule.{Rule}
-use Rattle.irs_base.specs.declared.places.Rule.TheVariants.{K12, K13, K14, K17, K18, K19, K47}
-use Rattle.irs_base.specs.declared.places.Fault.{Fault}
-use Rattle.irs_base.specs.Elements as elements
-use Rattle.irs_base.specs.Outcomes.{fault_at, in_stream}
+use Rattle.irs_terms.specs.declared.places.Rule.{Rule}
+use Rattle.irs_terms.specs.declared.places.Rule.TheVariants.{K12, K13, K14, K17, K18, K19, K47}
+use Rattle.irs_terms.specs.declared.places.Fault.{Fault}
+use Rattle.irs_terms.specs.Elements as elements
+use Rattle.irs_terms.specs.Faults.{fault_at, in_stream}
 use Rattle.irs_base.specs.Private.Order.{IsDecided}
 use Rattle.irs_calendar.specs.declared.sections.Section.{Section}
 use Rattle.irs_calendar.specs.Sections.{first_missing}

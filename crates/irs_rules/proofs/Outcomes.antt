@@ -1,8 +1,9 @@
 -- The call of this crate has one outcome: a right one is given, and there is one at most.
 use Rattle.std.proofs.Common.{◌⊎◌, inl, inr, List, Option, Some, None}
-use Rattle.irs_base.specs.Outcomes.{is_before, Checks, Determined, First}
-use Rattle.irs_base.specs.declared.places.Broken.{Broken}
-use Rattle.irs_base.proofs.FaultOrder.{broken_ties}
+use Rattle.irs_base.specs.Outcomes.{Checks, Determined, First}
+use Rattle.irs_terms.specs.Faults.{is_before}
+use Rattle.irs_terms.specs.declared.places.Broken.{Broken}
+use Rattle.irs_terms.proofs.FaultOrder.{broken_ties}
 use Rattle.irs_base.proofs.Firsts.{one_first}
 use Rattle.irs_base.proofs.Outcomes.{unbroken_determined}
 use Rattle.irs_calendar.specs.declared.sections.Section.{Section}

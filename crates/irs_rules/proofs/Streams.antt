@@ -4,9 +4,10 @@ use Rattle.std.proofs.Common.{inl, inr}
 use Rattle.std.specs.Prelude.{slice_get}
 use Rattle.std.proofs.lemmas.Bool.{cases_order, cases_lt}
 use Rattle.std.proofs.lemmas.Option.{slice_get_within, same_Some}
-use Rattle.irs_base.specs.declared.places.Broken.{Broken}
-use Rattle.irs_base.specs.declared.places.Fault.{Fault}
-use Rattle.irs_base.specs.Outcomes.{in_stream, First, IsFirst, is_before}
+use Rattle.irs_terms.specs.declared.places.Broken.{Broken}
+use Rattle.irs_terms.specs.declared.places.Fault.{Fault}
+use Rattle.irs_base.specs.Outcomes.{First, IsFirst}
+use Rattle.irs_terms.specs.Faults.{in_stream, is_before}
 use Rattle.irs_base.proofs.Firsts.{level_same, level_later}
 use Rattle.irs_calendar.specs.declared.sections.Section.{Section}
 use Rattle.irs_terms.specs.declared.stream.Stream.{Stream}

@@ -1,12 +1,13 @@
 -- The rules of a swap's terms, K10 to K21 and K47.
 use Rattle.std.specs.Prelude.{◌≡◌, ℕ, ◌+◌, ◌⊎◌, List, IfSome, IsSomeAnd, ℤ, Some, slice_get}
-use Rattle.irs_base.specs.declared.places.Rule.{Rule}
-use Rattle.irs_base.specs.declared.places.Fault.{Fault}
-use Rattle.irs_base.specs.Outcomes.{fault_at, in_stream, is_before, Spec, unbroken}
-use Rattle.irs_base.specs.declared.places.Rule.TheVariants.{K10, K11, K12, K13, K14, K15, K16, K17, K18, K19, K20, K21}
-use Rattle.irs_base.specs.declared.places.Rule.TheVariants.{K47}
-use Rattle.irs_base.specs.declared.places.Broken.{Broken}
-use Rattle.irs_base.specs.Elements as elements
+use Rattle.irs_terms.specs.declared.places.Rule.{Rule}
+use Rattle.irs_terms.specs.declared.places.Fault.{Fault}
+use Rattle.irs_base.specs.Outcomes.{Spec, unbroken}
+use Rattle.irs_terms.specs.Faults.{fault_at, in_stream, is_before}
+use Rattle.irs_terms.specs.declared.places.Rule.TheVariants.{K10, K11, K12, K13, K14, K15, K16, K17, K18, K19, K20, K21}
+use Rattle.irs_terms.specs.declared.places.Rule.TheVariants.{K47}
+use Rattle.irs_terms.specs.declared.places.Broken.{Broken}
+use Rattle.irs_terms.specs.Elements as elements
 use Rattle.irs_terms.specs.declared.dates.PayTerms.{PayTerms}
 use Rattle.irs_terms.specs.declared.dates.ResetTerms.{ResetTerms}
 use Rattle.irs_terms.specs.declared.stream.Stream.{Stream}

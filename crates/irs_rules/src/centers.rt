@@ -1,18 +1,17 @@
 //! K11: an element that needs business days has centres. It applies to reset dates whether or not the
 //! stream floats, and to the effective date whether or not the first period starts before it.
 ghost use Rattle.std.specs.Prelude.{◌↔◌, IsTrue, IsSomeAnd};
-ghost use Rattle.irs_base.specs.Elements.{first_period_start_adjustments, fixing_dates};
-ghost use Rattle.irs_base.specs.declared.places.Rule.TheVariants.{K11};
+ghost use Rattle.irs_terms.specs.Elements.{first_period_start_adjustments, fixing_dates};
+ghost use Rattle.irs_terms.specs.declared.places.Rule.TheVariants.{K11};
 ghost use Rattle.irs_terms.specs.Centers.{FixingHasCenters, HasCenters, HasCentersBy, HasCentersFor, HasCentersWith};
 ghost use Rattle.irs_terms.specs.Centers.{StartHasCenters};
 ghost use Rattle.irs_rules.specs.Private.TermsKept.{IsFirstHere};
 ghost use Rattle.irs_rules.specs.TermsRules.{Breaks, BreaksK11, BreaksK11InResets};
 
 use crate::faults::{earlier, fault_unless};
-use irs_base::{Elem, Fault, Rule};
 use irs_terms::{
-    AdjustableDate, Adjustments, Centers, FixTerms, Offset, ResetTerms, Stream, adjusts_days,
-    counts_days,
+    AdjustableDate, Adjustments, Centers, Elem, Fault, FixTerms, Offset, ResetTerms, Rule, Stream,
+    adjusts_days, counts_days,
 };
 
 /// K11: the first adjustments of a stream that need days and have no centres.

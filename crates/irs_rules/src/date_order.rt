@@ -7,8 +7,8 @@ ghost use Rattle.irs_rules.specs.Private.TermsKept.{IsFirstHere};
 ghost use Rattle.irs_rules.specs.TermsRules.{BreaksK13};
 
 use crate::faults::{earlier, fault_unless};
-use irs_base::{Day, Elem, Fault, Rule};
-use irs_terms::Stream;
+use irs_base::Day;
+use irs_terms::{Elem, Fault, Rule, Stream};
 
 /// K13: the first date of a stream that is out of order.
 pub(crate) fn date_out_of_order(s: &Stream) -> Option<Fault>

@@ -6,8 +6,7 @@ ghost use Rattle.irs_rules.specs.Private.TermsKept.{IsFirstHere};
 ghost use Rattle.irs_rules.specs.TermsRules.{BreaksK17};
 
 use crate::faults::{earlier, fault_unless};
-use irs_base::{Elem, Fault, Rule};
-use irs_terms::{DayKind, FixTerms, Offset, Stream};
+use irs_terms::{DayKind, Elem, Fault, FixTerms, Offset, Rule, Stream};
 
 /// K17: the first offset of a stream that isn't 0 and has no `dayType`.
 pub(crate) fn offset_without_day_type(s: &Stream) -> Option<Fault>

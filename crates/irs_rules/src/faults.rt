@@ -1,11 +1,12 @@
 //! Rules that a stream breaks, and the first of several. They are ordered by rule, then by element in
 //! the order of the table of elements, then by index. The order is our rule.
 ghost use Rattle.std.specs.Prelude.{◌≡◌, ◌+◌, ◌<◌, ◌^◌, ◌||◌, ◌&&◌, ◌==◌, nat_lt, IsTrue};
-ghost use Rattle.irs_base.specs.Outcomes.{fault_at, earlier};
+ghost use Rattle.irs_base.specs.Outcomes.{earlier};
+ghost use Rattle.irs_terms.specs.Faults.{fault_at};
 ghost use Rattle.irs_rules.specs.Private.TermsKept.{is_before_here, IsFirstHere};
 ghost use Rattle.irs_rules.specs.TermsRules.{Breaks};
 
-use irs_base::{Elem, Fault, Rule};
+use irs_terms::{Elem, Fault, Rule};
 
 /// The fault of the rule at an element that isn't repeated, if the rule isn't kept.
 pub(crate) fn fault_unless(kept: bool, rule: Rule, elem: Elem) -> Option<Fault>
@@ -45,7 +46,7 @@ pub(crate) fn earlier(a: Option<Fault>, b: Option<Fault>) -> Option<Fault>
     }
 }
 
-// The order within one stream. irs_base's order of a part of a stream has another level in front.
+// The order within one stream. irs_terms's order of a part of a stream has another level in front.
 fn is_before_here(f: &Fault, g: &Fault) -> bool
     ensures { result ≡ is_before_here f.now g.now }
 {

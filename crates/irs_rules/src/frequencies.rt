@@ -12,8 +12,7 @@ ghost use Rattle.irs_rules.specs.Parameters.{IsOneDay, ResetFits};
 use crate::faults::fault_unless;
 use crate::multiples::is_multiple;
 use crate::parameters::{has_parameters, is_one_day};
-use irs_base::{Elem, Fault, Rule};
-use irs_terms::{Length, ResetTerms, Stream, Unit, suits};
+use irs_terms::{Elem, Fault, Length, ResetTerms, Rule, Stream, Unit, suits};
 
 /// K14: the calculation frequency, where the roll doesn't suit it.
 pub(crate) fn roll_misfit(s: &Stream) -> Option<Fault>

@@ -2,7 +2,7 @@
 //! element that needs none; applicable business days are always needed.
 ghost use Rattle.std.specs.Prelude.{◌≡◌, ◌≤◌, IfSome, Some, length, option_copied};
 ghost use Rattle.irs_base.specs.Limits.{most_centers};
-ghost use Rattle.irs_base.specs.declared.places.Rule.TheVariants.{K12};
+ghost use Rattle.irs_terms.specs.declared.places.Rule.TheVariants.{K12};
 ghost use Rattle.irs_terms.specs.Lawful.{IsLawfulStream, IsLawfulNames};
 ghost use Rattle.irs_rules.specs.Private.TermsKept.{IsFirstHere};
 ghost use Rattle.irs_rules.specs.TermsRules.{BreaksItem, BreaksK12};
@@ -10,9 +10,11 @@ ghost use Rattle.irs_rules.specs.Parameters.{IsFoundAt, start_names};
 
 use crate::faults::{earlier, fault_of_item};
 use crate::parameters::applicable_names;
-use irs_base::{Elem, Fault, Names, Rule};
+use irs_base::Names;
 use irs_calendar::Calendars;
-use irs_terms::{AdjustableDate, Stream, fixing_names, names_by, names_with, reset_names};
+use irs_terms::{
+    AdjustableDate, Elem, Fault, Rule, Stream, fixing_names, names_by, names_with, reset_names,
+};
 
 /// K12: the first centre of a stream that is needed and in no calendar.
 pub(crate) fn center_in_no_calendar(s: &Stream, cal: &Calendars) -> Option<Fault>

@@ -6,8 +6,7 @@ ghost use Rattle.irs_rules.specs.Private.TermsKept.{IsFirstHere};
 ghost use Rattle.irs_rules.specs.TermsRules.{BreaksK19, BreaksK21};
 
 use crate::faults::{earlier, fault_unless};
-use irs_base::{Elem, Fault, Rule};
-use irs_terms::{CompCode, Leg, ResetTerms, Stream, StubTerms, Treatment};
+use irs_terms::{CompCode, Elem, Fault, Leg, ResetTerms, Rule, Stream, StubTerms, Treatment};
 
 /// K19: the first element that doesn't go with the rate of a stream, or that it lacks.
 pub(crate) fn element_of_other_leg(s: &Stream) -> Option<Fault>

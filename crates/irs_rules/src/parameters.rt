@@ -9,10 +9,10 @@ ghost use Rattle.irs_rules.specs.Parameters.{InitialStubFits, IsStubNumber, IsOn
 ghost use Rattle.irs_rules.specs.Parameters.{centers_of};
 
 use crate::faults::{earlier, fault_unless};
-use irs_base::{Elem, Fault, Names, Rule};
+use irs_base::Names;
 use irs_terms::{
-    CalculationMethod, CalculationParameters, DayCountCode, Frequency, Leg, Stream, StubRate,
-    StubTerms, Unit,
+    CalculationMethod, CalculationParameters, DayCountCode, Elem, Fault, Frequency, Leg, Rule,
+    Stream, StubRate, StubTerms, Unit,
 };
 
 /// The centres that give the applicable business days (FpML `applicableBusinessDays`); `None` exactly

@@ -10,8 +10,8 @@ ghost use Rattle.irs_rules.specs.TermsRules.{BreaksK16};
 
 use crate::faults::{earlier, fault_unless};
 use crate::multiples::is_larger_multiple;
-use irs_base::{Day, Elem, Fault, Rule};
-use irs_terms::{Length, PayTerms, Relative, Stream, StubKind, Unit};
+use irs_base::Day;
+use irs_terms::{Elem, Fault, Length, PayTerms, Relative, Rule, Stream, StubKind, Unit};
 
 /// K16: the first of the two regular payment dates that may not be there, or the first one where it
 /// is needed and absent.

@@ -1,19 +1,18 @@
 //! K10: a reference names its target, and a `businessCentersReference` exactly one list of centres
 //! of the swap. The rule applies even if no business days are needed.
 ghost use Rattle.std.specs.Prelude.{◌↔◌, IsTrue, IfSome, IsSomeAnd};
-ghost use Rattle.irs_base.specs.Elements.{first_period_start_centers_reference, fixing_dates_centers_reference};
-ghost use Rattle.irs_base.specs.Elements.{stub_amount_reference};
-ghost use Rattle.irs_base.specs.declared.places.Rule.TheVariants.{K10};
+ghost use Rattle.irs_terms.specs.Elements.{first_period_start_centers_reference, fixing_dates_centers_reference};
+ghost use Rattle.irs_terms.specs.Elements.{stub_amount_reference};
+ghost use Rattle.irs_terms.specs.declared.places.Rule.TheVariants.{K10};
 ghost use Rattle.irs_terms.specs.Centers.{FixingNamesOneList, NamesOneList, NamesTarget, StartNamesOneList};
 ghost use Rattle.irs_rules.specs.Private.TermsKept.{IsFirstHere};
 ghost use Rattle.irs_rules.specs.TermsRules.{Breaks, BreaksK10, BreaksK10InPeriods, BreaksK10InPayments};
 ghost use Rattle.irs_rules.specs.TermsRules.{BreaksK10InResets};
 
 use crate::faults::{earlier, fault_unless};
-use irs_base::{Elem, Fault, Rule};
 use irs_terms::{
-    AdjustableDate, Adjustments, Centers, FixTerms, PayTerms, RefState, ResetTerms, Stream,
-    StubTerms,
+    AdjustableDate, Adjustments, Centers, Elem, Fault, FixTerms, PayTerms, RefState, ResetTerms,
+    Rule, Stream, StubTerms,
 };
 
 /// K10: the first reference of a stream that names no target, or more than one list of centres.

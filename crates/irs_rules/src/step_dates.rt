@@ -2,15 +2,15 @@
 //! strictly between the effective and the termination date, wherever the first period starts.
 ghost use Rattle.std.specs.Prelude.{◌<◌, ◌≤◌, ◌<ℤ◌, ◌↔◌, IsTrue, IfSome, length};
 ghost use Rattle.irs_base.specs.Limits.{most_steps};
-ghost use Rattle.irs_base.specs.declared.places.Rule.TheVariants.{K18};
+ghost use Rattle.irs_terms.specs.declared.places.Rule.TheVariants.{K18};
 ghost use Rattle.irs_terms.specs.Lawful.{IsLawfulStream, IsLawfulLeg};
 ghost use Rattle.irs_terms.specs.TermDates.{IsStepInside, StepStands, step_before};
 ghost use Rattle.irs_rules.specs.Private.TermsKept.{IsFirstHere};
 ghost use Rattle.irs_rules.specs.TermsRules.{BreaksItem, BreaksK18, BreaksK18InLeg};
 
 use crate::faults::{earlier, fault_of_item};
-use irs_base::{Day, Elem, Fault, Rule};
-use irs_terms::{Leg, Step, StepValues, Stream};
+use irs_base::Day;
+use irs_terms::{Elem, Fault, Leg, Rule, Step, StepValues, Stream};
 
 /// K18: the first step of a stream whose date is out of order or outside the term.
 pub(crate) fn step_out_of_order(s: &Stream) -> Option<Fault>

@@ -16,9 +16,8 @@ use crate::parameters::parameters_misfit;
 use crate::payment_dates::payment_date_misfit;
 use crate::references::dangling_reference;
 use crate::step_dates::step_out_of_order;
-use irs_base::{Broken, Fault};
 use irs_calendar::Calendars;
-use irs_terms::{Stream, Swap};
+use irs_terms::{Broken, Fault, Stream, Swap};
 
 /// The first of K10 to K21 and K47 that a lawful swap breaks, in the order of stream, rule, element and
 /// index. `None` is returned exactly if it breaks none.

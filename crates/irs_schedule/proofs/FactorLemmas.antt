@@ -2,13 +2,14 @@
 use Rattle.std.proofs.Common.{◌≡◌, ◌⊎◌, inl, inr, ℕ, zero, suc, ◌+◌, ◌<◌, List, [], ◌∷◌, Some, None, Bool, true, false}
 use Rattle.std.proofs.Common.{refl, sym, subst, ap, arith}
 use Rattle.std.specs.Prelude.{Result, Ok, Err, if◌then◌else◌}
-use Rattle.irs_base.specs.Elements.{calculation_period_amount}
-use Rattle.irs_base.specs.Outcomes.{IfStopped, First, IsFirst, Only, comes_before, Determined, Meets, Spec, answered}
+use Rattle.irs_terms.specs.Elements.{calculation_period_amount}
+use Rattle.irs_base.specs.Outcomes.{IfStopped, First, IsFirst, Only, Determined, Meets, Spec, answered}
+use Rattle.irs_terms.specs.Faults.{comes_before}
 use Rattle.irs_base.specs.Outcomes.{refused}
-use Rattle.irs_base.specs.declared.places.Fault.{Fault}
+use Rattle.irs_terms.specs.declared.places.Fault.{Fault}
 use Rattle.irs_base.specs.declared.stopped.Stopped.{Stopped}
 use Rattle.irs_base.specs.declared.stopped.Stopped.TheVariants.{Broken, Memory}
-use Rattle.irs_base.proofs.FaultOrder.{fault_order, one_fault}
+use Rattle.irs_terms.proofs.FaultOrder.{fault_order, one_fault}
 use Rattle.irs_base.proofs.Firsts.{first_one, first_or, level_same, lt_false}
 use Rattle.irs_base.proofs.Outcomes.{answered_free, one_refusal}
 use Rattle.irs_observed.specs.declared.overnight_rate.OvernightRate.{OvernightRate}

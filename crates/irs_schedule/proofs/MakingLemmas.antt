@@ -2,9 +2,10 @@
 use Rattle.std.proofs.Common.{◌≡◌, ℕ, ◌+◌, ◌≤◌, List, [], ◌∷◌, ◌++◌, length, length-append, take, Some, refl, ap, ◌∙◌, arith, subst}
 use Rattle.std.specs.Prelude.{slice_get}
 use Rattle.std.proofs.lemmas.List.{take_all}
-use Rattle.irs_base.specs.Outcomes.{in_stream, Spec, each_in_turn, refused_as}
+use Rattle.irs_base.specs.Outcomes.{Spec, each_in_turn, refused_as}
+use Rattle.irs_terms.specs.Faults.{in_stream}
 use Rattle.irs_base.specs.Lists.{Every}
-use Rattle.irs_base.specs.declared.places.Broken.{Broken}
+use Rattle.irs_terms.specs.declared.places.Broken.{Broken}
 use Rattle.irs_base.proofs.EveryLemmas.{every_both}
 use Rattle.irs_base.proofs.Outcomes.{each_begins, each_ends, each_goes_on}
 use Rattle.irs_terms.specs.declared.stream.Stream.{Stream}

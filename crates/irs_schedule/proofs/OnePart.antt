@@ -2,9 +2,10 @@
 use Rattle.std.proofs.Common.{◌≡◌, ℕ, zero, suc, ◌+◌, ◌-◌, ◌∙◌, List, [], ◌∷◌, length, map, Some, refl, sym, ap, subst, arith}
 use Rattle.std.specs.Prelude.{Result, Ok, Err, IfOk, slice_get}
 use Rattle.std.proofs.lemmas.Option.{same_Some, slice_get_within}
-use Rattle.irs_base.specs.Outcomes.{in_stream, Determined, Meets, Spec, each_in_turn, refused_as}
+use Rattle.irs_base.specs.Outcomes.{Determined, Meets, Spec, each_in_turn, refused_as}
+use Rattle.irs_terms.specs.Faults.{in_stream}
 use Rattle.irs_base.specs.Lists.{EachNumbered, Every, Pairs}
-use Rattle.irs_base.specs.declared.places.Broken.{Broken}
+use Rattle.irs_terms.specs.declared.places.Broken.{Broken}
 use Rattle.irs_base.specs.declared.stopped.Stopped.{Stopped}
 use Rattle.irs_base.proofs.CoverLemmas.{covers_each}
 use Rattle.irs_base.proofs.EveryLemmas.{one_partners}

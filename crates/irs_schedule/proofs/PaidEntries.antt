@@ -5,7 +5,7 @@ use Rattle.std.specs.Prelude.{slice_get}
 use Rattle.std.proofs.lemmas.List.{take_all}
 use Rattle.irs_base.specs.Lists.{AreDays, IsRising, Every}
 use Rattle.irs_base.specs.Outcomes.{Determined, Spec, each_in_turn, given_by, refused_as}
-use Rattle.irs_base.specs.declared.places.Fault.{Fault}
+use Rattle.irs_terms.specs.declared.places.Fault.{Fault}
 use Rattle.irs_base.proofs.CoverLemmas.{LieAmong, covers_each}
 use Rattle.irs_base.proofs.EveryLemmas.{every_both}
 use Rattle.irs_base.proofs.Outcomes.{each_begins, each_ends, each_goes_on}

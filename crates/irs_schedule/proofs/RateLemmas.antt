@@ -5,7 +5,7 @@ use Rattle.std.specs.Prelude.{slice_get}
 use Rattle.irs_base.specs.Days.{IsDay}
 use Rattle.irs_base.specs.Lists.{Every}
 use Rattle.irs_base.specs.Outcomes.{Determined, answered, refused}
-use Rattle.irs_base.specs.declared.places.Fault.{Fault}
+use Rattle.irs_terms.specs.declared.places.Fault.{Fault}
 use Rattle.irs_base.proofs.EveryLemmas.{every_all}
 use Rattle.irs_terms.specs.Centers.{IsSaidReset}
 use Rattle.irs_terms.specs.Lawful.{FitsLeg}

@@ -3,8 +3,9 @@ use Rattle.std.specs.Prelude.{Bool, true, false, Option, Some, None, ◌≡◌, 
 use Rattle.std.specs.Prelude.{List, [], length, IfSome, slice_get, unsigned_abs, ◌<◌, ◌∷◌, ℤ, pos, ◌<ℤ◌, ◌≤ℤ◌}
 use Rattle.irs_base.specs.Limits.{most_rate, most_exchanges, most_numerator, most_periods, most_streams}
 use Rattle.irs_base.specs.Lists.{Every, AreDays, CoverNumbers}
-use Rattle.irs_base.specs.Outcomes.{First, comes_before, Spec}
-use Rattle.irs_base.specs.declared.places.Fault.{Fault}
+use Rattle.irs_base.specs.Outcomes.{First, Spec}
+use Rattle.irs_terms.specs.Faults.{comes_before}
+use Rattle.irs_terms.specs.declared.places.Fault.{Fault}
 use Rattle.irs_base.specs.Days.{IsDay}
 use Rattle.irs_base.specs.declared.line.Dec.{Dec}
 use Rattle.irs_terms.specs.declared.amounts.Leg.{Leg}

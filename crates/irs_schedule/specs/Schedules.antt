@@ -4,12 +4,13 @@ use Rattle.std.specs.Prelude.{option_map, option_and_then, Bool}
 use Rattle.std.specs.List.{range_with_len}
 use Rattle.irs_base.specs.Lists.{EachNumbered, Pairs, Every, day_at}
 use Rattle.irs_base.specs.declared.line.Dec.{Dec}
-use Rattle.irs_base.specs.Elements.{calculation_period_amount}
-use Rattle.irs_base.specs.Outcomes.{fault_at, in_stream, Spec, ◌>>=◌, answer, each_in_turn, given_by, refused_as}
+use Rattle.irs_terms.specs.Elements.{calculation_period_amount}
+use Rattle.irs_base.specs.Outcomes.{Spec, ◌>>=◌, answer, each_in_turn, given_by, refused_as}
+use Rattle.irs_terms.specs.Faults.{fault_at, in_stream}
 use Rattle.irs_base.specs.Outcomes.{RefusesNothing}
-use Rattle.irs_base.specs.declared.places.Broken.{Broken}
-use Rattle.irs_base.specs.declared.places.Fault.{Fault}
-use Rattle.irs_base.specs.declared.places.Rule.TheVariants.{K39}
+use Rattle.irs_terms.specs.declared.places.Broken.{Broken}
+use Rattle.irs_terms.specs.declared.places.Fault.{Fault}
+use Rattle.irs_terms.specs.declared.places.Rule.TheVariants.{K39}
 use Rattle.irs_terms.specs.declared.results.Payment.{Payment}
 use Rattle.irs_terms.specs.declared.stream.Stream.{Stream}
 use Rattle.irs_terms.specs.declared.stream_list.Swap.{Swap}

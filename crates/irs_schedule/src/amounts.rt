@@ -14,11 +14,11 @@ ghost use Rattle.irs_schedule.specs.Private.Layouts.{HasPeriods, IsTable, table_
 use crate::PaymentEntry;
 use crate::entries::PaymentEntries;
 use crate::periods::{day_at, observed_at, overnight_at};
-use irs_base::{Day, Dec, Elem, Fault, Memory, Rule, Stopped};
+use irs_base::{Day, Dec, Memory, Stopped};
 use irs_compound::{PeriodTerm, in_force_of_rising, payment_amount, rates_of_period};
 use irs_daycount::fraction_by;
 use irs_observed::{OvernightRate, earlier_fault};
-use irs_terms::{Payment, Reset, Stream};
+use irs_terms::{Elem, Fault, Payment, Reset, Rule, Stream};
 use std::alloc::Global;
 use std::slice;
 

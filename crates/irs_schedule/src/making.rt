@@ -2,8 +2,9 @@
 //! boundaries, payments, exchanges, resets and amounts of each stream (2006 ISDA Definitions, articles
 //! 4, 5, 6 and 8).
 ghost use Rattle.std.specs.Prelude.{◌≡◌, IfOk, List, ℕ, Some, slice_get, ◌+◌};
-ghost use Rattle.irs_base.specs.Outcomes.{in_stream, Only, Determined, Meets, RefusesNothing, refused_as};
-ghost use Rattle.irs_base.specs.declared.places.Broken.{Broken as BrokenRule};
+ghost use Rattle.irs_base.specs.Outcomes.{Only, Determined, Meets, RefusesNothing, refused_as};
+ghost use Rattle.irs_terms.specs.Faults.{in_stream};
+ghost use Rattle.irs_terms.specs.declared.places.Broken.{Broken as BrokenRule};
 ghost use Rattle.irs_terms.specs.Lawful.{IsLawfulSwap, IsLawfulStream};
 ghost use Rattle.irs_terms.specs.declared.stream.Stream.{Stream as StreamTerms};
 ghost use Rattle.irs_calendar.specs.declared.sections.Section.{Section};
@@ -16,10 +17,10 @@ use crate::Schedule;
 use crate::center_table::{CenterTable, StreamDays};
 use crate::stream::stream_part;
 use crate::streams::StreamPart;
-use irs_base::{Broken, Memory, Stopped};
+use irs_base::{Memory, Stopped};
 use irs_calendar::Calendars;
 use irs_resets::Fixings;
-use irs_terms::{Stream, Swap};
+use irs_terms::{Broken, Stream, Swap};
 use std::alloc::Global;
 
 /// Why there is no schedule: the first broken rule of K30 to K39 and K48, or memory ran out. The rule

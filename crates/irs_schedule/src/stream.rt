@@ -20,12 +20,12 @@ use crate::entries::PaymentEntries;
 use crate::kept_terms::kept_terms;
 use crate::layouts::Layout;
 use crate::streams::StreamPart;
-use irs_base::{Fault, Stopped};
+use irs_base::Stopped;
 use irs_observed::{OvernightRates, OvernightResets, overnight_resets};
 use irs_payments::{check_steps, payments, principals};
 use irs_periods::{adjusted, boundaries_by, regular_span};
 use irs_resets::{Fixings, resets};
-use irs_terms::{Exchanges, FloatTerms, Leg, Payments, Resets, Stream};
+use irs_terms::{Exchanges, Fault, FloatTerms, Leg, Payments, Resets, Stream};
 use std::alloc::Global;
 
 /// The payments, the principal exchanges and the resets of a stream.

@@ -14,11 +14,11 @@ use crate::boundaries::day;
 use crate::telling::Told;
 use crate::values::{amount_of, fraction_of, rate_of, tenor_of};
 use irs_accrue::{Accrual, accrued_text};
-use irs_base::{Dec, Elem, Line, MOST_INDEX, Text};
+use irs_base::{Dec, Line, MOST_INDEX, Text};
 use irs_elements::words::currency;
 use irs_net::{NetRow, NetTable, net_text};
 use irs_overnight::{DerivedRow, Found, derived_text};
-use irs_terms::Frequency;
+use irs_terms::{Elem, Frequency};
 use std::alloc::Global;
 
 // A line that holds a text already; what is reported replaces it.

@@ -3,10 +3,9 @@
 ghost use Rattle.irs_terms.specs.Lawful.{IsLawfulSwap};
 
 use crate::telling::Told;
-use irs_base::Fault;
 use irs_calendar::Calendars;
 use irs_rules::check_terms;
-use irs_terms::Swap;
+use irs_terms::{Fault, Swap};
 
 /// The first rule of the terms that is broken.
 pub fn rule_lines(told: &mut Told, calendars: &Calendars, swap: &Swap)

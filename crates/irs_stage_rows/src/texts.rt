@@ -1,6 +1,7 @@
 //! The texts that are reported: days, rates, broken rules. Each is reported after a text.
 use crate::telling::Told;
-use irs_base::{Day, Dec, Fault, Line, Stopped, day_digits};
+use irs_base::{Day, Dec, Line, Stopped, day_digits};
+use irs_terms::Fault;
 use itoa::Integer;
 
 impl<'a> Told<'a> {

@@ -1,3 +1,6 @@
+pub mod PathLengths
+pub mod RuleNumbers
+pub mod FaultOrder
 pub mod FirstDays
 pub mod NeedLemmas
 pub mod CurrencyLemmas

@@ -1,7 +1,7 @@
 -- The dates and frequencies of a stream's terms, and what fits together.
 use Rattle.std.specs.Prelude.{ℤ, unwrap_or, ℕ, Option, Some, None, IfSome, ◌≤ℤ◌, ◌<ℤ◌, ◌≡◌, ◌*◌, ◌==◌, Bool, false, ◌<◌}
 use Rattle.std.specs.Prelude.{IsTrue, ◌≤◌, ◌≢◌, ◌⊎◌, IsSome, IsNone, IsSomeAnd, zero, suc, List, ◌∷◌, slice_get}
-use Rattle.irs_base.specs.Elements.{effective_date, first_period_start_date}
+use Rattle.irs_terms.specs.Elements.{effective_date, first_period_start_date}
 use Rattle.irs_terms.specs.declared.adjustments.AdjustableDate.{AdjustableDate}
 use Rattle.irs_terms.specs.declared.stream.Stream.{Stream}
 use Rattle.irs_terms.specs.declared.frequency.Unit.{Unit as FrequencyUnit}

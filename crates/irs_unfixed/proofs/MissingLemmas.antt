@@ -3,7 +3,8 @@ use Rattle.std.proofs.Common.{◌≡◌, ℕ, zero, suc, ◌+◌, ◌-◌, ◌<�
 use Rattle.std.proofs.Common.{ap, subst, ◌∙◌, arith}
 use Rattle.std.specs.Prelude.{get_or, nat_lt, slice_get}
 use Rattle.std.proofs.lemmas.Option.{same_Some, slice_get_read, slice_get_within}
-use Rattle.irs_base.specs.Outcomes.{in_stream, First, Spec, each_in_turn, refused_as}
+use Rattle.irs_base.specs.Outcomes.{First, Spec, each_in_turn, refused_as}
+use Rattle.irs_terms.specs.Faults.{in_stream}
 use Rattle.irs_base.specs.Lists.{HoldsOf}
 use Rattle.irs_base.proofs.CoverLemmas.{LieAmong, covers_at}
 use Rattle.irs_base.proofs.EveryLemmas.{pairs_length}

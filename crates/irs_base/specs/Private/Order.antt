@@ -10,7 +10,7 @@ without_cr [] = []
 without_cr (b ∷ []) = if b == 13 then [] else b ∷ []
 without_cr (b ∷ c ∷ cs) = b ∷ without_cr (c ∷ cs)
 
--- ---- what comes first of all that meet a condition, in any order; and the order of broken rules
+-- ---- what comes first of all that meet a condition, in any order
 
 -- the statement holds, or it doesn't
 abbrev pub IsDecided : Type 0 → Type 0

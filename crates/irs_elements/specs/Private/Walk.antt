@@ -5,9 +5,9 @@ use Rattle.std.specs.Prelude.{ℕ, nat_lt, nat_le, ◌&&◌, List, length, Optio
 use Rattle.std.specs.Prelude.{◌<◌, false, not, ◌||◌, ◌∷◌, is_none, slice_get}
 use Rattle.serde_json.specs.Data.{Data}
 use Rattle.irs_base.specs.Texts.{is_digit, number_after}
-use Rattle.irs_base.specs.declared.places.Broken.{Broken}
-use Rattle.irs_base.specs.declared.places.Rule.{Rule}
-use Rattle.irs_base.specs.declared.places.Rule.TheVariants.{K2, K3, K4, K5, K6, K7}
+use Rattle.irs_terms.specs.declared.places.Broken.{Broken}
+use Rattle.irs_terms.specs.declared.places.Rule.{Rule}
+use Rattle.irs_terms.specs.declared.places.Rule.TheVariants.{K2, K3, K4, K5, K6, K7}
 use Rattle.irs_json.specs.Leaves.{child_of, is_attribute_name, leaf_of, items_of}
 use Rattle.irs_elements.specs.Elements.{FaultAt, FaultUnder, IsMemberRow, is_known, most, name_at}
 use Rattle.irs_elements.specs.Leaves.{leaf_rule}

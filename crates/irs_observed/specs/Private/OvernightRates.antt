@@ -3,8 +3,9 @@
 use Rattle.std.specs.Prelude.{ℕ, ◌+◌, ◌<◌, ◌==◌, List, length, ℤ, pos, ◌-ℤ◌, ◌<ℤ◌, if◌then◌else◌, Option, Some, None}
 use Rattle.std.specs.Prelude.{[], ◌∷◌, ◌≡◌, ◌-◌, slice_get, Result, Ok, Err}
 use Rattle.irs_base.specs.Lists.{day_at, EachNumbered}
-use Rattle.irs_base.specs.declared.places.Fault.{Fault}
-use Rattle.irs_base.specs.Outcomes.{comes_before, Spec, unless_broken}
+use Rattle.irs_terms.specs.declared.places.Fault.{Fault}
+use Rattle.irs_base.specs.Outcomes.{Spec, unless_broken}
+use Rattle.irs_terms.specs.Faults.{comes_before}
 use Rattle.irs_base.specs.declared.stopped.Stopped.{Stopped}
 use Rattle.irs_base.specs.declared.stopped.Stopped.TheVariants.{Broken as OfBroken, Memory as OfMemory}
 use Rattle.irs_terms.specs.declared.parameters.ObservationOffset.{ObservationOffset}

@@ -3,10 +3,11 @@
 use Rattle.std.specs.Prelude.{◌≡◌, ℕ, ◌<◌, ◌≤◌, List, [], ◌∷◌, slice_index_or, ℤ, ◌+◌, length, ◌⊎◌, ◌-◌, ◌++◌, Option}
 use Rattle.std.specs.Prelude.{Some, None, Result, Ok, Err, nat_lt, drop, take, IfSome}
 use Rattle.irs_base.specs.Lists.{Member, IsRising, day_at, EachNumbered, HoldsOf, Pairs}
-use Rattle.irs_base.specs.Elements.{payment_dates}
-use Rattle.irs_base.specs.Outcomes.{First, Spec, fault_at, comes_before}
-use Rattle.irs_base.specs.declared.places.Rule.TheVariants.{K33, K38}
-use Rattle.irs_base.specs.declared.places.Fault.{Fault}
+use Rattle.irs_terms.specs.Elements.{payment_dates}
+use Rattle.irs_base.specs.Outcomes.{First, Spec}
+use Rattle.irs_terms.specs.Faults.{fault_at, comes_before}
+use Rattle.irs_terms.specs.declared.places.Rule.TheVariants.{K33, K38}
+use Rattle.irs_terms.specs.declared.places.Fault.{Fault}
 use Rattle.irs_terms.specs.declared.stream.Stream.{Stream}
 use Rattle.irs_terms.specs.declared.results.Payment.{Payment}
 use Rattle.irs_calendar.specs.GoodDays.{DaySet}

@@ -3,7 +3,8 @@
 use Rattle.std.specs.Prelude.{ℤ, ℕ, pos, ◌-ℤ◌, ◌≤ℤ◌, zero, suc, ◌+◌, List, [], ◌∷◌, ◌++◌, ◌+ℤ◌, if◌then◌else◌, Bool}
 use Rattle.std.specs.Prelude.{nat_lt, ◌<◌, length}
 use Rattle.std.proofs.Common.{is_lt, int_cmp}
-use Rattle.irs_base.specs.Outcomes.{First, comes_before}
+use Rattle.irs_base.specs.Outcomes.{First}
+use Rattle.irs_terms.specs.Faults.{comes_before}
 use Rattle.irs_base.specs.Lists.{day_at}
 use Rattle.irs_terms.specs.declared.stream.Stream.{Stream}
 use Rattle.irs_terms.specs.TermDates.{first_day_of, termination_of}

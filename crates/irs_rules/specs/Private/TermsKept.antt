@@ -1,8 +1,9 @@
 -- Private: no public contract rests on this file.
 -- Of private functions: the rules that a stream keeps, and their order.
 use Rattle.std.specs.Prelude.{◌≡◌, None, Bool, Option, ℕ, List, Some, slice_get}
-use Rattle.irs_base.specs.declared.places.Fault.{Fault}
-use Rattle.irs_base.specs.Outcomes.{in_stream, IsFirst, is_before_in}
+use Rattle.irs_terms.specs.declared.places.Fault.{Fault}
+use Rattle.irs_base.specs.Outcomes.{IsFirst}
+use Rattle.irs_terms.specs.Faults.{in_stream, is_before_in}
 use Rattle.irs_terms.specs.declared.stream.Stream.{Stream}
 use Rattle.irs_terms.specs.declared.stream_list.Swap.{Swap}
 use Rattle.irs_calendar.specs.declared.sections.Section.{Section}

@@ -4,8 +4,8 @@ use Rattle.std.specs.Prelude.{◌≡◌, ℕ, ◌≤◌, List, Contains, Option,
 use Rattle.std.specs.Prelude.{◌<◌, Result, Ok, Err, ◌-◌, ℤ}
 use Rattle.irs_base.specs.Limits.{most_centers, most_periods, most_exchanges}
 use Rattle.irs_base.specs.Lists.{IsRising, AreDays, Every}
-use Rattle.irs_base.specs.Outcomes.{comes_before}
-use Rattle.irs_base.specs.declared.places.Fault.{Fault}
+use Rattle.irs_terms.specs.Faults.{comes_before}
+use Rattle.irs_terms.specs.declared.places.Fault.{Fault}
 use Rattle.irs_base.specs.declared.stopped.Stopped.{Stopped}
 use Rattle.irs_base.specs.declared.stopped.Stopped.TheVariants.{Broken, Memory}
 use Rattle.irs_terms.specs.declared.stream.Stream.{Stream}

@@ -7,7 +7,7 @@ use Rattle.std.proofs.lemmas.Option.{slice_get-get_or, slice_get_read}
 use Rattle.std.specs.Borrow.{Bor}
 use Rattle.serde_json.specs.Data.{Data}
 use Rattle.serde_json.specs.declared.value.Value.{Value}
-use Rattle.irs_base.specs.declared.places.Rule.TheVariants.{K2}
+use Rattle.irs_terms.specs.declared.places.Rule.TheVariants.{K2}
 use Rattle.irs_elements.specs.declared.table.Kind.TheVariants.{Object}
 use Rattle.irs_elements.specs.Elements.{referenced_texts, name_at, place, index_in}
 use Rattle.irs_elements.proofs.First.{first_is}

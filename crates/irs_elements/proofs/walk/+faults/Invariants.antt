@@ -3,7 +3,7 @@ use Rattle.serde_json.specs.View.{view}
 use Rattle.irs_elements.specs.Elements.{referenced_texts, index_in}
 use Rattle.irs_elements.proofs.First.{Below}
 use Rattle.irs_elements.proofs.Steps.{RowFault, ItemFault}
-use Rattle.irs_base.specs.Outcomes.{IsFirstBroken}
+use Rattle.irs_terms.specs.Faults.{IsFirstBroken}
 use Rattle.irs_elements.proofs.walk.+faults.Given as goal
 
 -- the fault kept is the first of those at the rows before c

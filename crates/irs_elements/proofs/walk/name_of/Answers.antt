@@ -2,7 +2,7 @@ use Rattle.std.proofs.Common.{◌≡◌, ℕ, List, Option, Some, None, option_m
 use Rattle.std.specs.Prelude.{slice_get}
 use Rattle.std.specs.Borrow.{Bor}
 use Rattle.std.proofs.lemmas.Option.{slice_get-map, slice_get_past, slice_get_read}
-use Rattle.irs_base.specs.Elements.{name_or_empty}
+use Rattle.irs_terms.specs.Elements.{name_or_empty}
 use Rattle.irs_elements.specs.Elements.{referenced_texts, name_at}
 use Rattle.irs_elements.proofs.walk.name_of.Goals as goal
 

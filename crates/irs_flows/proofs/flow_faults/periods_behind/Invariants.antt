@@ -4,7 +4,7 @@ use Rattle.irs_elements.proofs.First.{Below}
 use Rattle.irs_read.proofs.Each.{Each}
 use Rattle.serde_json.specs.View.{view}
 use Rattle.std.proofs.Common.{◌+◌, map}
-use Rattle.irs_base.specs.Outcomes.{IsFirstBroken}
+use Rattle.irs_terms.specs.Faults.{IsFirstBroken}
 
 -- the first fault of the calculation periods before place j
 abbrev pub invariant-loop-j : goal.invariant-loop-j

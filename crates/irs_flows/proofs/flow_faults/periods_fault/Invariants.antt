@@ -1,6 +1,7 @@
 use Rattle.irs_flows.proofs.FlowSteps.{Before}
 use Rattle.irs_flows.specs.FlowFaults.{PeriodsFrom}
-use Rattle.irs_base.specs.{Limits.most_rows, Outcomes.IsFirstBroken}
+use Rattle.irs_base.specs.{Limits.most_rows}
+use Rattle.irs_terms.specs.{Faults.IsFirstBroken}
 use Rattle.std.proofs.Common.{◌≡◌, ◌≤◌, length}
 use Rattle.irs_flows.proofs.flow_faults.periods_fault.Given as goal
 

@@ -1,6 +1,6 @@
 use Rattle.std.proofs.Common.{ℕ, List, sym, ap, subst, ◌∙◌}
 use Rattle.std.proofs.lemmas.Option.{same_Some}
-use Rattle.irs_base.specs.Outcomes.{rule_number}
+use Rattle.irs_terms.specs.Faults.{rule_number}
 use Rattle.irs_elements.specs.declared.table.Row.{Row}
 use Rattle.irs_locate.proofs.OneMember.{named}
 use Rattle.irs_locate.specs.Ways.{IsRowOf, Known, first_odd, table_of}

@@ -1,7 +1,8 @@
 use Rattle.std.proofs.Common.{◌≡◌, length, map, sym, ap, ◌∙◌, arith}
 use Rattle.std.proofs.lemmas.List.{length-map}
 use Rattle.serde_json.specs.View.{view}
-use Rattle.irs_base.specs.Outcomes.{First, is_before}
+use Rattle.irs_base.specs.Outcomes.{First}
+use Rattle.irs_terms.specs.Faults.{is_before}
 use Rattle.irs_read.specs.Documents.{ended}
 use Rattle.irs_read.specs.Readings.{streams_in}
 use Rattle.irs_net.specs.Parties.{BreaksK8, BreaksK8Of}

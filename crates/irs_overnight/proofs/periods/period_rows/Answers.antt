@@ -4,7 +4,7 @@ use Rattle.std.proofs.lemmas.List.Elements.{All-push}
 use Rattle.irs_overnight.specs.Private.Bounds.{IsInRange, FirstWay, NoneFails}
 use Rattle.std.proofs.lemmas.Result.{err_from_is_err_and}
 use Rattle.irs_base.specs.Outcomes.{First}
-use Rattle.irs_base.specs.declared.places.Fault.{Fault}
+use Rattle.irs_terms.specs.declared.places.Fault.{Fault}
 use Rattle.irs_base.proofs.HandedAnswers.{handed_on}
 use Rattle.irs_base.proofs.MemberLemmas.{numbered_push}
 use Rattle.irs_overnight.specs.Overnight.{DerivedSource, derived_source, derived_period_at, IsDerivedRow, BreaksPeriod}

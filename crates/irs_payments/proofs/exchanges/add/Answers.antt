@@ -1,5 +1,6 @@
 use Rattle.std.proofs.Common.{◌∷◌, ◌++◌, Option, subst, sym}
-use Rattle.irs_base.specs.Outcomes.{First, comes_before}
+use Rattle.irs_base.specs.Outcomes.{First}
+use Rattle.irs_terms.specs.Faults.{comes_before}
 use Rattle.irs_payments.specs.Exchanges.{BreaksExchanges}
 use Rattle.irs_payments.specs.Private.Dating.{ListsUpTo, listed_transfer}
 use Rattle.irs_payments.specs.declared.exchanges.Transfer.{Transfer}

@@ -1,7 +1,7 @@
 use Rattle.std.proofs.Common.{List, ℤ, length, arith, sym, subst, ap}
 use Rattle.irs_base.specs.Lists.{RunsFromTo}
 use Rattle.irs_base.specs.Outcomes.{Meets}
-use Rattle.irs_base.specs.declared.places.Fault.{Fault}
+use Rattle.irs_terms.specs.declared.places.Fault.{Fault}
 use Rattle.irs_base.proofs.Outcomes.{if_memory}
 use Rattle.irs_terms.specs.TermDates.{first_day_of}
 use Rattle.irs_payments.specs.Private.Dating.{AreCuts, paid_at}

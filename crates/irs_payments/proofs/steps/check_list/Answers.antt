@@ -2,8 +2,9 @@ use Rattle.std.proofs.Common.{◌≡◌, true, false, Some, sym, ap, subst, ◌�
 use Rattle.std.specs.List.{slice_get}
 use Rattle.std.proofs.lemmas.Option.{slice_get-get_or}
 use Rattle.irs_base.specs.Lists.{Member}
-use Rattle.irs_base.specs.Outcomes.{First, comes_before}
-use Rattle.irs_base.specs.declared.places.Rule.TheVariants.{K36}
+use Rattle.irs_base.specs.Outcomes.{First}
+use Rattle.irs_terms.specs.Faults.{comes_before}
+use Rattle.irs_terms.specs.declared.places.Rule.TheVariants.{K36}
 use Rattle.irs_base.proofs.MemberLemmas.{none_of_more}
 use Rattle.irs_payments.specs.Exchanges.{IsOff, BreaksUnder}
 use Rattle.irs_payments.proofs.NumberLemmas.{none_in, first_in}

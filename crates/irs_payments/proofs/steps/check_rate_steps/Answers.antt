@@ -1,4 +1,4 @@
-use Rattle.irs_base.specs.Elements.{multiplier_step_date, spread_step_date}
+use Rattle.irs_terms.specs.Elements.{multiplier_step_date, spread_step_date}
 use Rattle.irs_payments.specs.Exchanges.{BreaksUnder}
 use Rattle.irs_payments.proofs.FirstFaults.{next_checked}
 use Rattle.irs_payments.proofs.steps.check_rate_steps.Goals as goal

@@ -1,4 +1,4 @@
-use Rattle.irs_base.specs.Elements.{notional_step_date}
+use Rattle.irs_terms.specs.Elements.{notional_step_date}
 use Rattle.irs_payments.specs.Exchanges.{BreaksUnder, BreaksRateSteps}
 use Rattle.irs_payments.proofs.FirstFaults.{next_checked}
 use Rattle.irs_payments.proofs.steps.check_steps.Goals as goal

@@ -1,7 +1,8 @@
 use Rattle.std.proofs.Common.{◌≡◌, ◌-◌, ◌∙◌, List, length, ℕ, ℤ, arith, ap, sym, subst}
 use Rattle.irs_base.specs.Lists.{IsRising}
-use Rattle.irs_base.specs.Outcomes.{First, comes_before}
-use Rattle.irs_base.specs.declared.places.Fault.{Fault}
+use Rattle.irs_base.specs.Outcomes.{First}
+use Rattle.irs_terms.specs.Faults.{comes_before}
+use Rattle.irs_terms.specs.declared.places.Fault.{Fault}
 use Rattle.irs_periods.specs.Boundaries.{AdjustedList, BreaksAdjusted, MissesResult, boundary_days_by, last_of}
 use Rattle.irs_periods.specs.Boundaries.{no_result_at}
 use Rattle.irs_periods.specs.Private.Spans.{FirstNoResult, FirstNotAfter}

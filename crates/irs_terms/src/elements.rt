@@ -4,9 +4,9 @@
 //! streams, then the elements of a stream of a trade (FpML's InterestRateStream), then those of
 //! another party's cash flows. The table and its order are our rule.
 ghost use Rattle.std.specs.Prelude.{◌≡◌, ◌<◌, ◌≤◌, ℕ, [], Some, SomeIff, codes, map, slice_get, length, true};
-ghost use Rattle.irs_base.specs.Elements.{count, named_elements};
-ghost use Rattle.irs_base.specs.Paths.{printed_paths, are_whole, path_of, longest_path};
-ghost use Rattle.irs_base.specs.declared.elements.TheConstants.{PATHS};
+ghost use Rattle.irs_terms.specs.Elements.{count, named_elements};
+ghost use Rattle.irs_terms.specs.Paths.{printed_paths, are_whole, path_of, longest_path};
+ghost use Rattle.irs_terms.specs.declared.elements.TheConstants.{PATHS};
 
 use std::marker::Model;
 

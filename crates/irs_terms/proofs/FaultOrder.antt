@@ -1,12 +1,13 @@
 -- The orders of broken rules: there is one first, and where none comes first none is broken.
 use Rattle.std.proofs.Common.{◌≡◌, ℕ}
-use Rattle.irs_base.specs.Outcomes.{rule_number, fault_at, First, turn, is_before, is_before_in, comes_before}
-use Rattle.irs_base.specs.declared.places.Rule.{Rule}
-use Rattle.irs_base.specs.declared.places.Fault.{Fault}
-use Rattle.irs_base.specs.declared.places.Broken.{Broken}
+use Rattle.irs_base.specs.Outcomes.{First}
+use Rattle.irs_terms.specs.Faults.{rule_number, fault_at, turn, is_before, is_before_in, comes_before}
+use Rattle.irs_terms.specs.declared.places.Rule.{Rule}
+use Rattle.irs_terms.specs.declared.places.Fault.{Fault}
+use Rattle.irs_terms.specs.declared.places.Broken.{Broken}
 use Rattle.irs_base.proofs.Firsts.{IsOrder, IsFounded, AreTied, level_order, rank_order, level_founded, rank_founded}
 use Rattle.irs_base.proofs.Firsts.{tied, tied_last, one_first}
-use Rattle.irs_base.proofs.RuleNumbers.{same_rule}
+use Rattle.irs_terms.proofs.RuleNumbers.{same_rule}
 
 -- ---- in a swap
 

@@ -2,7 +2,7 @@ use Rattle.std.proofs.Common.{◌≡◌, ℕ, List, Some, option_map, ap, ◌∙
 use Rattle.std.specs.Prelude.{slice_get, map}
 use Rattle.std.specs.Borrow.{Bor}
 use Rattle.std.proofs.lemmas.Option.{slice_get-map, slice_get-get_or}
-use Rattle.irs_base.proofs.elements.path_at.Goals as goal
+use Rattle.irs_terms.proofs.elements.path_at.Goals as goal
 
 seen : (paths : List (Bor (List ℕ))) (i : ℕ) (p : Bor (List ℕ)) → slice_get paths i ≡ Some p
     → slice_get (map (λ q. q.now) paths) i ≡ Some p.now

@@ -4,9 +4,9 @@ use Rattle.std.proofs.Common.{codes, refl, sym, ap, subst, arith}
 use Rattle.std.specs.List.{list_all}
 use Rattle.std.proofs.lemmas.Bool.Decides.{nat_tests}
 use Rattle.std.proofs.lemmas.Option.{same_Some}
-use Rattle.irs_base.specs.Elements.{name_or_empty, named_elements}
-use Rattle.irs_base.specs.Paths.{paths, printed_paths, are_whole, path_of, longest_path}
-use Rattle.irs_base.specs.declared.elements.TheConstants.{PATHS}
+use Rattle.irs_terms.specs.Elements.{name_or_empty, named_elements}
+use Rattle.irs_terms.specs.Paths.{paths, printed_paths, are_whole, path_of, longest_path}
+use Rattle.irs_terms.specs.declared.elements.TheConstants.{PATHS}
 use Rattle.irs_base.proofs.Orders.{both_true}
 
 -- whether a path is no longer than the longest one stated

@@ -1,6 +1,6 @@
-use Rattle.irs_base.proofs.PathLengths.{named_paths}
-use Rattle.irs_base.proofs.elements.elements_named.Goals as goal
-use Rattle.irs_base.specs.Elements.{named_elements}
+use Rattle.irs_terms.proofs.PathLengths.{named_paths}
+use Rattle.irs_terms.proofs.elements.elements_named.Goals as goal
+use Rattle.irs_terms.specs.Elements.{named_elements}
 use Rattle.std.proofs.Common.{refl}
 
 pub returns-clause-places : goal.returns-clause-places

@@ -1,7 +1,7 @@
 use Rattle.std.proofs.Common.{◌≡◌, ℕ, subst}
-use Rattle.irs_base.specs.Paths.{path_of}
-use Rattle.irs_base.proofs.PathLengths.{path_short, path_found}
-use Rattle.irs_base.proofs.elements.Elem.path.Goals as goal
+use Rattle.irs_terms.specs.Paths.{path_of}
+use Rattle.irs_terms.proofs.PathLengths.{path_short, path_found}
+use Rattle.irs_terms.proofs.elements.Elem.path.Goals as goal
 
 pub returns-clause-path : goal.returns-clause-path
 returns-clause-path c =

@@ -2,12 +2,12 @@
 use Rattle.std.proofs.Common.{◌≡◌, ℕ, List, [], ◌∷◌, Some, refl, sym, ◌∙◌, ap}
 use Rattle.std.specs.Prelude.{slice_get}
 use Rattle.std.proofs.lemmas.Option.{same_Some}
-use Rattle.irs_base.specs.Outcomes.{rule_number}
-use Rattle.irs_base.specs.declared.places.Rule.{Rule}
-use Rattle.irs_base.specs.declared.places.Rule.TheVariants.{K1, K2, K3, K4, K5, K6, K7, K8, K10, K11, K12, K13, K14}
-use Rattle.irs_base.specs.declared.places.Rule.TheVariants.{K15, K16, K17, K18, K19, K20, K21, K30, K31, K32, K33, K34}
-use Rattle.irs_base.specs.declared.places.Rule.TheVariants.{K35, K36, K37, K38, K39, K40, K41, K42, K43, K44, K45, K46}
-use Rattle.irs_base.specs.declared.places.Rule.TheVariants.{K47, K48, K49}
+use Rattle.irs_terms.specs.Faults.{rule_number}
+use Rattle.irs_terms.specs.declared.places.Rule.{Rule}
+use Rattle.irs_terms.specs.declared.places.Rule.TheVariants.{K1, K2, K3, K4, K5, K6, K7, K8, K10, K11, K12, K13, K14}
+use Rattle.irs_terms.specs.declared.places.Rule.TheVariants.{K15, K16, K17, K18, K19, K20, K21, K30, K31, K32, K33, K34}
+use Rattle.irs_terms.specs.declared.places.Rule.TheVariants.{K35, K36, K37, K38, K39, K40, K41, K42, K43, K44, K45, K46}
+use Rattle.irs_terms.specs.declared.places.Rule.TheVariants.{K47, K48, K49}
 
 -- the rules at their numbers; K1 where no rule has the number
 abbrev rules : List Rule
