@@ -693,9 +693,9 @@ first_step g = g
 class Rows(InRoom):
     """The numbers of the tables of elements."""
 
-    LIST = "crates/irs_base/specs/Paths.antt"
+    LIST = "crates/irs_terms/specs/Paths.antt"
     TABLE = "crates/irs_read/src/table.rt"
-    FILES = [LIST, TABLE, "crates/irs_base/src/elements.rt", "crates/irs_base/specs/Elements.antt",
+    FILES = [LIST, TABLE, "crates/irs_terms/src/elements.rt", "crates/irs_terms/specs/Elements.antt",
              "crates/irs_flows/src/flow_table.rt"]
     LEAF = "calculationPeriodDates/stubPeriodType"
 
