@@ -1,5 +1,5 @@
-//! What the other crates use, except irs_json: days and months, decimals and rounding, lists,
-//! texts and lines, and the outcomes of calls.
+//! What the other crates use, except irs_json and irs_xml: days and months, decimals and rounding,
+//! lists, texts and lines, and the outcomes of calls.
 #![tactic(auto)]
 
 mod day;

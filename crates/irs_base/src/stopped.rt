@@ -6,8 +6,8 @@ use crate::Memory;
 use std::alloc::AllocFailed;
 use thiserror::Error;
 
-/// Why a call gives no answer: a rule is broken, or memory ran out. `F` is what names the rule, a
-/// `Fault` within one stream or a `Broken` within the swap.
+/// Why a call gives no answer: a rule is broken, or memory ran out. `F` is what names the rule: a
+/// `Fault` of irs_terms within one stream, or its `Broken` within the swap.
 #[derive(Clone, Copy, Debug, Error)]
 pub enum Stopped<F> {
     /// The first rule that is broken, with its place.

@@ -1,5 +1,6 @@
 //! Plain data: the terms of a swap as its streams give them, and the rows that are worked out from
-//! them. The names of the terms are those of FpML 5's InterestRateStream.
+//! them. Also the elements by their paths, the rules that terms may break, and the places at which
+//! they do. The names of the terms are those of FpML 5's InterestRateStream.
 #![tactic(auto)]
 
 mod adjustments;
