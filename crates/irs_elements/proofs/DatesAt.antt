@@ -1,14 +1,12 @@
 -- The function of a date's text gives the day that the text names.
 use Rattle.irs_base.proofs.PlainDates.{is_plain, plain_is}
-use Rattle.irs_base.specs.Texts.{date_at, IsDateText, IsPlainDate}
-use Rattle.irs_base.specs.Days.{IsDay}
+use Rattle.irs_base.specs.{Texts.date_at, Texts.IsDateText, Texts.IsPlainDate, Days.IsDay}
 use Rattle.irs_elements.proofs.Exact.{both_true}
 use Rattle.irs_elements.specs.Leaves.{leaf_date_at, without_z}
 use Rattle.std.proofs.Common.{◌≡◌, inl, inr, ℕ, Bool, true, false, ◌&&◌, ◌==◌, List, [], ◌∷◌, ◌++◌, length, take, ℤ}
 use Rattle.std.proofs.Common.{slice_index, Option, Some, None, IfSome, IfNone, refl, sym, ap, ◌∙◌, subst, arith}
 use Rattle.std.proofs.Common.{if◌then◌else◌}
-use Rattle.std.proofs.lemmas.Bool.Decides.{nat_tests}
-use Rattle.std.proofs.lemmas.List.{take_all, take_more}
+use Rattle.std.proofs.lemmas.{Bool.Decides.nat_tests, List.take_all, List.take_more}
 
 dropped : (s : List ℕ) (d : ℤ) → IsDateText s d → IsPlainDate (without_z s) d
 dropped s d (inl p) =

@@ -21,8 +21,7 @@ cut_one c cs w f false e h = record {
   no_point = rw e h.no_point;
   is = elim h.is [
     | inl none ↦ inl (ap (λ (l : List ℕ). c ∷ l) none.0, none.1)
-    | inr point ↦
-        inr (ap (λ (l : List ℕ). c ∷ l) point)
+    | inr point ↦ inr (ap (λ (l : List ℕ). c ∷ l) point)
   ];
 }
 

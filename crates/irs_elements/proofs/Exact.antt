@@ -26,12 +26,6 @@ pub exact_map : {A B : Type 0} (P : A → Type 0) (Q : B → Type 0) (f : A → 
 exact_map P Q f None some none h = none h
 exact_map P Q f (Some v) some none h = some v h
 
--- the two sides of an exact result
-pub exact_both : {A : Type 0} (P : A → Type 0) (r : Option A) → Exact P r
-    → IfSome r P × IfNone r ((v : A) → P v → ⊥)
-exact_both P None h = (tt, h)
-exact_both P (Some v) h = (h, tt)
-
 -- where each is true, both together are
 pub true_both : (a b : Bool) → a ≡ true → b ≡ true → a && b ≡ true
 true_both true true p q = refl

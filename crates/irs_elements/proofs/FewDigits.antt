@@ -2,18 +2,12 @@
 use Rattle.irs_base.specs.Texts.{is_digit, AreDigits, IsUnsigned, bare, number_after, number_of, padded}
 use Rattle.irs_base.proofs.DecimalLemmas.{digits_true, no_point, room_left, some_room, unsigned_is}
 use Rattle.irs_base.specs.Limits.{most_notional}
-use Rattle.irs_elements.proofs.DecimalsAt.{dec_is}
-use Rattle.irs_elements.proofs.FractionsAt.{below_power}
-use Rattle.irs_elements.specs.Numbers.{dec_at, notional_at}
-use Rattle.irs_elements.specs.Private.Walk.{few_digits_at}
-use Rattle.std.proofs.Common.{◌≡◌, inl, ℕ, ◌+◌, ◌*◌, ◌^◌, ◌<◌, ◌≤◌, nat_le, nat_lt, Bool, true, List, []}
-use Rattle.std.proofs.Common.{length, pos, Some, None, if◌then◌else◌, refl, sym, arith, ◌&&◌, ◌-◌, subst}
-use Rattle.std.proofs.lemmas.Bool.Decides.{nat_tests}
-use Rattle.std.proofs.lemmas.Option.{same_Some}
-use Rattle.std.proofs.lemmas.Int.{ints}
-use Rattle.std.specs.List.{list_all}
-use Rattle.std.specs.Prelude.{int_le}
-use Rattle.irs_elements.proofs.Wholes.{longer_power}
+use Rattle.irs_elements.proofs.{DecimalsAt.dec_is, FractionsAt.below_power, Wholes.longer_power}
+use Rattle.irs_elements.specs.{Numbers.dec_at, Numbers.notional_at, Private.Walk.few_digits_at}
+use Rattle.std.proofs.Common.{◌≡◌, inl, ℕ, ◌+◌, ◌*◌, ◌^◌, ◌<◌, ◌≤◌, nat_le, nat_lt, Bool, true, List, [], length, pos}
+use Rattle.std.proofs.Common.{Some, None, if◌then◌else◌, refl, sym, arith, ◌&&◌, ◌-◌, subst}
+use Rattle.std.proofs.lemmas.{Bool.Decides.nat_tests, Option.same_Some, Int.ints}
+use Rattle.std.specs.{List.list_all, Prelude.int_le}
 
 -- there is room for one digit more
 pub room_for_one : (n k b : ℕ) → 1 ≤ k → (n + 1) * 10 ^ k ≤ b → 10 * n + 10 ≤ b

@@ -1,25 +1,19 @@
 -- The function of a stated fraction's text gives the one fraction that the text states.
 use Rattle.irs_base.proofs.DecimalLemmas.{apart, cut_once, no_point}
-use Rattle.irs_base.proofs.RoundingLaws.{nearest_once}
-use Rattle.irs_base.proofs.VisibleTexts.{digits_behind}
+use Rattle.irs_base.proofs.{RoundingLaws.nearest_once, VisibleTexts.digits_behind}
 use Rattle.irs_base.specs.Texts.{AreDigits, AreParts, IsCutAtPoint, number_after, number_of, most_places}
-use Rattle.irs_base.specs.Limits.{Rounded}
-use Rattle.irs_base.specs.declared.line.Dec.{Dec}
-use Rattle.irs_base.specs.declared.rounding.Direction.TheVariants.{Nearest}
+use Rattle.irs_base.specs.{Limits.Rounded, declared.line.Dec.Dec, declared.rounding.Direction.TheVariants.Nearest}
 use Rattle.irs_elements.proofs.DecimalsAt.{cut_is, from_parts, to_parts}
 use Rattle.irs_elements.proofs.Exact.{Exact}
 use Rattle.irs_elements.specs.Numbers.{are_parts, before_point, behind_point, IsFraction, carried, fraction_at}
 use Rattle.irs_elements.specs.Numbers.{fraction_from_digits}
 use Rattle.jiff_core.proofs.SignedLemmas.{signed_arith}
-use Rattle.std.proofs.Common.{◌≡◌, ℕ, zero, suc, ◌+◌, ◌-◌, ◌*◌, ◌^◌, ◌<◌, ◌≤◌, nat_le, Bool, true, false}
-use Rattle.std.proofs.Common.{List, [], ◌∷◌, ◌++◌, length, take, drop, ℤ, pos, Some, None}
+use Rattle.std.proofs.Common.{◌≡◌, ℕ, zero, suc, ◌+◌, ◌-◌, ◌*◌, ◌^◌, ◌<◌, ◌≤◌, nat_le, Bool, true, false, List, [], ◌∷◌}
+use Rattle.std.proofs.Common.{◌++◌, length, take, drop, ℤ, pos, Some, None, IfNone, IfSome, Option, subst}
 use Rattle.std.proofs.Common.{if◌then◌else◌, refl, sym, ap, ap₂, ◌∙◌, arith}
 use Rattle.std.proofs.Math.Nat.{mul-le-mul_left, mul-le-mul_right, one-le-pow, pow-succ'}
-use Rattle.std.proofs.lemmas.Bool.{false_from_ne_true}
-use Rattle.std.proofs.lemmas.Bool.Decides.{nat_tests}
-use Rattle.std.proofs.lemmas.Option.{same_Some}
+use Rattle.std.proofs.lemmas.{Bool.false_from_ne_true, Bool.Decides.nat_tests, Option.same_Some, Nat.pow-add}
 use Rattle.std.proofs.lemmas.List.{length-append, take-append-drop}
-use Rattle.std.proofs.lemmas.Nat.{pow-add}
 
 -- ---- what digits spell
 
@@ -98,7 +92,8 @@ fraction_is text w f cut parts =
     rw (test, sym same.0, sym same.1) refl
 
 -- a text without parts states none
-pub no_fraction : (text : List ℕ) → ((w f : List ℕ) → IsCutAtPoint text w f → AreParts w f → ⊥) → None ≡ fraction_at text
+pub no_fraction : (text : List ℕ) → ((w f : List ℕ) → IsCutAtPoint text w f → AreParts w f → ⊥)
+    → None ≡ fraction_at text
 unfolding fraction_at
 no_fraction text none =
     let w = before_point text in
@@ -148,3 +143,9 @@ stated s false e = λ v h.
 pub fraction_exact : (s : List ℕ) → Exact (IsFraction s) (fraction_at s)
 unfolding fraction_at
 fraction_exact s = stated s (are_parts (before_point s) (behind_point s)) refl
+
+-- so does each result that is the function's
+pub fraction_both : (s : List ℕ) (o : Option Dec) → o ≡ fraction_at s
+    → IfSome o (IsFraction s) × IfNone o ((v : Dec) → IsFraction s v → ⊥)
+fraction_both s None e = (tt, subst (Exact (IsFraction s)) (sym e) (fraction_exact s))
+fraction_both s (Some v) e = (subst (Exact (IsFraction s)) (sym e) (fraction_exact s), tt)

@@ -1,23 +1,16 @@
 -- Every rule that is broken by a table of elements is one of K2 to K7.
-use Rattle.irs_terms.specs.declared.places.Broken.{Broken}
-use Rattle.irs_terms.specs.declared.places.Rule.{Rule}
+use Rattle.irs_terms.specs.declared.places.{Broken.Broken, Rule.Rule}
 use Rattle.irs_terms.specs.declared.places.Rule.TheVariants.{K3, K5, K6}
-use Rattle.irs_elements.specs.Elements.{FaultAt, FaultUnder, ShapeFault, inside, own, own_rule}
-use Rattle.irs_elements.specs.Elements.{shape, under, unmet}
-use Rattle.irs_elements.specs.Private.Walk.{IsOfTables}
+use Rattle.irs_elements.specs.Elements.{FaultAt, FaultUnder, ShapeFault, inside, own, own_rule, shape, under, unmet}
+use Rattle.irs_elements.specs.{Private.Walk.IsOfTables, declared.table.Choice.Choice, declared.table.Kind.Kind}
+use Rattle.irs_elements.specs.{declared.table.Leaf.Leaf as LeafKind, declared.table.Row.Row}
 use Rattle.irs_elements.specs.Leaves.{has_value, leaf_rule, out_of_profile, text_of_leaf, text_rule}
-use Rattle.irs_elements.specs.declared.table.Choice.{Choice}
-use Rattle.irs_elements.specs.declared.table.Kind.{Kind}
 use Rattle.irs_elements.specs.declared.table.Kind.TheVariants.{Object, Leaf}
-use Rattle.irs_elements.specs.declared.table.Leaf.{Leaf as LeafKind}
-use Rattle.irs_elements.specs.declared.table.Row.{Row}
 use Rattle.irs_elements.specs.declared.walk.Unmet.TheVariants.{Both, Neither}
 use Rattle.irs_json.specs.Leaves.{Leaf as LeafSaid, leaf_of, element_names}
 use Rattle.serde_json.specs.Data.{Data}
-use Rattle.std.proofs.Common.{ℕ, Bool, true, false, List, Option, Some, None, if◌then◌else◌, subst}
-use Rattle.std.specs.List.{list_any}
-use Rattle.std.specs.Prelude.{is_some}
-use Rattle.std.specs.Str.{bytes_eq}
+use Rattle.std.proofs.Common.{ℕ, Bool, true, false, List, Option, Some, None, if◌then◌else◌, subst, ◌≡◌, option_map, ap}
+use Rattle.std.specs.{List.list_any, Prelude.is_some, Str.bytes_eq}
 
 -- the rule, if there is one, is one of the tables
 abbrev Told : Option Rule → Type 0
@@ -69,3 +62,11 @@ module _ (rows : List Row) (names : List (List ℕ)) (stream : ℕ) where
         → IsOfTables f.rule
     of_member c i row d f (inside _ _ j _ _ m x _ el h le at g) = of_table c _ _ x f g
     of_member c i row d f _ = tt
+
+-- ---- what the text of a leaf breaks
+
+-- the rule of a leaf's text is that of the leaf
+pub rule_of : (kind : LeafKind) (o : Option LeafSaid) (s : List ℕ) → Some s ≡ option_map text_of_leaf o
+    → text_rule kind s ≡ leaf_rule kind o
+rule_of kind None s e = cc
+rule_of kind (Some leaf) s e = let same : s ≡ text_of_leaf leaf = cc in ap (text_rule kind) same

@@ -1,17 +1,13 @@
 -- How large a whole number of at most 9 digits is.
 use Rattle.irs_base.specs.Texts.{DecText, IsUnsigned, bare, minus, plus, has_no_point}
 use Rattle.irs_base.proofs.VisibleTexts.{digits_append}
-use Rattle.irs_elements.proofs.DecimalsAt.{dec_exact}
-use Rattle.irs_elements.proofs.Exact.{Exact, both_true}
-use Rattle.irs_elements.proofs.FractionsAt.{below_power}
+use Rattle.irs_elements.proofs.{DecimalsAt.dec_exact, Exact.Exact, Exact.both_true, FractionsAt.below_power}
 use Rattle.irs_elements.specs.Numbers.{dec_at, digits_of, is_whole_number, whole_at}
 use Rattle.jiff_core.proofs.SignedLemmas.{signed_arith}
-use Rattle.std.proofs.Common.{◌≡◌, ◌⊎◌, inl, inr, ℕ, ◌+◌, ◌^◌, ◌<◌, ◌≤◌, nat_le, Bool, true, false, List, [], ◌∷◌}
-use Rattle.std.proofs.Common.{◌++◌, length, ℤ, Option, Some, None, if◌then◌else◌, refl, ap, ◌∙◌, subst, arith}
-use Rattle.std.proofs.Common.{unsigned_abs}
+use Rattle.std.proofs.Common.{◌≡◌, ◌⊎◌, inl, inr, ℕ, ◌+◌, ◌^◌, ◌<◌, ◌≤◌, nat_le, Bool, true, false, List, [], ◌∷◌, ◌++◌}
+use Rattle.std.proofs.Common.{length, ℤ, Option, Some, None, if◌then◌else◌, refl, ap, ◌∙◌, subst, arith, unsigned_abs}
 use Rattle.std.proofs.Math.Nat.{mul-le-mul_left, one-le-pow, pow-le-pow_right}
-use Rattle.std.proofs.lemmas.Bool.Decides.{nat_tests}
-use Rattle.std.proofs.lemmas.List.{length-append}
+use Rattle.std.proofs.lemmas.{Bool.Decides.nat_tests, List.length-append}
 use Rattle.std.specs.Prelude.{◌||◌, ◌==◌}
 
 -- more digits have a greater power of 10

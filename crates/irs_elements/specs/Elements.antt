@@ -1,30 +1,21 @@
 -- A table of elements, the values in it, and the rules that a value breaks by it.
-use Rattle.serde_json.specs.Data.{Data}
-use Rattle.serde_json.specs.View.{view}
-use Rattle.serde_json.specs.declared.value.Value.{Value}
-use Rattle.std.specs.Borrow.{Bor}
+use Rattle.serde_json.specs.{Data.Data, View.view, declared.value.Value.Value, Find.as_str}
+use Rattle.std.specs.{Borrow.Bor, List.list_any, List.enumerate_from, Str.bytes_eq}
 use Rattle.std.specs.Prelude.{ℕ, List, [], Option, Some, None, option_map, option_and_then, slice_get, map, ◌≡◌, Bool}
 use Rattle.std.specs.Prelude.{true, false, not, ◌&&◌, ◌||◌, ◌==◌, ◌<◌, ◌≤◌, ◌+◌, length, is_some, is_none, codes}
 use Rattle.std.specs.Prelude.{if◌then◌else◌, nat_lt}
-use Rattle.serde_json.specs.Find.{as_str}
-use Rattle.std.specs.List.{list_any, enumerate_from}
-use Rattle.std.specs.Str.{bytes_eq}
-use Rattle.irs_terms.specs.Elements.{count, name_or_empty}
-use Rattle.irs_terms.specs.declared.places.Broken.{Broken}
-use Rattle.irs_terms.specs.declared.places.Rule.{Rule}
+use Rattle.irs_terms.specs.{Elements.count, Elements.name_or_empty, declared.places.Broken.Broken}
+use Rattle.irs_terms.specs.{declared.places.Rule.Rule}
 use Rattle.irs_terms.specs.declared.places.Rule.TheVariants.{K2, K3, K4, K5, K7}
 use Rattle.irs_json.specs.Leaves.{child_of, leaf_of, items_of, is_attribute_name, element_names}
-use Rattle.irs_elements.specs.Leaves.{text_of_leaf, leaf_rule}
-use Rattle.irs_elements.specs.declared.table.Choice.{Choice}
+use Rattle.irs_elements.specs.{Leaves.text_of_leaf, Leaves.leaf_rule, declared.table.Choice.Choice}
+use Rattle.irs_elements.specs.{declared.table.Count.Count, declared.table.Kind.Kind, declared.table.Row.Row}
+use Rattle.irs_elements.specs.{declared.walk.Unmet.Unmet, declared.walk.Unmet.TheVariants.Both}
+use Rattle.irs_elements.specs.{declared.walk.Unmet.TheVariants.Neither}
 use Rattle.irs_elements.specs.declared.table.Choice.TheVariants.{Free, AtMostOne, AtMostOneOfThree, ExactlyOne}
 use Rattle.irs_elements.specs.declared.table.Choice.TheVariants.{Reference}
-use Rattle.irs_elements.specs.declared.table.Count.{Count}
 use Rattle.irs_elements.specs.declared.table.Count.TheVariants.{One, Maybe, OneTo, UpTo}
-use Rattle.irs_elements.specs.declared.table.Kind.{Kind}
 use Rattle.irs_elements.specs.declared.table.Kind.TheVariants.{Object, Leaf, Refused}
-use Rattle.irs_elements.specs.declared.table.Row.{Row}
-use Rattle.irs_elements.specs.declared.walk.Unmet.{Unmet}
-use Rattle.irs_elements.specs.declared.walk.Unmet.TheVariants.{Both, Neither}
 
 -- ---- finding a value by its name
 

@@ -1,18 +1,14 @@
 -- The leaves of the table of elements: what their texts say.
-use Rattle.std.specs.List.{list_all, list_any}
+use Rattle.std.specs.{List.list_all, List.list_any, Fmt.signed_decimal, Str.bytes_eq}
 use Rattle.std.specs.Prelude.{ℕ, nat_le, nat_lt, ◌==◌, Bool, not, ◌&&◌, List, length, Option, Some, None, if◌then◌else◌}
 use Rattle.std.specs.Prelude.{take, slice_index, ℤ, [], ◌∷◌, is_some, codes}
-use Rattle.std.specs.Fmt.{signed_decimal}
-use Rattle.std.specs.Str.{bytes_eq}
-use Rattle.irs_base.specs.Limits.{most_index, most_name}
-use Rattle.irs_base.specs.Texts.{date_at}
-use Rattle.irs_terms.specs.declared.places.Rule.{Rule}
+use Rattle.irs_base.specs.{Limits.most_index, Limits.most_name, Texts.date_at}
+use Rattle.irs_terms.specs.declared.{places.Rule.Rule, currency.Currency.Currency}
 use Rattle.irs_terms.specs.declared.places.Rule.TheVariants.{K3, K5, K6}
-use Rattle.irs_terms.specs.declared.currency.Currency.{Currency}
 use Rattle.irs_json.specs.Leaves.{Leaf, word, whole, truth}
+use Rattle.irs_elements.specs.declared.table.Leaf.{Leaf as LeafKind}
 use Rattle.irs_elements.specs.Codes
 use Rattle.irs_elements.specs.Numbers
-use Rattle.irs_elements.specs.declared.table.Leaf.{Leaf as LeafKind}
 use Rattle.irs_elements.specs.declared.table.Leaf.TheVariants as kind
 
 -- ---- texts that are kept as they are

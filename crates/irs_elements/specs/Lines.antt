@@ -2,12 +2,9 @@
 use Prim.Native.String.{String}
 use Rattle.irs_elements.specs.declared.table.Choice.TheVariants.{Free, AtMostOne, AtMostOneOfThree, ExactlyOne}
 use Rattle.irs_elements.specs.declared.table.Choice.TheVariants.{Reference}
-use Rattle.irs_elements.specs.declared.table.Count.{Count}
+use Rattle.irs_elements.specs.declared.table.{Count.Count, Kind.Kind, Leaf.Leaf as LeafKind, Row.Row}
 use Rattle.irs_elements.specs.declared.table.Count.TheVariants.{One, Maybe}
-use Rattle.irs_elements.specs.declared.table.Kind.{Kind}
 use Rattle.irs_elements.specs.declared.table.Kind.TheVariants.{Object, Leaf, Passed, Refused}
-use Rattle.irs_elements.specs.declared.table.Leaf.{Leaf as LeafKind}
-use Rattle.irs_elements.specs.declared.table.Row.{Row}
 use Rattle.std.specs.Prelude.{ℕ, ◌+◌, ◌-◌, true, false, ◌==◌, List, [], ◌∷◌, ◌++◌, length, map, take, codes}
 use Rattle.std.specs.Prelude.{if◌then◌else◌}
 use Rattle.std.specs.Str.{bytes_eq}

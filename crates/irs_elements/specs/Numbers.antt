@@ -3,12 +3,10 @@ use Rattle.std.specs.List.{list_all}
 use Rattle.std.specs.Prelude.{ℕ, ◌+◌, nat_lt, nat_le, Bool, ◌&&◌, ◌==◌, List, [], ◌∷◌, length, drop, ℤ, pos, neg_ℤ}
 use Rattle.std.specs.Prelude.{Option, Some, None, option_map, if◌then◌else◌, ◌||◌, unsigned_abs, int_le, ◌≡◌, ◌⊎◌, ◌*◌}
 use Rattle.std.specs.Prelude.{◌^◌, ◌++◌, take}
-use Rattle.irs_base.specs.Texts.{is_digit, is_zero, number_after, number_of, padded, has_no_point, AreParts}
-use Rattle.irs_base.specs.Texts.{most_places}
-use Rattle.irs_base.specs.Limits.{most_multiplier, most_notional, most_observation_offset, most_offset, most_rate}
-use Rattle.irs_base.specs.Limits.{Rounded}
-use Rattle.irs_base.specs.declared.line.Dec.{Dec}
-use Rattle.irs_base.specs.declared.rounding.Direction.TheVariants.{Nearest}
+use Rattle.irs_base.specs.{Texts.is_digit, Texts.is_zero, Texts.number_after, Texts.number_of, Texts.padded}
+use Rattle.irs_base.specs.{Texts.has_no_point, Texts.AreParts, Texts.most_places, Limits.most_multiplier}
+use Rattle.irs_base.specs.{Limits.most_notional, Limits.most_observation_offset, Limits.most_offset, Limits.most_rate}
+use Rattle.irs_base.specs.{Limits.Rounded, declared.line.Dec.Dec, declared.rounding.Direction.TheVariants.Nearest}
 
 -- ---- the number that the text of a decimal spells, as a function of the text
 

@@ -24,20 +24,14 @@ pub fn member<'a>(v: Option<&'a Value>, name: &str) -> Option<&'a Value>
 pub fn values<'a>(v: Option<&'a Value>, name: &str) -> &'a [Value]
     ensures { map view result.now ≡ values_in name.now (seen v.entry) }
 {
-    match v {
-        None => &[],
-        Some(v) => values_at(v, name),
-    }
+    v.map_or(&[], |v| values_at(v, name))
 }
 
 /// The values of the repeated element of that name in `v`.
 pub fn values_at<'a>(v: &'a Value, name: &str) -> &'a [Value]
     ensures { map view result.now ≡ values_in name.now (Some (view v.now)) }
 {
-    match child(v, name) {
-        None => &[],
-        Some(found) => items(found).as_slice(),
-    }
+    child(v, name).map_or(&[], |found| items(found).as_slice())
 }
 
 /// The text of a leaf that may be absent. A whole number's digits are written into `digits`.

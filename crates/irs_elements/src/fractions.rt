@@ -35,6 +35,7 @@ fn kept(decimals: &[u8]) -> (&[u8], &[u8])
 }
 
 // The number of both parts, a half of the last kept place being carried.
+#[tactic(auto, using(irs_base::proofs::DecimalLemmas::padded_whole))]
 fn units(whole: &[u8], kept: &[u8], left: &[u8]) -> u128
     requires whole { AreDigits whole.now }
     requires kept { AreDigits kept.now }
@@ -62,6 +63,7 @@ fn fraction_of(whole: &[u8], decimals: &[u8]) -> Dec
 /// The value of a stated fraction, with as many places as it has decimals; past 12 decimals it is
 /// rounded to 12, a half upwards. `None` exactly where the text is no decimal, has a sign, or has more
 /// than 18 digits before its point.
+#[tactic(auto, using(crate::proofs::FractionsAt::fraction_both))]
 pub fn fraction(text: &[u8]) -> Option<Dec>
     ensures some { IfSome result (IsFraction text.now) }
     ensures none { IfNone result ((v : DecRecord) → IsFraction text.now v → ⊥) }
@@ -71,6 +73,7 @@ pub fn fraction(text: &[u8]) -> Option<Dec>
     stated(text)
 }
 
+#[tactic(auto, using(crate::proofs::FractionsAt::fraction_is, crate::proofs::FractionsAt::no_fraction))]
 fn stated(text: &[u8]) -> Option<Dec>
     ensures { result ≡ fraction_at text.now }
 {

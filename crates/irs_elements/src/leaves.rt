@@ -2,9 +2,7 @@
 ghost use Rattle.irs_elements.specs.Leaves.{leaf_rule as leaf_rule_of, text_rule as text_rule_of};
 ghost use Rattle.irs_json.specs.Leaves.{leaf_of};
 ghost use Rattle.serde_json.specs.View.{view};
-ghost use Rattle.std.specs.List.{list_any};
-ghost use Rattle.std.specs.Prelude.{◌≡◌};
-ghost use Rattle.std.specs.Str.{bytes_eq};
+ghost use Rattle.std.specs.{List.list_any, Prelude.◌≡◌, Str.bytes_eq};
 
 use crate::find::leaf_text;
 use crate::{Leaf, codes, fractions, numbers, words};
@@ -73,6 +71,7 @@ fn text_rule(kind: Leaf, text: &str) -> Option<Rule>
 
 /// The rule that a value breaks at a leaf. K3 comes where it is no leaf, K5 where its text is
 /// listed as out of the profile. K6 comes where the text is outside its grammar or range.
+#[tactic(auto, using(crate::proofs::TableRules::rule_of))]
 pub fn leaf_rule(kind: Leaf, v: &Value) -> Option<Rule>
     ensures { result ≡ leaf_rule_of kind (leaf_of (view v.now)) }
 {

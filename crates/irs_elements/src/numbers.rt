@@ -1,10 +1,9 @@
 //! Dates and numbers: the value of a text. `None` comes exactly where the text is outside the
 //! grammar or the range of its kind.
-ghost use Rattle.irs_elements.specs.Leaves.{leaf_date_at};
-ghost use Rattle.irs_elements.specs.Numbers as spec;
-ghost use Rattle.irs_elements.specs.Private.Walk.{digits_at, few_digits_at};
+ghost use Rattle.irs_elements.specs.{Leaves.leaf_date_at, Private.Walk.digits_at, Private.Walk.few_digits_at};
 ghost use Rattle.irs_base.specs.Texts.{has_no_point as no_point_of};
 ghost use Rattle.std.specs.Prelude.{◌≡◌, ◌+◌, ◌*◌, ◌^◌, ◌<◌, ◌≤◌, length, unsigned_abs};
+ghost use Rattle.irs_elements.specs.Numbers as spec;
 
 use irs_base::{Day, MOST_RATE, read_date, read_dec};
 
@@ -31,6 +30,7 @@ pub fn day(text: &[u8]) -> Option<Day>
 }
 
 /// A decimal in units of 10^-places.
+#[tactic(auto, using(crate::proofs::DecimalsAt::dec_is))]
 pub fn decimal(text: &[u8], places: u8) -> Option<i128>
     requires { places ≤ 12 }
     ensures { result ≡ spec.dec_at places text.now }
@@ -75,6 +75,7 @@ fn few_digits(text: &[u8]) -> Option<u32>
 
 /// A notional: a decimal of 4 places from 0 to 10^13. Most have few digits and no point, and are read
 /// at once.
+#[tactic(auto, using(crate::proofs::FewDigits::few_is))]
 pub fn notional(text: &[u8]) -> Option<i128>
     ensures { result ≡ spec.notional_at text.now }
 {

@@ -40,20 +40,15 @@ enum Unmet {
 fn element(rows: &[Row], r: usize) -> Elem
     ensures { result ≡ elem_at rows.now r }
 {
-    match rows.get(r) {
-        None => Elem::DOCUMENT,
-        Some(row) => element_at(row.place),
-    }
+    rows.get(r)
+        .map_or(Elem::DOCUMENT, |row| element_at(row.place))
 }
 
 // The element at a place of the table of paths.
 fn element_at(place: u8) -> Elem
     ensures { result ≡ elem_of place }
 {
-    match Elem::at(place) {
-        None => Elem::DOCUMENT,
-        Some(elem) => elem,
-    }
+    Elem::at(place).unwrap_or(Elem::DOCUMENT)
 }
 
 // A rule that is broken at row r.
@@ -86,10 +81,8 @@ fn leaf_fault(table: &Table<'_>, r: usize, leaf: Leaf, index: u32, v: &Value) ->
     ensures { result ≡ option_map (λ k. place table.now.rows.now table.now.stream k r index)
         (leaf_rule_of leaf (leaf_of (view v.now))) }
 {
-    match leaf_rule(leaf, v) {
-        None => None,
-        Some(rule) => Some(broken(table, rule, r, index)),
-    }
+    let rule = leaf_rule(leaf, v)?;
+    Some(broken(table, rule, r, index))
 }
 
 fn is_required(count: Count) -> bool
@@ -97,9 +90,8 @@ fn is_required(count: Count) -> bool
 {
     match count {
         Count::One => true,
-        Count::Maybe => false,
         Count::OneTo(_) => true,
-        Count::UpTo(_) => false,
+        Count::Maybe | Count::UpTo(_) => false,
     }
 }
 
@@ -107,10 +99,8 @@ fn most(count: Count) -> u32
     ensures { result ≡ most_of count }
 {
     match count {
-        Count::One => 1,
-        Count::Maybe => 1,
-        Count::OneTo(n) => n,
-        Count::UpTo(n) => n,
+        Count::One | Count::Maybe => 1,
+        Count::OneTo(n) | Count::UpTo(n) => n,
     }
 }
 
@@ -120,10 +110,8 @@ fn index_in(count: Count, index: u32, j: u32) -> u32
     ensures { result ≡ index_in_of count index j }
 {
     match count {
-        Count::One => index,
-        Count::Maybe => index,
-        Count::OneTo(_) => j + 1,
-        Count::UpTo(_) => j + 1,
+        Count::One | Count::Maybe => index,
+        Count::OneTo(_) | Count::UpTo(_) => j + 1,
     }
 }
 
@@ -131,10 +119,8 @@ fn absent_index(count: Count, index: u32) -> u32
     ensures { result ≡ absent_index_of count index }
 {
     match count {
-        Count::One => index,
-        Count::Maybe => index,
-        Count::OneTo(_) => 0,
-        Count::UpTo(_) => 0,
+        Count::One | Count::Maybe => index,
+        Count::OneTo(_) | Count::UpTo(_) => 0,
     }
 }
 
@@ -166,24 +152,16 @@ fn choice_unmet(names: &[&'static str], choice: Choice, v: &Value) -> Option<Unm
     ensures { result ≡ choice_unmet_of (referenced_texts names.now) choice (view v.now) }
 {
     match choice {
-        Choice::Free => None,
-        Choice::Reference => None,
-        Choice::AtMostOne(a, b) => if stands(names, a, v) && stands(names, b, v) {
-            Some(Unmet::Both)
-        } else {
-            None
-        },
-        Choice::AtMostOneOfThree(a, b, c) => {
-            if are_two(
-                stands(names, a, v),
-                stands(names, b, v),
-                stands(names, c, v),
-            ) {
-                Some(Unmet::Both)
-            } else {
-                None
-            }
-        },
+        Choice::Free | Choice::Reference => None,
+        Choice::AtMostOne(a, b) => (stands(names, a, v) && stands(names, b, v)).then_some(
+            Unmet::Both,
+        ),
+        Choice::AtMostOneOfThree(a, b, c) => are_two(
+            stands(names, a, v),
+            stands(names, b, v),
+            stands(names, c, v),
+        )
+        .then_some(Unmet::Both),
         Choice::ExactlyOne(a, b) => if stands(names, a, v) && stands(names, b, v) {
             Some(Unmet::Both)
         } else if stands(names, a, v) || stands(names, b, v) {
@@ -248,10 +226,7 @@ fn has_unknown(table: &Table<'_>, r: usize, v: &Value) -> bool
 fn is_odd(v: &Value, name: &str) -> bool
     ensures { result ≡ is_odd_of (child_of name.now (view v.now)) }
 {
-    match child(v, name) {
-        None => false,
-        Some(found) => found.as_str().is_none(),
-    }
+    child(v, name).is_some_and(|found| found.as_str().is_none())
 }
 
 /// Whether `@id` or `@href` is there and is no text.
@@ -264,13 +239,7 @@ pub fn has_odd(v: &Value) -> bool
 fn lacks_href(choice: Choice, v: &Value) -> bool
     ensures { result ≡ lacks_href_of choice (view v.now) }
 {
-    match choice {
-        Choice::Free => false,
-        Choice::AtMostOne(_, _) => false,
-        Choice::AtMostOneOfThree(_, _, _) => false,
-        Choice::ExactlyOne(_, _) => false,
-        Choice::Reference => child(v, "@href").is_none(),
-    }
+    matches!(choice, Choice::Reference) && child(v, "@href").is_none()
 }
 
 // The first of what was found before and of what is found now; mostly nothing is.
@@ -338,10 +307,7 @@ fn shape_fault(table: &Table<'_>, r: usize, choice: Choice, index: u32, v: &Valu
 fn end_of(table: &Table<'_>, r: usize) -> usize
     ensures { result ≡ end_at (length table.now.rows.now) table.now.ends.now r }
 {
-    match table.ends.get(r) {
-        None => table.rows.len(),
-        Some(end) => *end,
-    }
+    table.ends.get(r).map_or(table.rows.len(), |end| *end)
 }
 
 // Whether each row is before the end of its parent's members.
@@ -392,8 +358,7 @@ fn value_fault(table: &Table<'_>, r: usize, kind: Kind, index: u32, v: &Value) -
     match kind {
         Kind::Object(choice) => object_fault(table, r, choice, index, v),
         Kind::Leaf(leaf) => leaf_fault(table, r, leaf, index, v),
-        Kind::Passed => None,
-        Kind::Refused => None,
+        Kind::Passed | Kind::Refused => None,
     }
 }
 
@@ -425,9 +390,8 @@ fn is_one_right_leaf(name: &str, leaf: Leaf, v: &Value) -> bool
     match child(v, name) {
         None => false,
         Some(member) => match items(member).as_slice() {
-            [] => false,
             [one] => leaf_rule(leaf, one).is_none(),
-            [_, _, ..] => false,
+            [] | [_, _, ..] => false,
         },
     }
 }
@@ -437,12 +401,10 @@ fn is_right_leaf(table: &Table<'_>, c: usize, row: &Row, v: &Value) -> bool
     ensures { result ≡ is_right_leaf_of (referenced_texts table.now.names.now) c row.now (view v.now) }
 {
     match row.kind {
-        Kind::Object(_) => false,
         Kind::Leaf(leaf) => {
             0 < most(row.count) && is_one_right_leaf(name_of(table.names, c), leaf, v)
         },
-        Kind::Passed => false,
-        Kind::Refused => false,
+        Kind::Object(_) | Kind::Passed | Kind::Refused => false,
     }
 }
 
@@ -473,8 +435,7 @@ fn fault_under(table: &Table<'_>, c: usize, row: &Row, index: u32, v: &Value) ->
         result }
 {
     match row.kind {
-        Kind::Object(_) => element_fault(table, c, row, index, v),
-        Kind::Leaf(_) => element_fault(table, c, row, index, v),
+        Kind::Object(_) | Kind::Leaf(_) => element_fault(table, c, row, index, v),
         Kind::Passed => None,
         Kind::Refused => if stands(table.names, c, v) {
             Some(broken(table, Rule::K5, row.parent, index))

@@ -1,7 +1,6 @@
 //! Texts that are kept as they are: the name of a centre, the index of a rate, a currency.
+ghost use Rattle.std.specs.{List.list_all, Prelude.◌≡◌};
 ghost use Rattle.irs_elements.specs.Leaves as spec;
-ghost use Rattle.std.specs.List.{list_all};
-ghost use Rattle.std.specs.Prelude.{◌≡◌};
 
 use irs_base::{MOST_INDEX, MOST_NAME};
 use irs_terms::Currency;
