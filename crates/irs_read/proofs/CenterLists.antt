@@ -1,34 +1,28 @@
 -- Lists of centres: those of clean streams say names, and no others.
 use Prim.Native.String.{String}
-use Rattle.irs_base.specs.Limits.{most_centers}
-use Rattle.irs_elements.specs.Elements.{member, values_in}
-use Rattle.irs_elements.specs.declared.table.Count.TheVariants.{OneTo}
+use Rattle.irs_base.{proofs.EveryLemmas.every_both, specs.Limits.most_centers, specs.Lists.Every}
 use Rattle.irs_elements.specs.declared.table.Leaf.TheVariants.{CenterName, Convention}
-use Rattle.irs_read.proofs.LeafKinds.{center_names}
+use Rattle.irs_elements.specs.{Elements.member, declared.table.Count.TheVariants.OneTo}
 use Rattle.irs_read.proofs.Rows.{At, AtMost, LeafRow, May, Must, Path, RowIs, facts, is_leaf, most_of, row_of}
-use Rattle.irs_read.proofs.Tells.{Fills, ListIs, Told, each_fills, few, leaf_fills, perhaps, some, told}
+use Rattle.irs_read.proofs.Tells.{Fills, Told, each_fills, fine, leaf_fills, perhaps, some, told}
 use Rattle.irs_read.specs.Readings.{found_value, has_id, lists_in, lists_of, the_one}
-use Rattle.irs_read.specs.StreamElements.{center_list, center_name}
-use Rattle.irs_terms.specs.Lawful.{IsLawfulName, IsLawfulNames}
+use Rattle.irs_read.{proofs.LeafKinds.center_names, specs.StreamElements.center_list, specs.StreamElements.center_name}
+use Rattle.irs_terms.specs.Lawful.{IsLawfulNames}
 use Rattle.serde_json.specs.Data.{Data}
-use Rattle.std.proofs.Common.{count_by, find, Option, Some, None, slice_get, codes, refl, arith, if◌then◌else◌}
-use Rattle.std.proofs.Common.{◌≡◌, ℕ, suc, ◌<◌, ◌≤◌, Bool, true, false, ◌==◌, List, [], ◌∷◌, ◌++◌, length, cond}
+use Rattle.std.proofs.Common.{count_by, find, Option, Some, None, slice_get, codes, refl, arith, if◌then◌else◌, ◌≡◌, ℕ}
+use Rattle.std.proofs.Common.{suc, Bool, true, false, ◌==◌, List, [], ◌∷◌, cond}
 
 -- what the table says of a list of centres at the end of a path
 abbrev pub CenterRows : Path → Type 0
 CenterRows p = LeafRow p "businessCenter" CenterName × (most_of ("businessCenter" ∷ p) ≡ most_centers)
 
-names_lawful : (n m : ℕ) (all : List (List ℕ)) → 0 < n → n ≤ m → m ≡ most_centers → ListIs IsLawfulName n all
-    → IsLawfulNames all
-names_lawful n m all low high most h = (omega (arith, h.many), omega (arith, h.many), h.each)
-
 -- the list of centres at the end of a path
 pub list_fills : (p : Path) → CenterRows p → Fills p center_list.says IsLawfulNames
 list_fills p at =
-    each_fills {L = IsLawfulName} {M = IsLawfulNames} p "businessCenter" (OneTo most_centers) center_name at.0
-    (λ d clean all h. names_lawful (length (values_in (codes "businessCenter") (Some d)))
-    (most_of ("businessCenter" ∷ p)) all (some p "businessCenter" at.0 d clean)
-    (few p "businessCenter" at.0 d clean) at.1 h)
+    each_fills p "businessCenter" (OneTo most_centers) center_name at.0
+    (λ d clean all h. let low = some p "businessCenter" at.0 d clean in
+    let high = (fine p "businessCenter" at.0 d clean).0 in
+    (omega (arith, h.many, low), omega (arith, h.many, high, at.1), h.each))
     (leaf_fills ("businessCenter" ∷ p) center_names (is_leaf p "businessCenter" at.0))
 
 -- a list of centres, if there is one, says lawful names
@@ -37,8 +31,7 @@ GoodList o = Told center_list.says IsLawfulNames o
 
 -- so does each of several
 abbrev pub GoodLists : List (Option Data) → Type 0
-GoodLists [] = Unit {0}
-GoodLists (o ∷ os) = GoodList o × GoodLists os
+GoodLists = Every GoodList
 
 -- what the table says of adjustments at the end of a path
 abbrev pub AdjustingRows : Path → Type 0
@@ -66,10 +59,6 @@ good_below p at o clean =
 abbrev pub dates_path : Path
 dates_path = "calculationPeriodDates" ∷ []
 
--- `paymentDates`
-abbrev pub payments_path : Path
-payments_path = "paymentDates" ∷ []
-
 -- `resetDates`
 abbrev pub resets_path : Path
 resets_path = "resetDates" ∷ []
@@ -80,7 +69,8 @@ adjusted_good : {must : Bool} (p : Path) (name : String) → RowIs p name must N
 adjusted_good p name row at o clean = good_below (name ∷ p) at (member (codes name) o) (below p name row o clean)
 
 -- the list in the adjustments of the date with this name
-dated_good : {must : Bool} (name : String) → RowIs dates_path name must None → Must (name ∷ dates_path) "dateAdjustments"
+dated_good : {must : Bool} (name : String) → RowIs dates_path name must None
+    → Must (name ∷ dates_path) "dateAdjustments"
     → AdjustingRows ("dateAdjustments" ∷ name ∷ dates_path) → (dates : Option Data) → AtMost dates_path dates
     → GoodList (Centers (member (codes "dateAdjustments") (member (codes name) dates)))
 dated_good name row adj at dates clean =
@@ -97,38 +87,29 @@ lists_good d clean =
     let end = dated_good "terminationDate" refl refl (refl, refl, (refl, refl)) _ dates in
     let own = adjusted_good dates_path "calculationPeriodDatesAdjustments" refl (refl, refl, (refl, refl)) _ dates in
     let first = dated_good "firstPeriodStartDate" refl refl (refl, refl, (refl, refl)) _ dates in
-    let pay = adjusted_good payments_path "paymentDatesAdjustments" refl (refl, refl, (refl, refl)) _ pays in
+    let pay = adjusted_good ("paymentDates" ∷ []) "paymentDatesAdjustments" refl (refl, refl, (refl, refl)) _ pays in
     let fix = adjusted_good resets_path "fixingDates" refl (refl, refl, (refl, refl)) _ resets in
     let reset = adjusted_good resets_path "resetDatesAdjustments" refl (refl, refl, (refl, refl)) _ resets in
     (start, (end, (own, (first, (pay, (fix, (reset, tt)))))))
-
-good_append : (os ps : List (Option Data)) → GoodLists os → GoodLists ps → GoodLists (os ++ ps)
-good_append [] ps g h = h
-good_append (o ∷ os) ps g h = (g.0, good_append os ps g.1 h)
 
 -- the lists of centres of clean streams
 pub all_good : (ds : List Data) → ((j : ℕ) (x : Data) → slice_get ds j ≡ Some x → At [] x) → GoodLists (lists_of ds)
 all_good [] clean = tt
 all_good (d ∷ ds) clean =
-    good_append (lists_in d) (lists_of ds) (lists_good d (clean 0 d refl)) (all_good ds (λ j x e. clean (suc j) x e))
+    every_both GoodList (lists_in d) (lists_of ds) (lists_good d (clean 0 d refl))
+    (all_good ds (λ j x e. clean (suc j) x e))
 
 -- ---- the list that a reference names
-
-found_by : (b : Bool) (o : Option Data) (r : Option (Option Data)) → GoodList o → GoodList (found_value r)
-    → GoodList (found_value (cond b (Some o) r))
-found_by true o r g h = g
-found_by false o r g h = h
 
 good_found : (p : Option Data → Bool) (lists : List (Option Data)) → GoodLists lists
     → GoodList (found_value (find p lists))
 good_found p [] g = tt
-good_found p (o ∷ os) g = found_by (p o) o (find p os) g.0 (good_found p os g.1)
-
-one_by : (b : Bool) (o : Option Data) → GoodList o → GoodList (if b then o else None)
-one_by true o g = g
-one_by false o g = tt
+good_found p (o ∷ os) g =
+    elim (p o) as (λ b. GoodList (found_value (cond b (Some o) (find p os))))
+    [ true ↦ g.0 | false ↦ good_found p os g.1 ]
 
 -- the list that a text names
 pub one_good : (id : List ℕ) (lists : List (Option Data)) → GoodLists lists → GoodList (the_one id lists)
 one_good id lists g =
-    one_by (count_by (has_id id) lists == 1) (found_value (find (has_id id) lists)) (good_found (has_id id) lists g)
+    elim (count_by (has_id id) lists == 1) as (λ b. GoodList (if b then found_value (find (has_id id) lists) else None))
+    [ true ↦ good_found (has_id id) lists g | false ↦ tt ]

@@ -1,21 +1,15 @@
 -- The first rule that is broken among the values of a list, and by the streams of a swap.
-use Rattle.irs_terms.specs.Elements.{swap_stream}
-use Rattle.irs_terms.specs.declared.places.Broken.{Broken}
-use Rattle.irs_terms.specs.declared.places.Rule.TheVariants.{K2, K7}
+use Rattle.irs_base.specs.Limits.{most_streams}
 use Rattle.irs_elements.proofs.First.{Below, first_is, first_more, first_one, first_or, first_same}
 use Rattle.irs_json.specs.Leaves.{element_names}
 use Rattle.irs_read.specs.Documents.{Among, FaultOfStreams, WithMembers, in_stream, many_streams, no_stream, outside}
-use Rattle.irs_base.specs.Limits.{most_streams}
-use Rattle.serde_json.specs.Data.{Data}
-use Rattle.serde_json.specs.View.{view}
-use Rattle.serde_json.specs.declared.value.Value.{Value}
-use Rattle.std.proofs.Common.{◌≡◌, ℕ, ◌+◌, ◌<◌, ◌≤◌, true, false, true≢false, inl, inr, List, [], ◌∷◌, length, map, get_or}
-use Rattle.std.proofs.Common.{Option, Some, None, option_map, refl, sym, ap, ◌∙◌, subst, arith}
-use Rattle.std.proofs.lemmas.Bool.{cases_lt}
-use Rattle.std.proofs.lemmas.List.{length-map}
-use Rattle.std.proofs.lemmas.Option.{slice_get_read, slice_get_within, slice_get-map}
-use Rattle.std.specs.Prelude.{slice_get, is_some}
-use Rattle.irs_terms.specs.Faults.{IsFirstBroken, earlier_broken}
+use Rattle.irs_terms.specs.declared.places.{Broken.Broken, Rule.TheVariants.K2, Rule.TheVariants.K7}
+use Rattle.irs_terms.specs.{Elements.swap_stream, Faults.IsFirstBroken, Faults.earlier_broken}
+use Rattle.serde_json.specs.{Data.Data, View.view, declared.value.Value.Value}
+use Rattle.std.proofs.Common.{get_or, Option, Some, None, option_map, refl, ap, ◌∙◌, subst, arith}
+use Rattle.std.proofs.Common.{◌≡◌, ℕ, ◌+◌, ◌<◌, ◌≤◌, true, false, true≢false, inl, inr, List, [], ◌∷◌, length, map, sym}
+use Rattle.std.proofs.lemmas.{List.length-map, Option.slice_get_read, Option.slice_get_within, Option.slice_get-map}
+use Rattle.std.{proofs.lemmas.Bool.cases_lt, specs.Prelude.slice_get, specs.Prelude.is_some}
 
 module _ (P : ℕ → Data → Broken → Type 0) where
   -- the rules that the value at a place breaks
@@ -39,8 +33,7 @@ module _ (P : ℕ → Data → Broken → Type 0) where
 
   -- the first of one more value
   pub each_step : (vs : List Value) (j : ℕ) (v : Value) (a b s : Option Broken) → j < length vs → v ≡ get_or vs j v
-      → s ≡ earlier_broken a b
-      → IsFirstBroken (Below (Each (map view vs)) j) a → IsFirstBroken (P j (view v)) b
+      → s ≡ earlier_broken a b → IsFirstBroken (Below (Each (map view vs)) j) a → IsFirstBroken (P j (view v)) b
       → IsFirstBroken (Below (Each (map view vs)) (j + 1)) s
   each_step vs j v a b s lt is e p q =
       let found = slice_get_read vs (length vs) j v refl lt is in
@@ -62,7 +55,8 @@ module _ (P : ℕ → Data → Broken → Type 0) where
       → IsFirstBroken (FaultOfStreams P ds) a
   many_first ds a h e = first_is _ _ a e (first_one _ _ (many_streams h) (only ds h))
     where
-      only : (ds : List Data) → most_streams < length ds → (g : Broken) → FaultOfStreams P ds g → g ≡ outside K7 swap_stream
+      only : (ds : List Data) → most_streams < length ds → (g : Broken) → FaultOfStreams P ds g
+          → g ≡ outside K7 swap_stream
       only ds h g (no_stream e) = absurd (omega arith)
       only ds h g (many_streams e) = refl
       only ds h g (in_stream _ lo hi q) = absurd (omega arith)

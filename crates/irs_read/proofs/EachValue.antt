@@ -1,8 +1,7 @@
 -- Of each value it is true that it means a swap or breaks a rule of its elements.
-use Rattle.irs_terms.specs.declared.places.Broken.{Broken}
 use Rattle.irs_read.proofs.LawfulSwaps.{document_means, document_tells}
 use Rattle.irs_read.specs.Documents.{DocumentFault, Means, Way, ended, the_swap}
-use Rattle.irs_terms.specs.declared.stream_list.Swap.{Swap}
+use Rattle.irs_terms.specs.declared.{places.Broken.Broken, stream_list.Swap.Swap}
 use Rattle.serde_json.specs.Data.{Data}
 use Rattle.std.proofs.Common.{◌≡◌, Ok, Err, refl}
 

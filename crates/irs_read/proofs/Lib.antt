@@ -2,7 +2,6 @@ pub mod TableLaws
 pub mod Each
 pub mod EachSaid
 pub mod Ways
-pub mod Lists
 pub mod Clean
 pub mod Ranges
 pub mod Words

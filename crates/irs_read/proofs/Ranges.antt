@@ -1,25 +1,21 @@
 -- The values of leaves lie in their ranges.
+use Rattle.irs_base.specs.Lists.{Every}
 use Rattle.irs_base.specs.declared.day.DayName.TheVariants.{Mon, Tue, Wed, Thu, Fri, Sat, Sun}
-use Rattle.irs_elements.proofs.Exact.{both_true}
 use Rattle.irs_elements.specs.Codes.{among, day_number_at, day_roll_at, first_there, is_first_digit, named_roll_at}
-use Rattle.irs_elements.specs.Codes.{roll_at, tenor_unit_at}
-use Rattle.irs_elements.specs.Leaves.{currency_at, is_capital, is_currency}
-use Rattle.irs_elements.specs.Numbers.{whole_at, within}
-use Rattle.irs_terms.specs.Lawful.{IsLawfulCurrency, IsLawfulRoll}
+use Rattle.irs_elements.specs.{Codes.roll_at, Codes.tenor_unit_at, Leaves.currency_at, Numbers.whole_at, Numbers.within}
+use Rattle.irs_elements.{proofs.Exact.both_true, specs.Leaves.is_capital, specs.Leaves.is_currency}
 use Rattle.irs_terms.specs.declared.codes.RollCode.TheVariants.{Dom, Eom, Imm, NoRoll, OnWeekday}
 use Rattle.irs_terms.specs.declared.frequency.Unit.TheVariants.{D, W, M, Y, T as Term}
-use Rattle.irs_terms.specs.declared.frequency.Unit.{Unit as PeriodUnit}
+use Rattle.irs_terms.specs.{Lawful.IsLawfulCurrency, Lawful.IsLawfulRoll, declared.frequency.Unit.Unit as PeriodUnit}
 use Rattle.std.proofs.Common.{negsuc, neg_ℤ, ◌≤ℤ◌, int_le, unsigned_abs, Option, Some, None, IfSome, option_map, ◌≡◌, ℕ}
 use Rattle.std.proofs.Common.{option_and_then, All, refl, arith, if◌then◌else◌, bytes_eq, codes, ℤ, pos, ◌+◌, ◌-◌, ◌*◌}
 use Rattle.std.proofs.Common.{◌≤◌, nat_le, Bool, true, false, ◌&&◌, ◌==◌, List, [], ◌∷◌, length}
-use Rattle.std.proofs.lemmas.Bool.Decides.{nat_tests}
-use Rattle.std.proofs.lemmas.Int.{ints}
-use Rattle.std.proofs.lemmas.List.Sums.{AllPass-from_list_all}
+use Rattle.std.proofs.lemmas.{Bool.Decides.nat_tests, Int.ints, List.Sums.AllPass-from_list_all, Option.IfSome_then}
 use Rattle.std.specs.List.{list_all}
 
 -- what holds of each value of a text holds of a leaf's value
-pub said_in : {A : Type 0} (P : A → Type 0) (at : List ℕ → Option A) → ((s : List ℕ) → IfSome (at s) P)
-    → (t : Option (List ℕ)) → IfSome (option_and_then at t) P
+pub said_in : {A B : Type 0} (P : A → Type 0) (at : B → Option A) → ((s : B) → IfSome (at s) P) → (t : Option B)
+    → IfSome (option_and_then at t) P
 said_in P at h None = tt
 said_in P at h (Some s) = h s
 
@@ -29,20 +25,18 @@ said_in P at h (Some s) = h s
 abbrev Between : ℤ → ℤ → ℤ → Type 0
 Between low high z = (low ≤ℤ z) × (z ≤ℤ high)
 
-within_by : (low high z : ℤ) (b : Bool) → (int_le low z && int_le z high) ≡ b
-    → IfSome (if b then Some z else None) (Between low high)
-within_by low high z false e = tt
-within_by low high z true e = (grind (arith, ints, nat_tests), grind (arith, ints, nat_tests))
+-- what is there only by a test
+pub guarded : {A : Type 0} (P : A → Type 0) (b : Bool) (o : Option A) → (b ≡ true → IfSome o P)
+    → IfSome (if b then o else None) P
+guarded P true o h = h refl
+guarded P false o h = tt
 
 -- a number from low to high
 pub within_range : (low high : ℤ) (o : Option ℤ) → IfSome (within low high o) (Between low high)
 within_range low high None = tt
-within_range low high (Some z) = within_by low high z (int_le low z && int_le z high) refl
-
--- what is in a range is in a wider one
-pub if_some : {A : Type 0} (P Q : A → Type 0) → ((a : A) → P a → Q a) → (o : Option A) → IfSome o P → IfSome o Q
-if_some P Q f None h = tt
-if_some P Q f (Some a) h = f a h
+within_range low high (Some z) =
+    guarded (Between low high) (int_le low z && int_le z high) (Some z)
+    (λ e. (grind (arith, ints, nat_tests), grind (arith, ints, nat_tests)))
 
 if_mapped : {A B : Type 0} (P : A → Type 0) (Q : B → Type 0) (g : A → B) → ((a : A) → P a → Q (g a)) → (o : Option A)
     → IfSome o P → IfSome (option_map g o) Q
@@ -55,7 +49,7 @@ size m (negsuc n) h = omega (arith, ints, h)
 
 -- a number from -m to m
 pub size_range : (m : ℕ) (o : Option ℤ) → IfSome (within (neg_ℤ (pos m)) (pos m) o) (λ z. unsigned_abs z ≤ m)
-size_range m o = if_some _ _ (size m) _ (within_range (neg_ℤ (pos m)) (pos m) o)
+size_range m o = IfSome_then _ (within_range (neg_ℤ (pos m)) (pos m) o) (size m)
 
 up : (l m : ℕ) (z : ℤ) → Between (pos l) (pos m) z → (l ≤ unsigned_abs z) × (unsigned_abs z ≤ m)
 up l m (pos n) h = (omega (arith, ints, h), omega (arith, ints, h))
@@ -68,29 +62,20 @@ count_range l m s = if_mapped _ _ unsigned_abs (up l m) _ (within_range (pos l) 
 
 -- ---- codes
 
--- every value of a list of codes has the property
-abbrev EachValue : {A : Type 0} → (A → Type 0) → List (List ℕ × A) → Type 0
-EachValue P [] = Unit {0}
-EachValue P (row ∷ rows) = P row.1 × EachValue P rows
-
-among_by : {A : Type 0} (P : A → Type 0) (a : A) (b : Bool) (o : Option A) → P a → IfSome o P
-    → IfSome (if b then Some a else o) P
-among_by P a true o p h = p
-among_by P a false o p h = h
-
-among_range : {A : Type 0} (P : A → Type 0) (rows : List (List ℕ × A)) → EachValue P rows → (s : List ℕ)
-    → IfSome (among rows s) P
+-- what holds of every value of a list of codes holds of the one that a text has
+among_range : {A : Type 0} (P : A → Type 0) (rows : List (List ℕ × A)) → Every (λ row. P row.1) rows
+    → (s : List ℕ) → IfSome (among rows s) P
 among_range P [] h s = tt
-among_range P (row ∷ rows) h s = among_by P row.1 (bytes_eq s row.0) (among rows s) h.0 (among_range P rows h.1 s)
+among_range P (row ∷ rows) h s =
+    elim (bytes_eq s row.0) as (λ b. IfSome (if b then Some row.1 else among rows s) P)
+    [ true ↦ h.0 | false ↦ among_range P rows h.1 s ]
 
 -- the unit of a tenor is not that of the whole term
 pub tenor_unit_range : (s : List ℕ) → IfSome (tenor_unit_at s) (λ u. u ≡ Term → ⊥)
 tenor_unit_range s =
     among_range (λ (u : PeriodUnit). u ≡ Term → ⊥)
-    ((codes "D", D) ∷ (codes "W", W) ∷ (codes "M", M) ∷ (codes "Y", Y) ∷ []) (
-      (λ e. cc),
-      ((λ e. cc), ((λ e. cc), ((λ e. cc), tt))),
-    ) s
+    ((codes "D", D) ∷ (codes "W", W) ∷ (codes "M", M) ∷ (codes "Y", Y) ∷ [])
+    ((λ e. cc), ((λ e. cc), ((λ e. cc), ((λ e. cc), tt)))) s
 
 named_range : (s : List ℕ) → IfSome (named_roll_at s) IsLawfulRoll
 named_range s =
@@ -99,24 +84,15 @@ named_range s =
     ∷ (codes "THU", OnWeekday Thu) ∷ (codes "FRI", OnWeekday Fri) ∷ (codes "SAT", OnWeekday Sat)
     ∷ (codes "SUN", OnWeekday Sun) ∷ []) (tt, (tt, (tt, (tt, (tt, (tt, (tt, (tt, (tt, (tt, tt)))))))))) s
 
-one_digit : (a : ℕ) (b : Bool) → is_first_digit a ≡ b → IfSome (if b then Some (Dom (a - 48)) else None) IsLawfulRoll
-one_digit a false e = tt
-one_digit a true e = let h : (49 ≤ a) × (a ≤ 57) = grind (arith, nat_tests) in (omega (arith, h), omega (arith, h))
-
-number_by : (n : ℕ) (b : Bool) → nat_le n 30 ≡ b → 1 ≤ n → IfSome (if b then Some (Dom n) else None) IsLawfulRoll
-number_by n false e h = tt
-number_by n true e h = (h, grind (arith, nat_tests))
-
-two_digits : (a b : ℕ) (t : Bool) → (is_first_digit a && nat_le 48 b && nat_le b 57) ≡ t
-    → IfSome (if t then day_number_at (10 * (a - 48) + (b - 48)) else None) IsLawfulRoll
-two_digits a b false e = tt
-two_digits a b true e = let h : 49 ≤ a = grind (arith, nat_tests) in
-    number_by (10 * (a - 48) + (b - 48)) (nat_le (10 * (a - 48) + (b - 48)) 30) refl (omega (arith, h))
-
 day_roll_range : (s : List ℕ) → IfSome (day_roll_at s) IsLawfulRoll
 day_roll_range [] = tt
-day_roll_range (a ∷ []) = one_digit a (is_first_digit a) refl
-day_roll_range (a ∷ b ∷ []) = two_digits a b _ refl
+day_roll_range (a ∷ []) = guarded IsLawfulRoll (is_first_digit a) (Some (Dom (a - 48))) (λ e.
+    let h : (49 ≤ a) × (a ≤ 57) = grind (arith, nat_tests) in (omega (arith, h), omega (arith, h)))
+day_roll_range (a ∷ b ∷ []) =
+    let n = 10 * (a - 48) + (b - 48) in
+    guarded IsLawfulRoll (is_first_digit a && nat_le 48 b && nat_le b 57) (day_number_at n) (λ e.
+    let h : 49 ≤ a = grind (arith, nat_tests) in
+    guarded IsLawfulRoll (nat_le n 30) (Some (Dom n)) (λ t. (omega (arith, h), grind (arith, nat_tests))))
 day_roll_range (a ∷ b ∷ c ∷ rest) = tt
 
 either_range : {A : Type 0} (P : A → Type 0) (o p : Option A) → IfSome o P → IfSome p P → IfSome (first_there o p) P
@@ -133,11 +109,8 @@ roll_range s = either_range IsLawfulRoll (named_roll_at s) (day_roll_at s) (name
 pub capitals : (s : List ℕ) → list_all is_capital s ≡ true → All (λ b. (65 ≤ b) × (b ≤ 90)) s
 capitals s e = λ k d lt. let h = AllPass-from_list_all is_capital s e k d lt in grind (arith, nat_tests)
 
-currency_by : (s : List ℕ) (b : Bool) → is_currency s ≡ b
-    → IfSome (if b then Some (record { letters = s }) else None) IsLawfulCurrency
-currency_by s false e = tt
-currency_by s true e = capitals s (both_true (length s == 3) (list_all is_capital s) e).1
-
 -- a currency that is read is lawful
 pub currency_range : (s : List ℕ) → IfSome (currency_at s) IsLawfulCurrency
-currency_range s = currency_by s (is_currency s) refl
+currency_range s =
+    guarded IsLawfulCurrency (is_currency s) (Some (record { letters = s }))
+    (λ e. capitals s (both_true (length s == 3) (list_all is_capital s) e).1)

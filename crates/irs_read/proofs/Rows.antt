@@ -1,14 +1,12 @@
 -- The rows of the table of a stream by the names that lead to them, and what the table says of each. So no row is known
 -- by its number here.
 use Prim.Native.String.{String}
-use Rattle.irs_elements.specs.Elements.{name_at}
-use Rattle.irs_elements.specs.declared.table.{Leaf.Leaf as LeafKind, Row.Row}
+use Rattle.irs_elements.specs.{Elements.name_at, declared.table.Leaf.Leaf as LeafKind, declared.table.Row.Row}
 use Rattle.irs_read.proofs.Clean.{Clean, is_child, leaf_at, most_at, required_at}
-use Rattle.irs_read.proofs.TableLaws.{code_names as row_names}
-use Rattle.irs_read.specs.declared.table.TheConstants.{ROWS}
+use Rattle.irs_read.{proofs.TableLaws.code_names as row_names, specs.declared.table.TheConstants.ROWS}
 use Rattle.serde_json.specs.Data.{Data}
-use Rattle.std.proofs.Common.{IfSome, slice_get, codes, ap, bytes_eq, if◌then◌else◌}
-use Rattle.std.proofs.Common.{◌≡◌, ℕ, ◌+◌, nat_lt, Bool, true, false, ◌&&◌, ◌==◌, List, [], ◌∷◌, Option, Some, None}
+use Rattle.std.proofs.Common.{IfSome, slice_get, codes, ap, bytes_eq, if◌then◌else◌, ◌≡◌, ℕ, ◌+◌, nat_lt, Bool, true}
+use Rattle.std.proofs.Common.{false, ◌&&◌, ◌==◌, List, [], ◌∷◌, Option, Some, None}
 
 -- the names on the way to a row, the last one first
 abbrev pub Path : Type 0
@@ -89,13 +87,3 @@ pub record At (p : Path) (d : Data) : Type 0 where
 -- d, if present, breaks none
 abbrev pub AtMost : Path → Option Data → Type 0
 AtMost p o = IfSome o (At p)
-
--- what is clean at the row, if present, breaks none
-pub at_most : (p : Path) (o : Option Data) → IfSome o (Clean ROWS row_names (row_of p)) → AtMost p o
-at_most p None clean = tt
-at_most p (Some d) clean = record { clean = clean }
-
--- a stream that is clean breaks none
-pub at_top : (d : Data) → Clean ROWS row_names 0 d → At [] d
-unfolding row_of
-at_top d clean = record { clean = clean }

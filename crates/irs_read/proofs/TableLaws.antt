@@ -1,14 +1,10 @@
 -- The code's tables are those of the specification.
-use Rattle.irs_terms.specs.Faults.{IsFirstBroken}
-use Rattle.irs_terms.specs.Paths.{paths, printed_paths}
-use Rattle.irs_terms.specs.declared.places.Broken.{Broken}
-use Rattle.irs_elements.specs.Elements.{FaultAt}
-use Rattle.irs_elements.specs.Lines.{Line}
-use Rattle.irs_elements.specs.declared.table.{Kind.Kind, Row.Row}
+use Rattle.irs_elements.specs.{Elements.FaultAt, Lines.Line, declared.table.Kind.Kind, declared.table.Row.Row}
 use Rattle.irs_read.specs.Documents.{stream_elements, stream_names, stream_rows, stream_table, swap_names, swap_rows}
 use Rattle.irs_read.specs.Documents.{swap_table}
 use Rattle.irs_read.specs.Readings.{list_lines, lists_in, names_on, value_on}
 use Rattle.irs_read.specs.declared.table.TheConstants.{NAMES, ROWS, SWAP_NAMES, SWAP_ROWS}
+use Rattle.irs_terms.specs.{Faults.IsFirstBroken, Paths.paths, Paths.printed_paths, declared.places.Broken.Broken}
 use Rattle.serde_json.specs.Data.{Data}
 use Rattle.std.proofs.Common.{◌≡◌, ℕ, List, map, Option, Some, refl, subst}
 
@@ -57,24 +53,15 @@ pub by_tables : (P : List Row → List (List ℕ) → Type 0) (rows rows' : List
 by_tables P rows rows' names names' r n p =
     subst (λ (ns : List (List ℕ)). P rows' ns) n (subst (λ (rs : List Row). P rs names) r p)
 
--- a fault by the code's table is one by the specification's
-pub stream_fault : {s r i : ℕ} {k : Kind} {d : Data} {f : Broken} → FaultAt ROWS code_names s r k i d f
-    → FaultAt stream_rows stream_names s r k i d f
-stream_fault {s = s} {r = r} {i = i} {k = k} {d = d} {f = f} q =
-    by_tables (λ rows names. FaultAt rows names s r k i d f) ROWS stream_rows code_names stream_names rows_are
-    names_are q
-
 -- the first fault by the code's table is that of the specification's
 pub stream_first : (s r : ℕ) (k : Kind) (i : ℕ) (d : Data) (a : Option Broken)
     → IsFirstBroken (FaultAt ROWS code_names s r k i d) a → IsFirstBroken (FaultAt stream_rows stream_names s r k i d) a
 stream_first s r k i d a p =
-    by_tables (λ rows names. IsFirstBroken (FaultAt rows names s r k i d) a) ROWS stream_rows code_names stream_names
-    rows_are names_are p
+    by_tables (λ rows names. IsFirstBroken (FaultAt rows names s r k i d) a) _ _ _ _ rows_are names_are p
 
 -- the same for the table of a swap
 pub swap_first : (s r : ℕ) (k : Kind) (i : ℕ) (d : Data) (a : Option Broken)
     → IsFirstBroken (FaultAt SWAP_ROWS swap_code_names s r k i d) a
     → IsFirstBroken (FaultAt swap_rows swap_names s r k i d) a
 swap_first s r k i d a p =
-    by_tables (λ rows names. IsFirstBroken (FaultAt rows names s r k i d) a) SWAP_ROWS swap_rows swap_code_names
-    swap_names swap_rows_are swap_names_are p
+    by_tables (λ rows names. IsFirstBroken (FaultAt rows names s r k i d) a) _ _ _ _ swap_rows_are swap_names_are p

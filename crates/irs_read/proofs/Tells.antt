@@ -1,20 +1,19 @@
 -- A clean value says one value, and that one lies in its range: for leaves, members and lists.
 use Prim.Native.String.{String}
-use Rattle.irs_base.specs.Lists.{Pairs}
-use Rattle.irs_elements.specs.Elements.{name_at, once, values_in}
-use Rattle.irs_elements.specs.Leaves.{has_value, text_of_leaf}
-use Rattle.irs_elements.specs.declared.table.{Count.Count, Leaf.Leaf as LeafKind}
-use Rattle.irs_read.proofs.Clean.{clean_leaf, clean_once, clean_there, fine_values, leaf_at, some_value}
+use Rattle.irs_base.{proofs.EveryLemmas.one_partners, specs.Lists.Pairs}
+use Rattle.irs_elements.specs.{Elements.once, Elements.values_in, Leaves.has_value}
+use Rattle.irs_elements.specs.{Leaves.text_of_leaf, declared.table.Count.Count, declared.table.Leaf.Leaf as LeafKind}
+use Rattle.irs_json.specs.Leaves.{child_of}
+use Rattle.irs_read.proofs.Clean.{Fine, clean_leaf, clean_once, clean_there, fine_values, first_value, leaf_at}
 use Rattle.irs_read.proofs.Rows.{At, AtMost, FreeRow, LeafRow, Path, RowIs, is_leaf, is_member, is_named, is_needed}
-use Rattle.irs_read.proofs.Rows.{at_most, most_of, row_of}
-use Rattle.irs_read.proofs.TableLaws.{code_names as row_names}
+use Rattle.irs_read.proofs.{Rows.most_of, Rows.row_of, TableLaws.code_names as row_names}
 use Rattle.irs_read.specs.Readings.{Says, Value, each, maybe, one, or_by, said, text}
 use Rattle.irs_read.specs.declared.table.TheConstants.{ROWS}
 use Rattle.serde_json.specs.Data.{Data}
-use Rattle.std.proofs.Common.{None, IfSome, is_some, slice_get, All, codes, refl, sym, ap, subst, ◌∙◌, arith}
-use Rattle.std.proofs.Common.{◌≡◌, ℕ, suc, ◌<◌, ◌≤◌, Bool, true, false, true≢false, List, [], ◌∷◌, length, Option, Some}
+use Rattle.std.proofs.Common.{None, IfSome, is_some, slice_get, All, codes, refl, sym, ap, subst, ◌∙◌, arith, ◌≡◌, ℕ}
+use Rattle.std.proofs.Common.{suc, ◌<◌, ◌≤◌, Bool, true, false, true≢false, List, [], ◌∷◌, length, Option, Some}
 use Rattle.std.proofs.lemmas.List.Elements.{All-cons, All-nil}
-use Rattle.std.proofs.lemmas.Option.{same_Some}
+use Rattle.std.proofs.lemmas.Option.{IfSome_then, same_Some, slice_get_within}
 
 -- one value is said, and it lies in a range
 pub record Tells {A : Type 0} (P L : A → Type 0) : Type 0 where
@@ -46,14 +45,12 @@ both s t = record {
 infixr 30 ◌⊗◌
 -- two that an object says
 pub ◌⊗◌ : {A B : Type 0} {p : Path} {P : Data → A → Type 0} {L : A → Type 0} {Q : Data → B → Type 0} {M : B → Type 0}
-    → Fills p P L → Fills p Q M
-    → Fills p (λ d (t : A × B). P d t.0 × Q d t.1) (λ (t : A × B). L t.0 × M t.1)
+    → Fills p P L → Fills p Q M → Fills p (λ d (t : A × B). P d t.0 × Q d t.1) (λ (t : A × B). L t.0 × M t.1)
 f ⊗ g = record { tells = λ d clean. both (f.tells d clean) (g.tells d clean) }
 
 -- the same of a struct with these fields
 pub shape : {S T : Type 0} {P L : T → Type 0} {M : S → Type 0} → Tells P L → (to : S → T) (from : T → S)
-    → ((s : S) → from (to s) ≡ s) → ((t : T) → to (from t) ≡ t) → ((t : T) → L t → M (from t))
-    → Tells (λ s. P (to s)) M
+    → ((s : S) → from (to s) ≡ s) → ((t : T) → to (from t) ≡ t) → ((t : T) → L t → M (from t)) → Tells (λ s. P (to s)) M
 shape {P = P} h to from whole back lawful = record {
   is = from h.is;
   says = subst P (sym (back h.is)) h.says;
@@ -69,21 +66,9 @@ shaped f to from whole back lawful = record { tells = λ d clean. shape (f.tells
 
 -- ---- what may be absent
 
--- of what is there
-pub some_tells : {A B : Type 0} {L : A → Type 0} {M : B → Type 0} (says : Data → A → Type 0) (make : A → B)
-    (other : B → Type 0) (x : Data) → ((a : A) → L a → M (make a)) → Tells (says x) L
-    → Tells (Says (Some x) says make other) M
-some_tells says make other x lawful t = record {
-  is = make t.is;
-  says = (t.is, (refl, t.says));
-  only = λ b (a, (e, h)). e ∙ ap make (t.only a h);
-  lawful = lawful t.is t.lawful;
-}
-
--- of what is absent
-pub none_tells : {A B : Type 0} {M : B → Type 0} (says : Data → A → Type 0) (make : A → B) (b : B) → M b
-    → Tells (Says None says make (λ a. a ≡ b)) M
-none_tells says make b lawful = record { is = b; says = refl; only = λ a e. e; lawful = lawful }
+-- this value alone
+pub just : {A : Type 0} {L : A → Type 0} (a : A) → L a → Tells (λ b. b ≡ a) L
+just a lawful = record { is = a; says = refl; only = λ b e. e; lawful = lawful }
 
 -- something is told of what is there, if it is
 abbrev pub Told : {A : Type 0} → (Data → A → Type 0) → (A → Type 0) → Option Data → Type 0
@@ -92,22 +77,19 @@ Told P L o = IfSome o (λ x. Tells (P x) L)
 -- of what is clean
 pub told : {A : Type 0} {p : Path} {P : Data → A → Type 0} {L : A → Type 0} → Fills p P L → (o : Option Data)
     → AtMost p o → Told P L o
-told f None clean = tt
-told f (Some x) clean = f.tells x clean
+told f o clean = IfSome_then o clean f.tells
 
--- of what must be there
-pub one_told : {A : Type 0} {L : A → Type 0} (says : Data → A → Type 0) (o : Option Data) (x : Data) → o ≡ Some x
-    → Tells (says x) L → Tells (Says o says (λ a. a) (λ _. ⊥)) L
-one_told {L = L} says o x e t =
-    subst (λ (q : Option Data). Tells (Says q says (λ a. a) (λ _. ⊥)) L) (sym e)
-    (some_tells {L = L} {M = L} says (λ a. a) (λ _. ⊥) x (λ a l. l) t)
-
--- of what has a value where it is absent, or another one
-pub or_told : {A B : Type 0} {L : A → Type 0} {M : B → Type 0} (says : Data → A → Type 0) (make : A → B) (b : B)
-    → ((a : A) → L a → M (make a)) → M b → (o : Option Data) → Told says L o
-    → Tells (Says o says make (λ a. a ≡ b)) M
-or_told says make b some none None h = none_tells says make b none
-or_told says make b some none (Some x) t = some_tells says make (λ a. a ≡ b) x some t
+-- of a member: what its value says, or another thing where it is absent
+pub member_tells : {A B : Type 0} {L : A → Type 0} {M : B → Type 0} (says : Data → A → Type 0) (make : A → B)
+    (other : B → Type 0) (o : Option Data) → ((a : A) → L a → M (make a)) → Told says L o
+    → (o ≡ None → Tells other M) → Tells (Says o says make other) M
+member_tells says make other None lawful t absent = absent refl
+member_tells says make other (Some x) lawful t absent = record {
+  is = make t.is;
+  says = (t.is, (refl, t.says));
+  only = λ b (a, (e, h)). e ∙ ap make (t.only a h);
+  lawful = lawful t.is t.lawful;
+}
 
 -- ---- members
 
@@ -124,36 +106,38 @@ there p name row d clean =
 pub perhaps : {must : Bool} {kind : Option LeafKind} (p : Path) (name : String) → RowIs p name must kind → (d : Data)
     → At p d → AtMost (name ∷ p) (once (codes name) d)
 perhaps p name row d clean =
-    subst (λ (n : List ℕ). AtMost (name ∷ p) (once n d)) (is_named p name row)
-    (at_most (name ∷ p) _ (clean_once ROWS row_names (row_of p) (row_of (name ∷ p)) d (is_member p name row) clean.clean))
+    subst (λ (n : List ℕ). AtMost (name ∷ p) (once n d)) (is_named p name row) (IfSome_then _ {Q = At (name ∷ p)}
+    (clean_once ROWS row_names (row_of p) (row_of (name ∷ p)) d (is_member p name row) clean.clean)
+    (λ x inner. record { clean = inner }))
+
+-- what an object says by a member
+pub member_fills : {A B : Type 0} {L : A → Type 0} {M : B → Type 0} {must : Bool} {kind : Option LeafKind} (p : Path)
+    (name : String) (v : Value A) (make : A → B) (other : Data → B → Type 0) → RowIs p name must kind
+    → ((a : A) → L a → M (make a)) → Fills (name ∷ p) v.says L
+    → ((d : Data) → At p d → once (codes name) d ≡ None → Tells (other d) M)
+    → Fills p (λ d. Says (once (codes name) d) v.says make (other d)) M
+member_fills p name v make other row lawful f absent = record {
+  tells = λ d clean.
+      member_tells v.says make (other d) _ lawful (told f _ (perhaps p name row d clean)) (absent d clean);
+}
 
 -- a member that occurs
 pub one_fills : {A : Type 0} {L : A → Type 0} {kind : Option LeafKind} (p : Path) (name : String) (v : Value A)
     → RowIs p name true kind → Fills (name ∷ p) v.says L → Fills p (one name v).says L
-one_fills {L = L} p name v row f = record {
-  tells = λ d clean.
-      let (x, (e, inner)) = there p name row d clean in
-      one_told {L = L} v.says (once (codes name) d) x e (f.tells x inner);
-}
+one_fills p name v row f =
+    member_fills p name v _ _ row (λ a l. l) f (λ d clean none. let (x, (e, inner)) = there p name row d clean in cc)
 
 -- one that may be absent
 pub maybe_fills : {A : Type 0} {L : A → Type 0} {kind : Option LeafKind} (p : Path) (name : String) (v : Value A)
     → RowIs p name false kind → Fills (name ∷ p) v.says L → Fills p (maybe name v).says (λ o. IfSome o L)
-maybe_fills {L = L} p name v row f = record {
-  tells = λ d clean.
-      or_told {L = L} {M = λ o. IfSome o L} v.says Some None (λ a l. l) tt (once (codes name) d)
-      (told f _ (perhaps p name row d clean));
-}
+maybe_fills p name v row f = member_fills p name v _ _ row (λ a l. l) f (λ d clean none. just None tt)
 
 -- one that may be absent, and then the object has a value for it
 pub or_fills : {A : Type 0} {L : A → Type 0} {kind : Option LeafKind} (p : Path) (name : String) (v : Value A)
     (absent : Data → A) → ((d : Data) → L (absent d)) → RowIs p name false kind → Fills (name ∷ p) v.says L
     → Fills p (or_by name v absent).says L
-or_fills {L = L} p name v absent lawful row f = record {
-  tells = λ d clean.
-      or_told {L = L} {M = L} v.says (λ a. a) (absent d) (λ a l. l) (lawful d) (once (codes name) d)
-      (told f _ (perhaps p name row d clean));
-}
+or_fills p name v absent lawful row f =
+    member_fills p name v _ _ row (λ a l. l) f (λ d clean none. just (absent d) (lawful d))
 
 -- ---- leaves
 
@@ -166,13 +150,10 @@ pub record LeafIs {A : Type 0} (kind : LeafKind) (at : List ℕ → Option A) (L
   pub agree : (s : List ℕ) → has_value kind s ≡ is_some (at s)
   pub range : (d : Data) → IfSome (said at (Some d)) L
 
-if_is : {A : Type 0} (L : A → Type 0) (o : Option A) (a : A) → o ≡ Some a → IfSome o L → L a
-if_is {A = A} L o a e h = let k : IfSome (Some a) L = subst (λ (q : Option A). IfSome q L) e h in k
-
 -- a leaf
 pub leaf_fills : {A : Type 0} {L : A → Type 0} {kind : LeafKind} {at : List ℕ → Option A} (p : Path)
     → LeafIs kind at L → leaf_at (slice_get ROWS (row_of p)) ≡ Some kind → Fills p (text kind at).says L
-leaf_fills {L = L} {kind = kind} {at = at} p leaf is = record {
+leaf_fills {A = A} {L = L} {kind = kind} {at = at} p leaf is = record {
   tells = λ d clean.
       let s = clean_leaf ROWS row_names (row_of p) kind d is clean.clean in
       let valued : is_some (said at (Some d)) ≡ true =
@@ -182,7 +163,7 @@ leaf_fills {L = L} {kind = kind} {at = at} p leaf is = record {
         is = a;
         says = e;
         only = λ b h. same_Some b a (sym h ∙ e);
-        lawful = if_is L (said at (Some d)) a e (leaf.range d);
+        lawful = subst (λ (q : Option A). IfSome q L) e (leaf.range d);
       };
 }
 
@@ -203,8 +184,7 @@ pub leaf_or : {A : Type 0} {L : A → Type 0} {kind : LeafKind} {at : List ℕ �
     (absent : A) → L absent → LeafIs kind at L → FreeRow p name kind
     → Fills p (or_by name (text kind at) (λ _. absent)).says L
 leaf_or {kind = kind} {at = at} p name absent lawful leaf row =
-    or_fills p name (text kind at) (λ _. absent) (λ _. lawful) row
-    (leaf_fills (name ∷ p) leaf (is_leaf p name row))
+    or_fills p name (text kind at) (λ _. absent) (λ _. lawful) row (leaf_fills (name ∷ p) leaf (is_leaf p name row))
 
 -- ---- lists
 
@@ -213,65 +193,57 @@ pub record ListIs {A : Type 0} (L : A → Type 0) (n : ℕ) (all : List A) : Typ
   pub many : length all ≡ n
   pub each : All L all
 
-none_said : {A : Type 0} (says : Data → A → Type 0) (all : List A) → Pairs says [] all → all ≡ []
-none_said says [] h = refl
-none_said says (a ∷ rest) h = absurd h
-
-more_said : {A : Type 0} (says : Data → A → Type 0) (x : Data) (xs : List Data) (b : A) (bs : List A)
-    → ((a : A) → says x a → a ≡ b) → ((all : List A) → Pairs says xs all → all ≡ bs)
-    → (all : List A) → Pairs says (x ∷ xs) all → all ≡ b ∷ bs
-more_said says x xs b bs first more [] h = absurd h
-more_said says x xs b bs first more (a ∷ rest) h =
-    ap (λ c. c ∷ rest) (first a h.0) ∙ ap (λ cs. b ∷ cs) (more rest h.1)
+one_said : {A : Type 0} {L : A → Type 0} (says : Data → A → Type 0) (xs : List Data)
+    → ((j : ℕ) (x : Data) → slice_get xs j ≡ Some x → Tells (says x) L)
+    → (all bs : List A) → Pairs says xs all → Pairs says xs bs → all ≡ bs
+one_said says xs t = one_partners says xs (λ j x e a b p q. (t j x e).only a p ∙ sym ((t j x e).only b q))
 
 -- each value of a list
 pub each_tells : {A : Type 0} {L : A → Type 0} (says : Data → A → Type 0) (xs : List Data)
-    → ((j : ℕ) (x : Data) → slice_get xs j ≡ Some x → Tells (says x) L)
-    → Tells (Pairs says xs) (ListIs L (length xs))
+    → ((j : ℕ) (x : Data) → slice_get xs j ≡ Some x → Tells (says x) L) → Tells (Pairs says xs) (ListIs L (length xs))
 each_tells {L = L} says [] t =
-    record { is = []; says = tt; only = none_said says; lawful = record { many = refl; each = All-nil L } }
+    let lawful : ListIs L 0 [] = record { many = refl; each = All-nil L } in
+    record { is = []; says = tt; only = λ b h. one_said says [] t b [] h tt; lawful = lawful }
 each_tells {L = L} says (x ∷ xs) t =
     let first : Tells (says x) L = t 0 x refl in
     let more : Tells (Pairs says xs) (ListIs L (length xs)) = each_tells says xs (λ j y e. t (suc j) y e) in
     record {
       is = first.is ∷ more.is;
       says = (first.says, more.says);
-      only = more_said says x xs first.is more.is first.only more.only;
+      only = λ b h. one_said says (x ∷ xs) t b (first.is ∷ more.is) h (first.says, more.says);
       lawful = record {
         many = omega (arith, more.lawful.many);
         each = All-cons L first.is more.is first.lawful more.lawful.each;
       };
     }
 
--- no more than the table allows
-pub few : {must : Bool} {kind : Option LeafKind} (p : Path) (name : String) → RowIs p name must kind → (d : Data)
-    → At p d → length (values_in (codes name) (Some d)) ≤ most_of (name ∷ p)
+-- no more than the table allows, and each of them clean
+pub fine : {must : Bool} {kind : Option LeafKind} (p : Path) (name : String) → RowIs p name must kind → (d : Data)
+    → At p d → (length (values_in (codes name) (Some d)) ≤ most_of (name ∷ p))
+    × ((j : ℕ) (x : Data) → slice_get (values_in (codes name) (Some d)) j ≡ Some x → At (name ∷ p) x)
 unfolding most_of
-few p name row d clean =
-    let fine = fine_values ROWS row_names (row_of p) (row_of (name ∷ p)) (Some d) (is_member p name row) clean.clean in
-    subst (λ (n : List ℕ). length (values_in n (Some d)) ≤ most_of (name ∷ p)) (is_named p name row) fine.0
+fine p name row d clean =
+    let c = row_of (name ∷ p) in
+    let (few, each) =
+    subst (λ (n : List ℕ). Fine ROWS row_names c (values_in n (Some d))) (is_named p name row)
+    (fine_values ROWS row_names (row_of p) c d (is_member p name row) clean.clean) in
+    (few, λ j x e. record { clean = each j x e })
 
 -- and some where one is required
 pub some : {kind : Option LeafKind} (p : Path) (name : String) → RowIs p name true kind → (d : Data) → At p d
     → 0 < length (values_in (codes name) (Some d))
 some p name row d clean =
-    subst (λ (n : List ℕ). 0 < length (values_in n (Some d))) (is_named p name row)
-    (some_value ROWS row_names (row_of p) (row_of (name ∷ p)) d (is_member p name row) (is_needed p name row) clean.clean)
+    let (x, (e, inner)) = there p name row d clean in
+    slice_get_within (values_in (codes name) (Some d)) 0 x (first_value (child_of (codes name) d) x e)
 
 -- a repeated member, and what holds of all its values
 pub each_fills : {A : Type 0} {L : A → Type 0} {M : List A → Type 0} {must : Bool} {kind : Option LeafKind} (p : Path)
     (name : String) (often : Count) (v : Value A) → RowIs p name must kind
     → ((d : Data) → At p d → (all : List A) → ListIs L (length (values_in (codes name) (Some d))) all → M all)
     → Fills (name ∷ p) v.says L → Fills p (each name often v).says M
-each_fills {A = A} {L = L} {M = M} p name often v row lawful f = record {
+each_fills p name often v row lawful f = record {
   tells = λ d clean.
-      let c = row_of (name ∷ p) in
-      let fine = (fine_values ROWS row_names (row_of p) c (Some d) (is_member p name row) clean.clean).1 in
-      let all = values_in (codes name) (Some d) in
-      let t : Tells (Pairs v.says all) (ListIs L (length all)) =
-      subst (λ (n : List ℕ). Tells (Pairs v.says (values_in n (Some d))) (ListIs L (length (values_in n (Some d)))))
-      (is_named p name row)
-      (each_tells v.says (values_in (name_at row_names c) (Some d))
-      (λ j x e. f.tells x (record { clean = fine j x e }))) in
+      let each = (fine p name row d clean).1 in
+      let t = each_tells v.says (values_in (codes name) (Some d)) (λ j x e. f.tells x (each j x e)) in
       record { is = t.is; says = t.says; only = t.only; lawful = lawful d clean t.is t.lawful };
 }

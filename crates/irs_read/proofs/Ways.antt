@@ -1,10 +1,9 @@
 -- The first rule that a document breaks, from where the way to its swap leads.
-use Rattle.irs_terms.specs.declared.places.Broken.{Broken}
 use Rattle.irs_elements.proofs.First.{first_one, first_same}
 use Rattle.irs_read.specs.Documents.{FaultOfSwap, below, ended, the_swap}
+use Rattle.irs_terms.specs.{Faults.IsFirstBroken, declared.places.Broken.Broken}
 use Rattle.serde_json.specs.Data.{Data}
 use Rattle.std.proofs.Common.{◌≡◌, Option, Some, Ok, Err, subst}
-use Rattle.irs_terms.specs.Faults.{IsFirstBroken}
 
 module _ (P : Data → Broken → Type 0) where
   -- what ends the way to the swap is the first broken rule

@@ -1,31 +1,21 @@
 -- A document: the way to its swap, the swap that it spells, and the rules that it breaks.
-use Rattle.irs_terms.specs.Elements.{calculation_period_dates, cashflows, swap_stream, document, swap}
-use Rattle.irs_base.specs.Limits.{most_streams}
-use Rattle.irs_base.specs.Outcomes.{First, Spec}
-use Rattle.irs_terms.specs.Faults.{is_before}
-use Rattle.irs_terms.specs.Paths.{printed_paths}
-use Rattle.irs_terms.specs.declared.places.Rule.TheVariants.{K2, K7, K3}
-use Rattle.irs_terms.specs.declared.places.{Broken.Broken, Rule.Rule}
+use Rattle.irs_base.specs.{Limits.most_streams, Outcomes.First, Outcomes.Spec}
 use Rattle.irs_elements.specs.Elements.{FaultAt, values_in, IsMemberRow, is_chosen, is_element, is_required, name_at}
-use Rattle.irs_elements.specs.Elements.{once, leaf_text_in}
-use Rattle.irs_elements.specs.Leaves.{has_value}
 use Rattle.irs_elements.specs.Lines.{Line, Others, Table, others_at, table_names, table_rows}
-use Rattle.irs_elements.specs.declared.table.Choice.TheVariants.{ExactlyOne}
-use Rattle.irs_elements.specs.declared.table.Choice.TheVariants.{Free, Reference, AtMostOne, AtMostOneOfThree}
-use Rattle.irs_elements.specs.declared.table.Kind.TheVariants.{Object, Leaf}
-use Rattle.irs_elements.specs.declared.table.{Row.Row, Choice.Choice, Kind.Kind, Leaf.Leaf as LeafKind}
+use Rattle.irs_elements.specs.declared.table.Choice.TheVariants.{ExactlyOne, Free, Reference, AtMostOne}
+use Rattle.irs_elements.specs.declared.table.{Choice.Choice, Choice.TheVariants.AtMostOneOfThree, Kind.Kind, Row.Row}
+use Rattle.irs_elements.specs.declared.table.{Kind.TheVariants.Object, Kind.TheVariants.Leaf, Leaf.Leaf as LeafKind}
+use Rattle.irs_elements.specs.{Elements.once, Elements.leaf_text_in, Leaves.has_value}
 use Rattle.irs_json.specs.Leaves.{element_names, child_of, items_of}
-use Rattle.irs_read.specs.Readings.{attribute, streams_in}
-use Rattle.irs_read.specs.StreamElements.{stream_by, SwapSays}
-use Rattle.irs_terms.specs.declared.stream_list.Swap.{Swap}
-use Rattle.serde_json.specs.Data.{Data}
-use Rattle.serde_json.specs.View.{view}
-use Rattle.serde_json.specs.declared.value.Value.{Value}
-use Rattle.std.specs.Borrow.{Bor}
+use Rattle.irs_read.specs.{Readings.attribute, Readings.streams_in, StreamElements.stream_by, StreamElements.SwapSays}
+use Rattle.irs_terms.specs.Elements.{calculation_period_dates, cashflows, swap_stream, document, swap}
+use Rattle.irs_terms.specs.declared.places.Rule.TheVariants.{K2, K7, K3}
+use Rattle.irs_terms.specs.declared.{places.Broken.Broken, places.Rule.Rule, stream_list.Swap.Swap}
+use Rattle.irs_terms.specs.{Faults.is_before, Paths.printed_paths}
+use Rattle.serde_json.specs.{Data.Data, View.view, declared.value.Value.Value}
 use Rattle.std.specs.Prelude.{is_some, slice_get, codes, Bool, false, Result, Ok, Err, if◌then◌else◌, Option, nat_lt}
-use Rattle.std.specs.Prelude.{not, ◌&&◌, ◌||◌, ◌==◌, map}
-use Rattle.std.specs.Prelude.{ℕ, ◌-◌, List, [], ◌∷◌, None, drop, take, ◌≡◌, ◌+◌, ◌<◌, ◌≤◌, ◌⊎◌, true, length, Some}
-use Rattle.std.specs.Str.{bytes_eq}
+use Rattle.std.specs.Prelude.{not, ◌&&◌, ◌||◌, ◌==◌, map, ℕ, ◌-◌, List, [], ◌∷◌, None, drop, take, ◌≡◌, ◌+◌, ◌<◌, ◌≤◌}
+use Rattle.std.specs.{Borrow.Bor, Prelude.◌⊎◌, Prelude.true, Prelude.length, Prelude.Some, Str.bytes_eq}
 
 -- ---- the tables of a swap and of its streams: the elements of a stream, and the members that are passed over or out
 -- of the profile

@@ -6,12 +6,10 @@ use Rattle.irs_elements.specs.Lines.{Form, Line, leaf, line, path_above, last_na
 use Rattle.irs_elements.specs.declared.table.Count.TheVariants.{One, Maybe}
 use Rattle.irs_elements.specs.declared.table.{Count.Count, Leaf.Leaf as LeafKind}
 use Rattle.irs_json.specs.Leaves.{child_of}
-use Rattle.serde_json.specs.Data.{Data}
-use Rattle.serde_json.specs.Find.{as_str}
-use Rattle.std.specs.List.{flat_map}
-use Rattle.std.specs.Prelude.{◌==◌, unwrap_or, count_by, find, if◌then◌else◌}
-use Rattle.std.specs.Prelude.{◌≡◌, ℕ, List, [], ◌∷◌, ◌++◌, map, Option, Some, None, option_and_then, codes, Bool, false}
-use Rattle.std.specs.Str.{bytes_eq}
+use Rattle.serde_json.specs.{Data.Data, Find.as_str}
+use Rattle.std.specs.Prelude.{Some, None, option_and_then, codes, Bool, false}
+use Rattle.std.specs.Prelude.{◌==◌, unwrap_or, count_by, find, if◌then◌else◌, ◌≡◌, ℕ, List, [], ◌∷◌, ◌++◌, map, Option}
+use Rattle.std.specs.{List.flat_map, Str.bytes_eq}
 
 -- ---- what it is to read a value: its lines in the table of elements, and what it says of what is read from it
 -- There is no value for an element that must occur and doesn't, nor for a leaf whose text has none.

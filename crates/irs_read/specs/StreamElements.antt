@@ -2,45 +2,34 @@
 -- text is read, the field that it gives, and what holds where it is absent. A name continues the path of the object
 -- that it stands in. Which elements are in the profile, their counts, their order and the defaults are our rule.
 use Rattle.irs_base.specs.Limits.{most_centers, most_steps}
-use Rattle.irs_base.specs.Lists.{Pairs}
-use Rattle.irs_base.specs.declared.rounding.Direction.TheVariants.{Nearest}
+use Rattle.irs_base.specs.{Lists.Pairs, declared.rounding.Direction.TheVariants.Nearest}
 use Rattle.irs_elements.specs.Codes.{calculation_method_at, compounding_at, convention_at, day_count_at, day_kind_at}
 use Rattle.irs_elements.specs.Codes.{direction_at, offset_unit_at, relative_at, roll_at, stub_kind_at, tenor_unit_at}
 use Rattle.irs_elements.specs.Codes.{treatment_at, truth_at, period_unit_at}
-use Rattle.irs_elements.specs.Elements.{once}
 use Rattle.irs_elements.specs.Leaves.{leaf_date_at, currency_at, is_center_name, is_index_name}
 use Rattle.irs_elements.specs.Lines.{at_most_one, at_most_one_of_three, exactly_one, object}
-use Rattle.irs_elements.specs.Lines.{reference as reference_form}
-use Rattle.irs_elements.specs.Numbers.{leaf_rate_at}
-use Rattle.irs_elements.specs.Numbers.{multiplier_at, notional_at, observation_days_at, offset_at, precision_at}
+use Rattle.irs_elements.specs.Numbers.{leaf_rate_at, multiplier_at, notional_at, observation_days_at, offset_at}
 use Rattle.irs_elements.specs.declared.table.Count.TheVariants.{Maybe, OneTo, UpTo}
 use Rattle.irs_elements.specs.declared.table.Leaf.TheVariants as Leaf
+use Rattle.irs_elements.specs.{Elements.once, Lines.reference as reference_form, Numbers.precision_at}
 use Rattle.irs_read.specs.Readings.{ReadPart, Says, Value, each, either_member, holds, member_lines, maybe, one, or}
 use Rattle.irs_read.specs.Readings.{or_by, text, unread, ◌also◌, ◌gives◌, has_id, href_of, lists_of, streams_in}
 use Rattle.irs_read.specs.Readings.{the_one}
 use Rattle.irs_terms.specs.declared.adjustments.Centers.TheVariants.{Absent, Listed, Dangling}
-use Rattle.irs_terms.specs.declared.adjustments.{AdjustableDate.AdjustableDate, Adjustments.Adjustments}
-use Rattle.irs_terms.specs.declared.adjustments.{Centers.Centers, Offset.Offset}
-use Rattle.irs_terms.specs.declared.amounts.Leg.TheVariants.{Fixed, Floating}
+use Rattle.irs_terms.specs.declared.adjustments.{AdjustableDate.AdjustableDate, Adjustments.Adjustments, Offset.Offset}
 use Rattle.irs_terms.specs.declared.amounts.StubRate.TheVariants.{Index, Fixed as FixedStub}
-use Rattle.irs_terms.specs.declared.amounts.{ExchangeFlags.ExchangeFlags, FloatTerms.FloatTerms, Leg.Leg}
+use Rattle.irs_terms.specs.declared.amounts.{FloatTerms.FloatTerms, Leg.TheVariants.Fixed, Leg.TheVariants.Floating}
 use Rattle.irs_terms.specs.declared.amounts.{Rounding.Rounding, StubRate.StubRate, StubTerms.StubTerms}
-use Rattle.irs_terms.specs.declared.codes.CompCode.TheVariants.{Simple}
-use Rattle.irs_terms.specs.declared.codes.ConvCode.TheVariants.{Unadjusted}
-use Rattle.irs_terms.specs.declared.codes.DayKind.TheVariants.{Unsaid}
 use Rattle.irs_terms.specs.declared.codes.RefState.TheVariants.{Absent as NoReference, Good, Dangling as NoTarget}
-use Rattle.irs_terms.specs.declared.codes.RefState.{RefState}
-use Rattle.irs_terms.specs.declared.codes.Relative.TheVariants.{Start}
-use Rattle.irs_terms.specs.declared.codes.Treatment.TheVariants.{AsIs}
-use Rattle.irs_terms.specs.declared.dates.{FixTerms.FixTerms, PayTerms.PayTerms, ResetTerms.ResetTerms}
-use Rattle.irs_terms.specs.declared.frequency.Frequency.{Frequency}
+use Rattle.irs_terms.specs.declared.codes.{CompCode.TheVariants.Simple, ConvCode.TheVariants.Unadjusted}
+use Rattle.irs_terms.specs.declared.codes.{DayKind.TheVariants.Unsaid, RefState.RefState, Relative.TheVariants.Start}
 use Rattle.irs_terms.specs.declared.parameters.ObservationOffset.TheVariants.{Absent as NoOffset, Shift, Lookback}
-use Rattle.irs_terms.specs.declared.parameters.ObservationOffset.TheVariants.{Lockout}
-use Rattle.irs_terms.specs.declared.parameters.{CalculationParameters.CalculationParameters}
-use Rattle.irs_terms.specs.declared.parameters.{ObservationOffset.ObservationOffset}
-use Rattle.irs_terms.specs.declared.step_list.{Step.Step, StepValues.StepValues}
-use Rattle.irs_terms.specs.declared.stream.Stream.{Stream}
-use Rattle.irs_terms.specs.declared.stream_list.Swap.{Swap}
+use Rattle.irs_terms.specs.declared.parameters.ObservationOffset.{ObservationOffset, TheVariants.Lockout}
+use Rattle.irs_terms.specs.declared.{adjustments.Centers.Centers, amounts.ExchangeFlags.ExchangeFlags, amounts.Leg.Leg}
+use Rattle.irs_terms.specs.declared.{codes.Treatment.TheVariants.AsIs, dates.FixTerms.FixTerms, dates.PayTerms.PayTerms}
+use Rattle.irs_terms.specs.declared.{dates.ResetTerms.ResetTerms, frequency.Frequency.Frequency, step_list.Step.Step}
+use Rattle.irs_terms.specs.declared.{parameters.CalculationParameters.CalculationParameters, stream.Stream.Stream}
+use Rattle.irs_terms.specs.declared.{step_list.StepValues.StepValues, stream_list.Swap.Swap}
 use Rattle.serde_json.specs.Data.{Data}
 use Rattle.std.specs.Prelude.{◌≡◌, ℕ, Bool, false, List, [], ◌++◌, ℤ, pos, Option, Some, None, codes, if◌then◌else◌}
 

@@ -53,6 +53,7 @@ pub fn offset(v: &Value) -> Offset
 }
 
 /// The names of a list of centres.
+#[tactic(auto, using(crate::proofs::EachSaid::says_more, crate::proofs::EachSaid::says_all))]
 pub fn names(alloc: Global, list: &Value) -> Result<Names, Memory>
     requires { IsSaid (center_list.says (view list.now)) }
     ensures { IfOk result (center_list.says (view list.now)) }
@@ -100,15 +101,13 @@ pub fn adjustments_or(
     requires { IsSaid (Or (adjustments_by (map seen lists.now)).says unadjusted (once_of name.now (view v.now))) }
     ensures { IfOk result (Or (adjustments_by (map seen lists.now)).says unadjusted (once_of name.now (view v.now))) }
 {
-    match once(v, name) {
-        None => Ok(Adjustments {
-            code: ConvCode::Unadjusted,
-            centers: Centers::Absent,
-        }),
-        Some(v) => adjusting(alloc, lists, v),
-    }
+    Ok(
+        or!(v, name, Adjustments { code: ConvCode::Unadjusted, centers: Centers::Absent },
+            v => adjusting(alloc, lists, v)?),
+    )
 }
 
+/// A date, and how it is adjusted: `unadjustedDate` and `dateAdjustments`, which both occur.
 pub fn adjustable_date(
     alloc: Global,
     lists: &[Option<&Value>],
@@ -131,6 +130,7 @@ fn step(scale: Scale, v: &Value) -> Step
     Step { day, value }
 }
 
+#[tactic(auto, using(crate::proofs::EachSaid::says_more, crate::proofs::EachSaid::says_all))]
 fn steps(alloc: Global, scale: Scale, v: &Value) -> Result<StepList, Memory>
     requires { IsSaid (Pairs (step_by (number_by scale)).says (values_in (codes "step") (Some (view v.now)))) }
     ensures { IfOk result

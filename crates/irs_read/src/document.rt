@@ -1,15 +1,14 @@
 //! The way from the root of a document to its swap. The root is an object with exactly one of
 //! `swap`, `trade` (which holds `swap`) and `dataDocument` (which holds `trade`). The choice of the
 //! carrier's roots is our rule.
+ghost use Rattle.irs_base.specs.Outcomes.{First};
 ghost use Rattle.irs_read.specs.Documents.{DocumentFault, by_root as by_root_of, document_below as document_below_of};
 ghost use Rattle.irs_read.specs.Documents.{has as has_of, one_object as one_object_of, one_swap as one_swap_of};
-ghost use Rattle.irs_read.specs.Documents.{swap_below as swap_below_of, the_swap as the_swap_of};
-ghost use Rattle.irs_read.specs.Documents.{trade_below as trade_below_of, way_seen};
+ghost use Rattle.irs_read.specs.Documents.{swap_below as swap_below_of, the_swap as the_swap_of, way_seen};
+ghost use Rattle.irs_read.specs.Documents.{trade_below as trade_below_of};
+ghost use Rattle.irs_terms.specs.{Faults.IsFirstBroken, Faults.is_before, declared.places.Broken.Broken as BrokenRule};
 ghost use Rattle.serde_json.specs.View.{view};
 ghost use Rattle.std.specs.Prelude.{◌≡◌, IfErr, IfOk, Ok, map};
-ghost use Rattle.irs_base.specs.Outcomes.{First};
-ghost use Rattle.irs_terms.specs.Faults.{IsFirstBroken, is_before};
-ghost use Rattle.irs_terms.specs.declared.places.Broken.{Broken as BrokenRule};
 
 use crate::swap::{first_in_swap, outside};
 use irs_elements::values_at;
@@ -70,11 +69,15 @@ fn has(v: &Value, name: &str) -> bool
     child(v, name).is_some()
 }
 
-// Exactly one of the three roots is present.
-fn by_root(swap: bool, trade: bool, document: bool, v: &Value) -> Result<&Value, Broken>
-    ensures { way_seen result ≡ by_root_of swap trade document (view v.now) }
+/// The swap of a document, or the rule that ends the way to it.
+pub fn the_swap(v: &Value) -> Result<&Value, Broken>
+    ensures { way_seen result ≡ the_swap_of (view v.now) }
 {
-    match (swap, trade, document) {
+    if members(v).is_none() {
+        return Err(outside(Rule::K3, Elem::DOCUMENT));
+    }
+    // Exactly one of the three roots is present.
+    match (has(v, "swap"), has(v, "trade"), has(v, "dataDocument")) {
         (false, false, false) => Err(outside(Rule::K2, Elem::SWAP)),
         (true, false, false) => swap_below(v),
         (false, true, false) => trade_below(v),
@@ -85,32 +88,17 @@ fn by_root(swap: bool, trade: bool, document: bool, v: &Value) -> Result<&Value,
     }
 }
 
-/// The swap of a document, or the rule that ends the way to it.
-pub fn the_swap(v: &Value) -> Result<&Value, Broken>
-    ensures { way_seen result ≡ the_swap_of (view v.now) }
-{
-    if members(v).is_some() {
-        let swap = has(v, "swap");
-        let trade = has(v, "trade");
-        let document = has(v, "dataDocument");
-        by_root(swap, trade, document, v)
-    } else {
-        Err(outside(Rule::K3, Elem::DOCUMENT))
-    }
-}
-
 /// The swap of a document that breaks no rule, or the first rule that it breaks.
+#[tactic(auto, using(crate::proofs::Ways::ended_first, crate::proofs::Ways::below_first))]
 pub(crate) fn clean_swap(v: &Value) -> Result<&Value, Broken>
     ensures found { IfOk result (λ swap. the_swap_of (view v.now) ≡ Ok (view swap.now)) }
     ensures clean { IfOk result (λ _. (f : BrokenRule) → DocumentFault (view v.now) f → ⊥) }
     ensures broken { IfErr result (First is_before (DocumentFault (view v.now))) }
 {
-    match the_swap(v) {
-        Err(broken) => Err(broken),
-        Ok(swap) => match first_in_swap(swap) {
-            None => Ok(swap),
-            Some(broken) => Err(broken),
-        },
+    let swap = the_swap(v)?;
+    match first_in_swap(swap) {
+        None => Ok(swap),
+        Some(broken) => Err(broken),
     }
 }
 
@@ -118,8 +106,5 @@ pub(crate) fn clean_swap(v: &Value) -> Result<&Value, Broken>
 pub fn first_in_document(v: &Value) -> Option<Broken>
     ensures { IsFirstBroken (DocumentFault (view v.now)) result }
 {
-    match clean_swap(v) {
-        Ok(_) => None,
-        Err(broken) => Some(broken),
-    }
+    clean_swap(v).err()
 }

@@ -1,7 +1,6 @@
 //! The values of leaves. Each is read only where the document says one, or where it is absent and may be.
-ghost use Rattle.irs_elements.specs.Codes.{compounding_at, day_count_at, roll_at, stub_kind_at};
-ghost use Rattle.irs_elements.specs.Elements.{leaf_text_in, once as once_of, seen};
-ghost use Rattle.irs_elements.specs.Leaves.{currency_at};
+ghost use Rattle.irs_elements.specs.{Codes.compounding_at, Codes.day_count_at, Codes.stub_kind_at, Leaves.currency_at};
+ghost use Rattle.irs_elements.specs.{Codes.roll_at, Elements.leaf_text_in, Elements.once as once_of, Elements.seen};
 ghost use Rattle.irs_read.specs.Private.Sayings.{IsSaid, Maybe, One, Or, TextSays, number_by};
 ghost use Rattle.irs_read.specs.StreamElements.{center_name, date};
 ghost use Rattle.serde_json.specs.View.{view};
@@ -26,20 +25,6 @@ macro_rules! leaf_value {
     }};
 }
 
-/// The value of the leaf with that name, which is there and has one.
-macro_rules! must {
-    ($v:expr, $name:expr, $text:ident => $value:expr) => {{
-        let mut digits = Buffer::new();
-        match leaf_text(once($v, $name), &mut digits) {
-            None => unreachable!(),
-            Some($text) => match $value {
-                None => unreachable!(),
-                Some(value) => value,
-            },
-        }
-    }};
-}
-
 /// The value of the leaf with that name, and another where there is no leaf.
 macro_rules! or_else {
     ($v:expr, $name:expr, $absent:expr, $text:ident => $value:expr) => {{
@@ -52,6 +37,13 @@ macro_rules! or_else {
             },
         }
     }};
+}
+
+/// The value of the leaf with that name, which is there and has one.
+macro_rules! must {
+    ($v:expr, $name:expr, $text:ident => $value:expr) => {
+        $crate::leaf_values::or_else!($v, $name, unreachable!(), $text => $value)
+    };
 }
 
 pub(crate) use must;

@@ -1,15 +1,5 @@
 //! What is read from a member of an object: the words of the table of elements, `one`, `maybe` and `or`.
 
-/// A member that occurs.
-macro_rules! one {
-    ($v:expr, $name:expr, $part:ident => $value:expr) => {
-        match once($v, $name) {
-            None => unreachable!(),
-            Some($part) => $value,
-        }
-    };
-}
-
 /// One that may be absent, and then there is no value.
 macro_rules! maybe {
     ($v:expr, $name:expr, $part:ident => $value:expr) => {
@@ -27,6 +17,13 @@ macro_rules! or {
             None => $absent,
             Some($part) => $value,
         }
+    };
+}
+
+/// A member that occurs.
+macro_rules! one {
+    ($v:expr, $name:expr, $part:ident => $value:expr) => {
+        $crate::members::or!($v, $name, unreachable!(), $part => $value)
     };
 }
 

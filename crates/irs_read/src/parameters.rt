@@ -6,7 +6,7 @@ ghost use Rattle.std.specs.Prelude.{IfOk};
 
 use crate::blocks::names;
 use crate::leaf_values::must;
-use crate::members::one;
+use crate::members::{one, or};
 use irs_base::Memory;
 use irs_elements::{codes, leaf_text, numbers, once};
 use irs_json::Value;
@@ -27,15 +27,12 @@ fn observation_offset(v: &Value) -> ObservationOffset
     requires { IsSaid (observing.says (view v.now)) }
     ensures { observing.says (view v.now) result }
 {
-    match once(v, "observationShift") {
-        Some(shift) => ObservationOffset::Shift(offset_days(shift)),
-        None => match once(v, "lookback") {
-            Some(lookback) => ObservationOffset::Lookback(offset_days(lookback)),
-            None => match once(v, "lockout") {
-                Some(lockout) => ObservationOffset::Lockout(offset_days(lockout)),
-                None => ObservationOffset::Absent,
-            },
-        },
+    if let Some(shift) = once(v, "observationShift") {
+        ObservationOffset::Shift(offset_days(shift))
+    } else if let Some(lookback) = once(v, "lookback") {
+        ObservationOffset::Lookback(offset_days(lookback))
+    } else {
+        or!(v, "lockout", ObservationOffset::Absent, lockout => ObservationOffset::Lockout(offset_days(lockout)))
     }
 }
 

@@ -1,12 +1,9 @@
 //! Reading a trade's document: the swap that it spells, or the first rule that it breaks.
 ghost use Rattle.irs_base.specs.Outcomes.{IfBroken, First, Determined, IfMemory};
-ghost use Rattle.irs_terms.specs.Faults.{is_before};
-ghost use Rattle.irs_terms.specs.declared.places.Broken.{Broken as BrokenRule};
 ghost use Rattle.irs_read.specs.Documents.{DocumentFault, swap_of_document, Means, EachStated};
-ghost use Rattle.irs_terms.specs.Lawful.{IsLawfulSwap};
-ghost use Rattle.irs_terms.specs.declared.stream_list.Swap.{Swap as MeantSwap};
-ghost use Rattle.serde_json.specs.Data.{Data};
-ghost use Rattle.serde_json.specs.View.{view};
+ghost use Rattle.irs_terms.specs.declared.{places.Broken.Broken as BrokenRule, stream_list.Swap.Swap as MeantSwap};
+ghost use Rattle.irs_terms.specs.{Faults.is_before, Lawful.IsLawfulSwap};
+ghost use Rattle.serde_json.specs.{Data.Data, View.view};
 ghost use Rattle.std.specs.Prelude.{IfOk};
 
 use crate::document::clean_swap;

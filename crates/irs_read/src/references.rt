@@ -3,10 +3,9 @@
 ghost use Rattle.irs_elements.specs.Elements.{member as member_of, once as once_of, seen};
 ghost use Rattle.irs_read.specs.Readings.{attribute as attribute_of, found_value, has_id as has_id_of, href_of};
 ghost use Rattle.irs_read.specs.Readings.{lists_in, lists_of, the_one};
-ghost use Rattle.irs_read.specs.Private.Sayings.{Or};
-ghost use Rattle.irs_read.specs.StreamElements.{reference as reference_by};
+ghost use Rattle.irs_read.specs.{Private.Sayings.Or, StreamElements.reference as reference_by};
 ghost use Rattle.serde_json.specs.View.{view};
-ghost use Rattle.std.specs.Prelude.{◌≡◌, ◌++◌, IfOk, Some, codes, count_by, find, map, option_map};
+ghost use Rattle.std.specs.Prelude.{◌≡◌, IfOk, Some, codes, count_by, find, map, option_map};
 
 use irs_base::Memory;
 use irs_elements::{member, once};
@@ -25,10 +24,7 @@ fn attribute<'a>(v: Option<&'a Value>, name: &str) -> Option<&'a str>
 fn has_id(v: Option<&Value>, id: &str) -> bool
     ensures { result ≡ has_id_of id.now (seen v.entry) }
 {
-    match attribute(v, "@id") {
-        None => false,
-        Some(text) => text == id,
-    }
+    attribute(v, "@id").is_some_and(|text| text == id)
 }
 
 // The text of a reference's `@href`.
@@ -107,26 +103,14 @@ fn slots(stream: &Value) -> [Option<&Value>; 7]
     ]
 }
 
-// The lists, with more appended.
-fn add<'a>(
-    mut lists: Vec<Option<&'a Value>>,
-    more: &[Option<&'a Value>],
-) -> Result<Vec<Option<&'a Value>>, Memory>
-    ensures { IfOk result (λ all. all.items ≡ lists.entry.items ++ more.now) }
-{
-    for list in more {
-        lists.push(*list)?;
-    }
-    Ok(lists)
-}
-
 /// The lists of centres of all streams.
+#[tactic(auto, using(crate::proofs::EachSaid::added, crate::proofs::EachSaid::lists_more))]
 pub fn lists<'a>(alloc: Global, streams: &'a [Value]) -> Result<Vec<Option<&'a Value>>, Memory>
     ensures { IfOk result (λ lists. map seen lists.items ≡ lists_of (map view streams.now)) }
 {
     let mut lists = Vec::new(alloc);
     for stream in streams {
-        lists = add(lists, &slots(stream))?;
+        lists.extend_from_slice(&slots(stream))?;
     }
     Ok(lists)
 }

@@ -1,13 +1,11 @@
 //! The stream that a value says.
 ghost use Rattle.irs_base.specs.Lists.{Pairs};
 ghost use Rattle.irs_elements.specs.Elements.{once as once_of, seen};
-ghost use Rattle.irs_read.specs.Private.Sayings.{InterestSaid, IsSaid, Maybe, Or, RoundingSaid};
-ghost use Rattle.irs_read.specs.Private.Sayings.{StreamParts, TermSaid, no_exchange};
-ghost use Rattle.irs_read.specs.StreamElements.{StreamSays, SwapSays};
-ghost use Rattle.irs_read.specs.StreamElements.{exchanges as exchanges_by, fixing_dates as fixing_dates_by};
-ghost use Rattle.irs_read.specs.StreamElements.{floating, indexed as indexed_by, leg as leg_by, payment_dates, places_by};
-ghost use Rattle.irs_read.specs.StreamElements.{reset_dates, rounding_read, stub as stub_by};
-ghost use Rattle.irs_read.specs.StreamElements.{rate, stubs as stubs_by};
+ghost use Rattle.irs_read.specs.Private.Sayings.{IsSaid, Maybe, Or, RoundingSaid, StreamParts};
+ghost use Rattle.irs_read.specs.StreamElements.{StreamSays, SwapSays, exchanges as exchanges_by, stub as stub_by};
+ghost use Rattle.irs_read.specs.StreamElements.{fixing_dates as fixing_dates_by, floating, indexed as indexed_by, rate};
+ghost use Rattle.irs_read.specs.StreamElements.{leg as leg_by, payment_dates, places_by, reset_dates, rounding_read};
+ghost use Rattle.irs_read.specs.{Private.Sayings.no_exchange, StreamElements.stubs as stubs_by};
 ghost use Rattle.serde_json.specs.View.{view};
 ghost use Rattle.std.specs.Prelude.{◌≡◌, IfOk, Some, map};
 
@@ -25,9 +23,8 @@ use irs_base::{Direction, Memory, Text};
 use irs_elements::{codes, leaf_text, numbers, once, values_at};
 use irs_json::Value;
 use irs_terms::{
-    AdjustableDate, Adjustments, DayKind, ExchangeFlags, FixTerms, FloatTerms, Frequency, Leg,
-    Offset, PayTerms, RefState, Relative, ResetTerms, Rounding, StepValues, Stream, StreamList,
-    StubRate, StubTerms, Swap, Treatment,
+    DayKind, ExchangeFlags, FixTerms, FloatTerms, Frequency, Leg, Offset, PayTerms, RefState,
+    Relative, ResetTerms, Rounding, Stream, StreamList, StubRate, StubTerms, Swap, Treatment,
 };
 use itoa::Buffer;
 use std::alloc::Global;
@@ -56,13 +53,8 @@ fn rounding_or(v: &Value) -> Rounding
     requires { IsSaid (RoundingSaid (view v.now)) }
     ensures { RoundingSaid (view v.now) result }
 {
-    match once(v, "finalRateRounding") {
-        None => Rounding {
-            dir: Direction::Nearest,
-            places: default_places(once(v, "calculationParameters")),
-        },
-        Some(v) => rounding(v),
-    }
+    let places = default_places(once(v, "calculationParameters"));
+    or!(v, "finalRateRounding", Rounding { dir: Direction::Nearest, places }, v => rounding(v))
 }
 
 // An index of a rate, with its tenor.
@@ -168,21 +160,6 @@ fn reset_terms(
     })
 }
 
-fn maybe_resets(
-    alloc: Global,
-    lists: &[Option<&Value>],
-    dates: &Value,
-    v: &Value,
-    name: &str,
-) -> Result<Option<ResetTerms>, Memory>
-    requires { IsSaid (Maybe (reset_dates (map seen lists.now) (Some (view dates.now))).says
-        (once_of name.now (view v.now))) }
-    ensures { IfOk result (Maybe (reset_dates (map seen lists.now) (Some (view dates.now))).says
-        (once_of name.now (view v.now))) }
-{
-    Ok(maybe!(v, name, v => reset_terms(alloc, lists, dates, v)?))
-}
-
 // The index of a stub if it is present, else its rate.
 fn stub(alloc: Global, v: &Value) -> Result<StubRate, Memory>
     requires { IsSaid (stub_by.says (view v.now)) }
@@ -210,18 +187,6 @@ fn stub_terms(alloc: Global, dates: &Value, v: &Value) -> Result<StubTerms, Memo
     })
 }
 
-fn maybe_stubs(
-    alloc: Global,
-    dates: &Value,
-    v: &Value,
-    name: &str,
-) -> Result<Option<StubTerms>, Memory>
-    requires { IsSaid (Maybe (stubs_by (Some (view dates.now))).says (once_of name.now (view v.now))) }
-    ensures { IfOk result (Maybe (stubs_by (Some (view dates.now))).says (once_of name.now (view v.now))) }
-{
-    Ok(maybe!(v, name, v => stub_terms(alloc, dates, v)?))
-}
-
 fn exchanges(v: &Value) -> ExchangeFlags
     requires { IsSaid (exchanges_by.says (view v.now)) }
     ensures { exchanges_by.says (view v.now) result }
@@ -231,52 +196,6 @@ fn exchanges(v: &Value) -> ExchangeFlags
         intermediate: must!(v, "intermediateExchange", text => codes::truth(text)),
         last: must!(v, "finalExchange", text => codes::truth(text)),
     }
-}
-
-// No principal is exchanged where it isn't said.
-fn exchanges_or(v: &Value, name: &str) -> ExchangeFlags
-    requires { IsSaid (Or exchanges_by.says no_exchange (once_of name.now (view v.now))) }
-    ensures { Or exchanges_by.says no_exchange (once_of name.now (view v.now)) result }
-{
-    or!(v, name, ExchangeFlags { initial: false, intermediate: false, last: false }, v => exchanges(v))
-}
-
-// When a stream runs, and how the ends of its periods are adjusted.
-#[derive(Drop)]
-struct TermDates {
-    effective: AdjustableDate,
-    first_start: Option<AdjustableDate>,
-    termination: AdjustableDate,
-    period_adj: Adjustments,
-}
-
-fn term(alloc: Global, lists: &[Option<&Value>], dates: &Value) -> Result<TermDates, Memory>
-    requires { IsSaid (TermSaid (map seen lists.now) (view dates.now)) }
-    ensures { IfOk result (TermSaid (map seen lists.now) (view dates.now)) }
-{
-    Ok(TermDates {
-        effective: one!(dates, "effectiveDate", v => adjustable_date(alloc, lists, v)?),
-        termination: one!(dates, "terminationDate", v => adjustable_date(alloc, lists, v)?),
-        period_adj: one!(dates, "calculationPeriodDatesAdjustments", v => adjusting(alloc, lists, v)?),
-        first_start: maybe!(dates, "firstPeriodStartDate", v => adjustable_date(alloc, lists, v)?),
-    })
-}
-
-// What interest is paid on, and the rates.
-#[derive(Drop)]
-struct InterestTerms {
-    notional: StepValues,
-    leg: Leg,
-}
-
-fn amounts(alloc: Global, notionals: &Value, calc: &Value) -> Result<InterestTerms, Memory>
-    requires { IsSaid (InterestSaid (view notionals.now) (view calc.now)) }
-    ensures { IfOk result (InterestSaid (view notionals.now) (view calc.now)) }
-{
-    Ok(InterestTerms {
-        notional: schedule(alloc, Scale::Notionals, notionals)?,
-        leg: leg(alloc, calc)?,
-    })
 }
 
 // The stream of which these are the dates, the frequency, the calculation and the notionals.
@@ -294,27 +213,27 @@ fn stream_of(
     ensures { IfOk result (StreamParts (map seen lists.now) (view v.now) (view dates.now) (view freq.now)
         (view calc.now) (view notionals.now)) }
 {
-    let term = term(alloc, lists, dates)?;
-    let amounts = amounts(alloc, notionals, calc)?;
     Ok(Stream {
-        effective: term.effective,
-        first_start: term.first_start,
-        termination: term.termination,
-        period_adj: term.period_adj,
+        effective: one!(dates, "effectiveDate", v => adjustable_date(alloc, lists, v)?),
+        first_start: maybe!(dates, "firstPeriodStartDate", v => adjustable_date(alloc, lists, v)?),
+        termination: one!(dates, "terminationDate", v => adjustable_date(alloc, lists, v)?),
+        period_adj: one!(dates, "calculationPeriodDatesAdjustments", v => adjusting(alloc, lists, v)?),
         first_regular: maybe_day(dates, "firstRegularPeriodStartDate"),
         last_regular: maybe_day(dates, "lastRegularPeriodEndDate"),
         stub: stub_kind(dates, "stubPeriodType"),
         freq: frequency(freq),
         roll: roll(freq, "rollConvention"),
         pay: one!(v, "paymentDates", v => pay_terms(alloc, lists, dates, v)?),
-        reset: maybe_resets(alloc, lists, dates, v, "resetDates")?,
-        notional: amounts.notional,
+        reset: maybe!(v, "resetDates", v => reset_terms(alloc, lists, dates, v)?),
+        notional: schedule(alloc, Scale::Notionals, notionals)?,
         currency: currency(notionals, "currency"),
-        leg: amounts.leg,
+        leg: leg(alloc, calc)?,
         day_count: day_count(calc, "dayCountFraction"),
         compounding: compounding(calc, "compoundingMethod"),
-        stubs: maybe_stubs(alloc, dates, v, "stubCalculationPeriodAmount")?,
-        exchanges: exchanges_or(v, "principalExchanges"),
+        stubs: maybe!(v, "stubCalculationPeriodAmount", v => stub_terms(alloc, dates, v)?),
+        // No principal is exchanged where it isn't said.
+        exchanges: or!(v, "principalExchanges",
+            ExchangeFlags { initial: false, intermediate: false, last: false }, v => exchanges(v)),
     })
 }
 
@@ -332,6 +251,7 @@ fn stream(alloc: Global, lists: &[Option<&Value>], v: &Value) -> Result<Stream, 
     stream_of(alloc, lists, v, dates, freq, calc, notionals)
 }
 
+#[tactic(auto, using(crate::proofs::EachSaid::says_more, crate::proofs::EachSaid::says_all))]
 fn each_stream(
     alloc: Global,
     lists: &[Option<&Value>],

@@ -5,7 +5,7 @@ ghost use Rattle.serde_json.specs.View.{view};
 ghost use Rattle.std.specs.Prelude.{◌≡◌, ◌≤◌, length, map};
 ghost use Rattle.irs_terms.specs.Faults.{IsFirstBroken};
 
-use crate::table::{ENDS, NAMES, ROWS, STREAM, SWAP, SWAP_ENDS, SWAP_NAMES, SWAP_ROWS};
+use crate::table::{ENDS, NAMES, OBJECT, ROWS, SWAP_ENDS, SWAP_NAMES, SWAP_ROWS};
 use irs_base::MOST_STREAMS;
 use irs_elements::{Table, earlier, first_fault, values_at};
 use irs_json::{Value, members};
@@ -26,6 +26,7 @@ pub fn outside(rule: Rule, elem: Elem) -> Broken
 }
 
 // The first rule that one to eight streams break.
+#[tactic(auto, using(crate::proofs::Each::each_all))]
 fn each_stream_fault(list: &[Value]) -> Option<Broken>
     requires { length list.now ≤ most_streams }
     ensures { IsFirstBroken (Among StreamFault (map view list.now)) result }
@@ -39,7 +40,7 @@ fn each_stream_fault(list: &[Value]) -> Option<Broken>
             ends: &ENDS,
             stream: number,
         };
-        first = earlier(first, first_fault(&table, 0, STREAM, 0, &list[j]));
+        first = earlier(first, first_fault(&table, 0, OBJECT, 0, &list[j]));
     }
     first
 }
@@ -58,6 +59,7 @@ fn streams_fault(list: &[Value]) -> Option<Broken>
 }
 
 /// The first rule that a swap breaks.
+#[tactic(auto, using(crate::proofs::Each::object_none, crate::proofs::TableLaws::swap_first))]
 pub fn first_in_swap(v: &Value) -> Option<Broken>
     ensures { IsFirstBroken (SwapFault (view v.now)) result }
 {
@@ -67,7 +69,7 @@ pub fn first_in_swap(v: &Value) -> Option<Broken>
         ends: &SWAP_ENDS,
         stream: 0,
     };
-    let own = first_fault(&table, 0, SWAP, 0, v);
+    let own = first_fault(&table, 0, OBJECT, 0, v);
     match members(v) {
         None => own,
         Some(_) => earlier(own, streams_fault(values_at(v, "swapStream"))),

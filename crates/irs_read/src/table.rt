@@ -13,7 +13,8 @@ ghost use Rattle.std.specs.Prelude.{◌≡◌, Some, drop, map, true};
 use irs_base::{MOST_CENTERS, MOST_STEPS};
 use irs_elements::{Choice, Count, Kind, Leaf, Row, row};
 
-const OBJECT: Kind = Kind::Object(Choice::Free);
+/// An object, as a stream and a swap are.
+pub const OBJECT: Kind = Kind::Object(Choice::Free);
 
 const REFERENCE: Kind = Kind::Object(Choice::Reference);
 
@@ -44,9 +45,6 @@ macro_rules! ends {
         [$($end),*]
     };
 }
-
-/// What a stream is: an object.
-pub const STREAM: Kind = Kind::Object(Choice::Free);
 
 // The members at the rows of a stream, one a line: the row of the object that it stands in, the place of its element in
 // the table of paths, its name, kind and count, and the row after its last member, 0 if it has none. Passed and refused
@@ -246,14 +244,11 @@ pub const NAMES: [&str; 179] = stream_elements!(names);
 /// For each row of a stream, the number of the row after its last member; 0 if it has none.
 pub const ENDS: [usize; 179] = stream_elements!(ends);
 
-/// What a swap is: an object.
-pub const SWAP: Kind = Kind::Object(Choice::Free);
-
 // The same of a swap. Its streams are skipped here: each is checked with its own number.
 macro_rules! swap_elements {
     ($part:ident) => {
         $part![
-            [0, 1, "swap", SWAP, Count::One, 12],
+            [0, 1, "swap", OBJECT, Count::One, 12],
             [0, 1, "swapStream", PASSED, Count::Maybe, 0],
             [0, 1, "productType", PASSED, Count::Maybe, 0],
             [0, 1, "productId", PASSED, Count::Maybe, 0],

@@ -4,17 +4,13 @@
 use Rattle.irs_base.specs.declared.rounding.Direction.TheVariants.{Nearest}
 use Rattle.irs_elements.specs.Elements.{once}
 use Rattle.irs_read.specs.Readings.{ReadPart, Says, Value, maybe, one, or, said, ◌also◌, ◌gives◌}
-use Rattle.irs_read.specs.StreamElements.{adjustable, adjustments, exchanges, fixing_dates, leg, notional}
-use Rattle.irs_read.specs.StreamElements.{frequency_terms, notional_terms, period_terms, rate_terms, stubs}
-use Rattle.irs_read.specs.StreamElements.{payment_dates, places_by, rate, reset_dates, rounding_read, schedule}
-use Rattle.irs_read.specs.declared.leaf_values.Scale.TheVariants.{Notionals, Rates}
-use Rattle.irs_read.specs.declared.leaf_values.Scale.{Scale}
-use Rattle.irs_read.specs.declared.stream.{InterestTerms.InterestTerms, TermDates.TermDates}
+use Rattle.irs_read.specs.StreamElements.{exchanges, fixing_dates, notional, rate}
+use Rattle.irs_read.specs.StreamElements.{frequency_terms, notional_terms, period_terms, rate_terms, stubs, places_by}
+use Rattle.irs_read.specs.StreamElements.{payment_dates, reset_dates, rounding_read}
+use Rattle.irs_read.specs.declared.leaf_values.Scale.{Scale, TheVariants.Notionals, TheVariants.Rates}
 use Rattle.irs_terms.specs.declared.amounts.{ExchangeFlags.ExchangeFlags, Rounding.Rounding}
-use Rattle.irs_terms.specs.declared.codes.RefState.TheVariants.{Absent as NoReference}
-use Rattle.irs_terms.specs.declared.codes.RefState.{RefState}
-use Rattle.irs_terms.specs.declared.dates.FixTerms.{FixTerms}
-use Rattle.irs_terms.specs.declared.stream.Stream.{Stream}
+use Rattle.irs_terms.specs.declared.codes.RefState.{RefState, TheVariants.Absent as NoReference}
+use Rattle.irs_terms.specs.declared.{dates.FixTerms.FixTerms, stream.Stream.Stream}
 use Rattle.serde_json.specs.Data.{Data}
 use Rattle.std.specs.Prelude.{◌≡◌, ℕ, false, List, ℤ, Option, Some, None, codes}
 
@@ -58,18 +54,6 @@ abbrev pub RoundingSaid : Data → Rounding → Type 0
 RoundingSaid d =
     Or rounding_read.says (record { dir = Nearest; places = places_by (once (codes "calculationParameters") d) })
     (once (codes "finalRateRounding") d)
-
--- when a stream runs
-abbrev pub TermSaid : List (Option Data) → Data → TermDates → Type 0
-TermSaid lists d t =
-    One (adjustable lists).says (once (codes "effectiveDate") d) t.effective
-    × (One (adjustable lists).says (once (codes "terminationDate") d) t.termination
-    × (One (adjustments lists).says (once (codes "calculationPeriodDatesAdjustments") d) t.period_adj
-    × Maybe (adjustable lists).says (once (codes "firstPeriodStartDate") d) t.first_start))
-
--- what interest is paid on, and the rates
-abbrev pub InterestSaid : Data → Data → InterestTerms → Type 0
-InterestSaid notionals calc t = (schedule notional).says notionals t.notional × leg.says calc t.leg
 
 -- ---- a stream, by the objects that hold its parts
 

@@ -1,8 +1,7 @@
 use Rattle.irs_elements.specs.Elements.{seen}
 use Rattle.irs_read.proofs.references.first_named.Given as goal
 use Rattle.irs_read.specs.Readings.{has_id}
-use Rattle.std.proofs.Common.{◌≡◌, drop, map}
-use Rattle.std.specs.Prelude.{find}
+use Rattle.std.{proofs.Common.◌≡◌, proofs.Common.drop, proofs.Common.map, specs.Prelude.find}
 
 -- no list so far has the id, so a search of the rest finds the same list
 abbrev pub invariant-loop-list : goal.invariant-loop-list

@@ -1,5 +1,5 @@
 use Rattle.irs_elements.specs.Elements.{member}
-use Rattle.irs_read.proofs.Lists.{seven}
+use Rattle.irs_read.proofs.EachSaid.{seven}
 use Rattle.irs_read.proofs.references.slots.Goals as goal
 use Rattle.serde_json.specs.Data.{Data}
 use Rattle.std.proofs.Common.{List, Option, ℕ, ap, codes, ◌∙◌}

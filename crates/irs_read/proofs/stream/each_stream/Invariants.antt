@@ -7,5 +7,4 @@ use Rattle.std.proofs.Common.{map, take}
 
 -- the streams read so far are those that the values so far say
 abbrev pub invariant-loop-found : goal.invariant-loop-found
-invariant-loop-found l =
-    Pairs (StreamSays (map seen l.lists)) (map view (take l.found-index l.streams)) l.list
+invariant-loop-found l = Pairs (StreamSays (map seen l.lists)) (map view (take l.found-index l.streams)) l.list

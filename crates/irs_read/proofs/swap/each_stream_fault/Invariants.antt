@@ -1,10 +1,9 @@
 use Rattle.irs_elements.proofs.First.{Below}
-use Rattle.irs_read.proofs.Each.{Each}
 use Rattle.irs_read.proofs.swap.each_stream_fault.Given as goal
-use Rattle.irs_read.specs.Documents.{StreamFault}
+use Rattle.irs_read.{proofs.Each.Each, specs.Documents.StreamFault}
+use Rattle.irs_terms.specs.Faults.{IsFirstBroken}
 use Rattle.serde_json.specs.View.{view}
 use Rattle.std.proofs.Common.{map}
-use Rattle.irs_terms.specs.Faults.{IsFirstBroken}
 
 -- the fault kept is the first of those of the first j streams
 abbrev pub invariant-loop-j : goal.invariant-loop-j

@@ -1,13 +1,7 @@
-use Rattle.irs_read.proofs.Each.{object_none, object_some}
-use Rattle.irs_read.proofs.TableLaws.{swap_first}
 use Rattle.irs_read.proofs.swap.first_in_swap.Goals as goal
+use Rattle.irs_read.proofs.{Each.object_some, TableLaws.swap_first}
 use Rattle.serde_json.specs.View.{view}
 use Rattle.std.proofs.Common.{sym, ◌∙◌}
-
-pub returns-in-None : goal.returns-in-None
-returns-in-None c =
-    object_none _ _ (view c.args.v.now) c.first_fault-own.result (sym c.members.ensures.names
-    ∙ c.in-None.is) (swap_first _ _ _ _ _ _ c.first_fault-own.ensures)
 
 pub returns-in-Some : goal.returns-in-Some
 returns-in-Some c =

@@ -2,8 +2,7 @@ use Rattle.irs_read.proofs.Each.{each_first, many_first, none_first}
 use Rattle.irs_read.proofs.swap.streams_fault.Goals as goal
 use Rattle.irs_read.specs.Documents.{StreamFault}
 use Rattle.serde_json.specs.View.{view}
-use Rattle.std.proofs.Common.{Some, ap, arith, map}
-use Rattle.std.proofs.lemmas.List.{length-map}
+use Rattle.std.proofs.{Common.Some, Common.ap, Common.arith, Common.map, lemmas.List.length-map}
 
 pub returns-then-list-eq0 : goal.returns-then-list-eq0
 returns-then-list-eq0 c =
