@@ -4,10 +4,9 @@ use Rattle.std.specs.Prelude.{length, Option, Some, None, is_some, option_and_th
 use Rattle.serde_json.specs.Data.{Data}
 use Rattle.std.specs.List.{flat_map}
 use Rattle.irs_terms.specs.Elements.{cashflows, flow_period, swap, swap_stream}
-use Rattle.irs_terms.specs.declared.places.Rule.{Rule}
 use Rattle.irs_terms.specs.declared.places.Rule.TheVariants.{K2, K3, K7}
 use Rattle.irs_base.specs.{Limits.most_rows}
-use Rattle.irs_terms.specs.{Paths.printed_paths, declared.places.Broken.Broken}
+use Rattle.irs_terms.specs.{Paths.printed_paths, declared.places.Broken.Broken, declared.places.Rule.Rule}
 use Rattle.irs_json.specs.Leaves.{child_of, element_names}
 use Rattle.irs_elements.specs.Lines.{Table, others_at, leaf, line, line_below, table_names, object, table_rows}
 use Rattle.irs_elements.specs.declared.table.Count.TheVariants.{Maybe, UpTo}

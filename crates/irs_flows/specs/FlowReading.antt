@@ -1,22 +1,19 @@
 -- The cash flows that a document states, and what reading them answers.
-use Rattle.std.specs.Prelude.{List, ◌≡◌, length, sum_by, IfSome, map, Option, Some, option_map, codes, ◌≢◌, Ok}
-use Rattle.serde_json.specs.Data.{Data}
-use Rattle.irs_terms.specs.declared.places.Rule.TheVariants.{K2, K3, K4, K5, K6, K7}
-use Rattle.irs_base.specs.Outcomes.{First, Spec}
-use Rattle.irs_terms.specs.Faults.{IsFirstBroken, is_before}
-use Rattle.irs_base.specs.{Days.IsDay, Lists.Every, declared.line.Dec.Dec}
-use Rattle.irs_terms.specs.{declared.places.Broken.Broken}
-use Rattle.irs_terms.specs.{declared.places.Place.Place, declared.places.Rule.Rule}
-use Rattle.irs_elements.specs.Elements.{member, once, values_in}
-use Rattle.irs_elements.specs.Numbers.{fraction_at, amount_at, whole_at}
-use Rattle.irs_elements.specs.{Codes.first_there, Leaves.leaf_date_at, Leaves.currency_at}
-use Rattle.irs_read.specs.{Readings.said, Documents.the_swap}
+use Rattle.irs_base.specs.{Outcomes.First, Outcomes.Spec, Days.IsDay, Lists.Every, declared.line.Dec.Dec}
+use Rattle.irs_elements.specs.{Codes.first_there, Elements.member, Elements.once, Elements.values_in, Numbers.whole_at}
+use Rattle.irs_elements.specs.{Leaves.currency_at, Leaves.leaf_date_at, Numbers.amount_at, Numbers.fraction_at}
 use Rattle.irs_flows.specs.FlowFaults.{payments_in, periods_in, flow_periods_of, FlowFault}
-use Rattle.irs_flows.specs.declared.error.FlowErr.TheVariants.{Memory, Shape}
 use Rattle.irs_flows.specs.declared.error.ShapeKind.TheVariants.{Count, Kind, Missing, NotJson, Profile, Unknown, Value}
-use Rattle.irs_flows.specs.declared.{error.FlowErr.FlowErr, error.ShapeKind.ShapeKind, flows.FlowExchange.FlowExchange}
-use Rattle.irs_flows.specs.declared.{flows.FlowPayment.FlowPayment, flows.FlowPeriod.FlowPeriod}
-use Rattle.irs_flows.specs.declared.{flows.FlowReset.FlowReset, flows.StatedFraction.StatedFraction}
+use Rattle.irs_flows.specs.declared.error.{FlowErr.FlowErr, FlowErr.TheVariants.Memory, FlowErr.TheVariants.Shape}
+use Rattle.irs_flows.specs.declared.flows.{FlowExchange.FlowExchange, FlowPayment.FlowPayment, FlowPeriod.FlowPeriod}
+use Rattle.irs_flows.specs.declared.flows.{FlowReset.FlowReset, StatedFraction.StatedFraction}
+use Rattle.irs_flows.specs.declared.error.ShapeKind.{ShapeKind}
+use Rattle.irs_read.specs.{Readings.said, Documents.the_swap}
+use Rattle.irs_terms.specs.Faults.{IsFirstBroken, is_before}
+use Rattle.irs_terms.specs.declared.places.Rule.TheVariants.{K2, K3, K4, K5, K6, K7}
+use Rattle.irs_terms.specs.{declared.places.Broken.Broken, declared.places.Place.Place, declared.places.Rule.Rule}
+use Rattle.serde_json.specs.Data.{Data}
+use Rattle.std.specs.Prelude.{List, ◌≡◌, length, sum_by, IfSome, map, Option, Some, option_map, codes, ◌≢◌, Ok}
 
 -- ---- what is seen of cash flows: a list of parts, one a stream
 

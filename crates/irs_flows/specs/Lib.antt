@@ -1,3 +1,2 @@
 pub mod FlowReading
 pub mod FlowFaults
-pub mod Private

@@ -3,22 +3,19 @@
 //! stream.
 //!
 //! The carrier, the table and the order of faults are our rule.
-ghost use Rattle.irs_flows.specs.FlowFaults.{CashflowsFault, FlowFault, OnceFault, PeriodFault, PeriodsFault};
-ghost use Rattle.irs_flows.specs.FlowFaults.{PeriodsFrom, FlowStreamFault, FlowStreamsFault, FlowSwapFault};
-ghost use Rattle.irs_flows.specs.FlowFaults.{flow_broken_at as at_of, has_both_rates as has_both_rates_of};
-ghost use Rattle.irs_flows.specs.FlowFaults.{has_calculated_rate as has_calculated_rate_of, is_sound as is_sound_of};
-ghost use Rattle.irs_flows.specs.FlowFaults.{payments_in, flow_periods_of, sole as sole_of};
-ghost use Rattle.irs_base.specs.{Limits.most_rows};
-ghost use Rattle.irs_terms.specs.{Elements.flow_period, declared.places.Broken.Broken as BrokenRule};
-ghost use Rattle.irs_base.specs.{Limits.most_streams, Outcomes.First};
-ghost use Rattle.irs_terms.specs.{Faults.IsFirstBroken, Faults.is_before};
-ghost use Rattle.irs_elements.specs.{Elements.seen, Private.Walk.fault_if};
-ghost use Rattle.irs_read.specs.Documents.{Among, the_swap as the_swap_of};
+ghost use Rattle.irs_base.specs.{Outcomes.First};
+ghost use Rattle.irs_elements.specs.Elements.{seen};
+ghost use Rattle.irs_flows.specs.FlowFaults.{CashflowsFault, FaultIf, FlowFault, FlowStreamFault, FlowStreamsFault};
+ghost use Rattle.irs_flows.specs.FlowFaults.{FlowSwapFault, OnceFault, OwnFault, PeriodFault, PeriodsFault};
+ghost use Rattle.irs_flows.specs.FlowFaults.{flow_broken_at as at_of, flow_periods_of, payments_in};
+ghost use Rattle.irs_flows.specs.FlowFaults.{has_both_rates as has_both_rates_of, is_sound as is_sound_of};
+ghost use Rattle.irs_read.specs.Documents.{the_swap as the_swap_of};
+ghost use Rattle.irs_terms.specs.{Faults.IsFirstBroken, Faults.is_before, declared.places.Broken.Broken as BrokenRule};
 ghost use Rattle.serde_json.specs.View.{view};
-ghost use Rattle.std.specs.Prelude.{◌≡◌, ◌+◌, ◌<◌, ◌^◌, ◌≤◌, IfErr, IfOk, Ok, length, map, not};
+ghost use Rattle.std.specs.Prelude.{◌≡◌, IfErr, IfOk, Ok, map};
 
 use crate::flow_table::{
-    FLOW_ENDS, FLOW_NAMES, FLOW_ROWS, FLOWS, PERIOD, PERIOD_ENDS, PERIOD_NAMES, PERIOD_ROWS,
+    FLOW_ENDS, FLOW_NAMES, FLOW_ROWS, OBJECT, PERIOD_ENDS, PERIOD_NAMES, PERIOD_ROWS,
 };
 use irs_base::{MOST_ROWS, MOST_STREAMS};
 use irs_elements::{Table, earlier, first_fault, has_odd, values, values_at};
@@ -40,6 +37,13 @@ fn at(stream: u8, rule: Rule, elem: Elem) -> Broken
     }
 }
 
+// That rule, where the condition holds.
+fn broken_if(condition: bool, stream: u8, rule: Rule, elem: Elem) -> Option<Broken>
+    ensures { IsFirstBroken (FaultIf condition (at_of stream rule elem)) result }
+{
+    condition.then_some(at(stream, rule, elem))
+}
+
 // ---- an object of which most members are passed over
 
 // Whether `v` is an object whose `@id` and `@href`, where they occur, are texts.
@@ -50,53 +54,21 @@ fn is_sound(v: &Value) -> bool
 }
 
 fn own_fault(stream: u8, elem: Elem, v: &Value) -> Option<Broken>
-    ensures { result ≡ fault_if (not (is_sound_of (view v.now))) (at_of stream Rule.K3 elem) }
+    ensures { IsFirstBroken (OwnFault stream elem (view v.now)) result }
 {
-    if is_sound(v) {
-        None
-    } else {
-        Some(at(stream, Rule::K3, elem))
-    }
+    broken_if(!is_sound(v), stream, Rule::K3, elem)
 }
 
 // ---- calculation periods
 
-// The one value of a list.
-fn sole(list: &[Value]) -> Option<&Value>
-    ensures { seen result ≡ sole_of (map view list.now) }
-{
-    match list {
-        [] => None,
-        [one] => Some(one),
-        [_, _, ..] => None,
-    }
-}
-
-// Whether the one `floatingRateDefinition` of a period has a `calculatedRate`.
-fn has_calculated_rate(v: &Value) -> bool
-    ensures { result ≡ has_calculated_rate_of (view v.now) }
-{
-    match sole(values_at(v, "floatingRateDefinition")) {
-        None => false,
-        Some(float) => child(float, "calculatedRate").is_some(),
-    }
-}
-
-// Whether a period has both rates.
+// Whether a period has both rates: a `fixedRate`, and a `calculatedRate` in its one `floatingRateDefinition`.
 fn has_both_rates(v: &Value) -> bool
     ensures { result ≡ has_both_rates_of (view v.now) }
 {
-    child(v, "fixedRate").is_some() && has_calculated_rate(v)
-}
-
-fn both_rates_fault(stream: u8, v: &Value) -> Option<Broken>
-    ensures { result ≡ fault_if (has_both_rates_of (view v.now)) (at_of stream Rule.K7 flow_period) }
-{
-    if has_both_rates(v) {
-        Some(at(stream, Rule::K7, Elem::FLOW_PERIOD))
-    } else {
-        None
-    }
+    let [float] = values_at(v, "floatingRateDefinition") else {
+        return false;
+    };
+    child(v, "fixedRate").is_some() && child(float, "calculatedRate").is_some()
 }
 
 // The first fault of the calculation period with this number.
@@ -109,21 +81,9 @@ fn period_fault(stream: u8, number: u32, v: &Value) -> Option<Broken>
         ends: &PERIOD_ENDS,
         stream,
     };
-    let own = first_fault(&table, 0, PERIOD, number, v);
-    earlier(own, both_rates_fault(stream, v))
-}
-
-// The first fault of calculation periods that come after the first `before` of the stream.
-fn periods_behind(stream: u8, before: u32, list: &[Value]) -> Option<Broken>
-    requires { before + length list.now < 2 ^ 32 }
-    ensures { IsFirstBroken (PeriodsFrom stream before (map view list.now)) result }
-{
-    let mut first = None;
-    for j in 0..list.len() {
-        let number = before + j as u32 + 1;
-        first = earlier(first, period_fault(stream, number, &list[j]));
-    }
-    first
+    let own = first_fault(&table, 0, OBJECT, number, v);
+    let both = broken_if(has_both_rates(v), stream, Rule::K7, Elem::FLOW_PERIOD);
+    earlier(own, both)
 }
 
 // The first fault of the calculation periods of payments: that they are too many, or one of theirs.
@@ -131,14 +91,15 @@ fn periods_fault(stream: u8, payments: &[Value]) -> Option<Broken>
     ensures { IsFirstBroken (PeriodsFault stream (flow_periods_of (map view payments.now))) result }
 {
     let mut first = None;
-    let mut before = 0;
-    for p in 0..payments.len() {
-        let list = values_at(&payments[p], "calculationPeriod");
-        if list.len() > (MOST_ROWS - before) as usize {
-            return Some(at(stream, Rule::K7, Elem::FLOW_PERIOD));
+    let mut number = 0;
+    for payment in payments {
+        for v in values_at(payment, "calculationPeriod") {
+            if number == MOST_ROWS {
+                return Some(at(stream, Rule::K7, Elem::FLOW_PERIOD));
+            }
+            number += 1;
+            first = earlier(first, period_fault(stream, number, v));
         }
-        first = earlier(first, periods_behind(stream, before, list));
-        before += list.len() as u32;
     }
     first
 }
@@ -146,7 +107,6 @@ fn periods_fault(stream: u8, payments: &[Value]) -> Option<Broken>
 // ---- the cash flows of a stream
 
 /// The payments of cash flows; none where there are too many.
-#[tactic(auto, using(crate::proofs::FlowSteps::few_is, crate::proofs::FlowSteps::many_is))]
 pub fn payments_of<'a>(v: Option<&'a Value>) -> &'a [Value]
     ensures { map view result.now ≡ payments_in (seen v.entry) }
 {
@@ -167,7 +127,7 @@ fn cashflows_fault(stream: u8, v: &Value) -> Option<Broken>
         ends: &FLOW_ENDS,
         stream,
     };
-    let own = first_fault(&table, 0, FLOWS, 0, v);
+    let own = first_fault(&table, 0, OBJECT, 0, v);
     earlier(own, periods_fault(stream, payments_of(Some(v))))
 }
 
@@ -195,30 +155,21 @@ fn stream_fault(number: u8, v: &Value) -> Option<Broken>
 
 // ---- the document
 
-// The first fault of one to eight streams.
-fn each_stream_fault(list: &[Value]) -> Option<Broken>
-    requires { length list.now ≤ most_streams }
-    ensures { IsFirstBroken (Among (λ j. FlowStreamFault (j + 1)) (map view list.now)) result }
-{
-    let mut first = None;
-    for j in 0..list.len() {
-        let number = j as u8 + 1;
-        first = earlier(first, stream_fault(number, &list[j]));
-    }
-    first
-}
-
 // The first fault of streams, and their count.
 fn streams_fault(list: &[Value]) -> Option<Broken>
     ensures { IsFirstBroken (FlowStreamsFault (map view list.now)) result }
 {
     if list.len() == 0 {
-        Some(at(0, Rule::K2, Elem::SWAP_STREAM))
-    } else if list.len() > MOST_STREAMS {
-        Some(at(0, Rule::K7, Elem::SWAP_STREAM))
-    } else {
-        each_stream_fault(list)
+        return Some(at(0, Rule::K2, Elem::SWAP_STREAM));
     }
+    if list.len() > MOST_STREAMS {
+        return Some(at(0, Rule::K7, Elem::SWAP_STREAM));
+    }
+    let mut first = None;
+    for j in 0..list.len() {
+        first = earlier(first, stream_fault(j as u8 + 1, &list[j]));
+    }
+    first
 }
 
 fn swap_fault(v: &Value) -> Option<Broken>
@@ -250,8 +201,5 @@ pub fn clean_swap(v: &Value) -> Result<&Value, Broken>
 pub fn first_in_flows(v: &Value) -> Option<Broken>
     ensures { IsFirstBroken (FlowFault (view v.now)) result }
 {
-    match clean_swap(v) {
-        Ok(_) => None,
-        Err(broken) => Some(broken),
-    }
+    clean_swap(v).err()
 }

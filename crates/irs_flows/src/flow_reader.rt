@@ -1,16 +1,15 @@
 //! Reading cash flows: the flows that a document states, or its first fault.
-ghost use Rattle.irs_elements.specs.Elements.{values_in};
-ghost use Rattle.irs_flows.specs.FlowReading.{FlowsAreWithin, HidesNone, flows_of_document, flow_part_in};
-ghost use Rattle.irs_flows.specs.FlowReading.{flow_parts_in, FlowPart, FlowsOf, IsFirstFlowFault};
-ghost use Rattle.irs_flows.specs.FlowReading.{shape_kind_of as kind_by};
-ghost use Rattle.irs_flows.specs.{Private.FlowMeaning.AllHaveFewPeriods, FlowFaults.EachFlowStated};
 ghost use Rattle.irs_base.specs.Outcomes.{Determined};
+ghost use Rattle.irs_flows.specs.FlowReading.{FlowPart, FlowsAreWithin, FlowsOf, HidesNone, IsFirstFlowFault};
+ghost use Rattle.irs_flows.specs.FlowReading.{flow_parts_in, flows_of_document, shape_kind_of as kind_by};
+ghost use Rattle.irs_flows.specs.FlowFaults.{EachFlowStated, FlowSwapFault};
+ghost use Rattle.irs_terms.specs.declared.places.Broken.{Broken as BrokenRule};
 ghost use Rattle.serde_json.specs.{Data.Data, View.view};
-ghost use Rattle.std.specs.Prelude.{◌≡◌, IfErr, IfOk, List, Some, codes, map};
+ghost use Rattle.std.specs.Prelude.{◌≡◌, IfErr, IfOk, List};
 
 use crate::flow_faults::{clean_swap, first_in_flows};
 use crate::flow_rows::stream_flows;
-use crate::{FlowErr, FlowStream, Flows, ShapeKind};
+use crate::{FlowErr, Flows, ShapeKind};
 use irs_base::Memory;
 use irs_elements::values_at;
 use irs_json::Value;
@@ -32,23 +31,15 @@ fn kind_of(rule: Rule) -> ShapeKind
     }
 }
 
-fn each_stream(alloc: Global, found: &[Value]) -> Result<Vec<FlowStream>, Memory>
-    requires { AllHaveFewPeriods (map view found.now) }
-    ensures { IfOk result (λ list. list.items ≡ map flow_part_in (map view found.now)) }
-{
-    let mut list = Vec::new(alloc);
-    for j in 0..found.len() {
-        list.push(stream_flows(alloc, &found[j])?)?;
-    }
-    Ok(list)
-}
-
 // The flows of a swap that has no fault.
 fn flows_of(alloc: Global, v: &Value) -> Result<Flows, Memory>
-    requires { AllHaveFewPeriods (values_in (codes "swapStream") (Some (view v.now))) }
+    requires { (f : BrokenRule) → FlowSwapFault (view v.now) f → ⊥ }
     ensures { IfOk result (λ flows. flows ≡ flow_parts_in (view v.now)) }
 {
-    let streams = each_stream(alloc, values_at(v, "swapStream"))?;
+    let mut streams = Vec::new(alloc);
+    for stream in values_at(v, "swapStream") {
+        streams.push(stream_flows(alloc, stream)?)?;
+    }
     Ok(Flows::new(streams))
 }
 

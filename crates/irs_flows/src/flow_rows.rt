@@ -1,12 +1,10 @@
 //! The rows of cash flows: exchanges, payments with their calculation periods, and resets.
-ghost use Rattle.irs_flows.specs.FlowFaults.{payments_in, flow_periods_of};
 ghost use Rattle.irs_base.specs.Limits.{most_rows};
-ghost use Rattle.irs_flows.specs.FlowReading.{exchange_in, flows_in, payment_in, period_in, reset_at};
-ghost use Rattle.irs_flows.specs.FlowReading.{flow_reset_in, flow_part_in};
-ghost use Rattle.irs_flows.specs.Private.FlowMeaning.{HasFewPeriods};
-ghost use Rattle.irs_elements.specs.Elements.{member as member_of, once as once_of, seen};
+ghost use Rattle.irs_elements.specs.Elements.{once as once_of, seen};
+ghost use Rattle.irs_flows.specs.{FlowFaults.flow_periods_of, FlowFaults.payments_in, FlowReading.reset_at};
+ghost use Rattle.irs_flows.specs.FlowReading.{exchange_in, flow_part_in, flow_reset_in, payment_in, period_in};
 ghost use Rattle.serde_json.specs.View.{view};
-ghost use Rattle.std.specs.Prelude.{◌≡◌, ◌≤◌, IfOk, codes, length, map, option_map};
+ghost use Rattle.std.specs.Prelude.{◌≡◌, ◌≤◌, IfOk, codes, length, map};
 
 use crate::flow_faults::payments_of;
 use crate::flow_leaves::{amount, currency, day, days, fraction};
@@ -23,16 +21,6 @@ fn reset(v: &Value) -> FlowReset
         reset: day(once(v, "resetDate")),
         fixing: day(once(v, "adjustedFixingDate")),
         observed: amount(once(v, "observedRate")),
-    }
-}
-
-// The reset below a floating rate that may be absent.
-fn reset_of(float: Option<&Value>) -> Option<FlowReset>
-    ensures { result ≡ option_map flow_reset_in (member_of (codes "rateObservation") (seen float.entry)) }
-{
-    match member(float, "rateObservation") {
-        None => None,
-        Some(found) => Some(reset(found)),
     }
 }
 
@@ -61,13 +49,10 @@ fn exchanges(alloc: Global, found: &[Value]) -> Result<Vec<FlowExchange>, Memory
 {
     let mut list = Vec::new(alloc);
     for v in found {
-        let unadjusted = day(once(v, "unadjustedPrincipalExchangeDate"));
-        let adjusted = day(once(v, "adjustedPrincipalExchangeDate"));
-        let amount = amount(once(v, "principalExchangeAmount"));
         list.push(FlowExchange {
-            unadjusted,
-            adjusted,
-            amount,
+            unadjusted: day(once(v, "unadjustedPrincipalExchangeDate")),
+            adjusted: day(once(v, "adjustedPrincipalExchangeDate")),
+            amount: amount(once(v, "principalExchangeAmount")),
         })?;
     }
     Ok(list)
@@ -81,44 +66,32 @@ fn payments(alloc: Global, found: &[Value]) -> Result<(Vec<FlowPayment>, Vec<Flo
 {
     let mut payments = Vec::new(alloc);
     let mut periods = Vec::new(alloc);
-    for j in 0..found.len() {
-        let v = &found[j];
+    for v in found {
         let inside = values_at(v, "calculationPeriod");
         let forecast = once(v, "forecastPaymentAmount");
-        let unadjusted = day(once(v, "unadjustedPaymentDate"));
-        let adjusted = day(once(v, "adjustedPaymentDate"));
-        let currency = currency(member(forecast, "currency"));
-        let amount = amount(member(forecast, "amount"));
         payments.push(FlowPayment {
-            unadjusted,
-            adjusted,
+            unadjusted: day(once(v, "unadjustedPaymentDate")),
+            adjusted: day(once(v, "adjustedPaymentDate")),
             periods: inside.len() as u32,
-            currency,
-            amount,
+            currency: currency(member(forecast, "currency")),
+            amount: amount(member(forecast, "amount")),
         })?;
         for one in inside {
             let float = once(one, "floatingRateDefinition");
-            let reset = reset_of(float);
+            let reset = member(float, "rateObservation").map(reset);
             periods.push(period(one, float, reset))?;
         }
     }
     Ok((payments, periods))
 }
 
-fn flows(alloc: Global, v: Option<&Value>) -> Result<FlowStream, Memory>
-    requires { length (flow_periods_of (payments_in (seen v))) ≤ most_rows }
-    ensures { IfOk result (λ flows. flows ≡ flows_in (seen v.entry)) }
-{
-    let found = payments_of(v);
-    let exchanges = exchanges(alloc, values(v, "principalExchange"))?;
-    let (payments, periods) = payments(alloc, found)?;
-    Ok(FlowStream::new(exchanges, payments, periods))
-}
-
 /// The flows of a stream, where it has no fault.
 pub fn stream_flows(alloc: Global, v: &Value) -> Result<FlowStream, Memory>
-    requires { HasFewPeriods (view v.now) }
+    requires { length (flow_periods_of (payments_in (once_of (codes "cashflows") (view v.now)))) ≤ most_rows }
     ensures { IfOk result (λ flows. flows ≡ flow_part_in (view v.now)) }
 {
-    flows(alloc, once(v, "cashflows"))
+    let v = once(v, "cashflows");
+    let exchanges = exchanges(alloc, values(v, "principalExchange"))?;
+    let (payments, periods) = payments(alloc, payments_of(v))?;
+    Ok(FlowStream::new(exchanges, payments, periods))
 }

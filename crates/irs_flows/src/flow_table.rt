@@ -14,14 +14,12 @@ use irs_base::MOST_ROWS;
 use irs_elements::{Choice, Count, Kind, Leaf, Row, row};
 use irs_read::{ends, names, rows};
 
-const OBJECT: Kind = Kind::Object(Choice::Free);
+/// What `cashflows` is, a calculation period, and each element that has members: an object.
+pub const OBJECT: Kind = Kind::Object(Choice::Free);
 
 const PASSED: Kind = Kind::Passed;
 
 const REFUSED: Kind = Kind::Refused;
-
-/// What `cashflows` is: an object.
-pub const FLOWS: Kind = Kind::Object(Choice::Free);
 
 // The members at the rows of `cashflows`, one a line: the row of the object that it stands in, the place of its element
 // in the table of paths, its name, kind and count, and the row after its last member, 0 if it has none. Passed and
@@ -29,7 +27,7 @@ pub const FLOWS: Kind = Kind::Object(Choice::Free);
 macro_rules! flow_elements {
     ($part:ident) => {
         $part![
-            [0, 141, "cashflows", FLOWS, Count::One, 12],
+            [0, 141, "cashflows", OBJECT, Count::One, 12],
             [0, 142, "principalExchange", OBJECT, Count::UpTo(MOST_ROWS), 14],
             [1, 143, "unadjustedPrincipalExchangeDate", Kind::Leaf(Leaf::Date), Count::Maybe, 0],
             [1, 144, "adjustedPrincipalExchangeDate", Kind::Leaf(Leaf::Date), Count::Maybe, 0],
@@ -60,14 +58,11 @@ pub const FLOW_NAMES: [&str; 18] = flow_elements!(names);
 /// For each row of `cashflows` the number of the row after its last member; 0 where it has none.
 pub const FLOW_ENDS: [usize; 18] = flow_elements!(ends);
 
-/// What a calculation period is: an object.
-pub const PERIOD: Kind = Kind::Object(Choice::Free);
-
 // The same of a calculation period.
 macro_rules! period_elements {
     ($part:ident) => {
         $part![
-            [0, 152, "calculationPeriod", PERIOD, Count::One, 23],
+            [0, 152, "calculationPeriod", OBJECT, Count::One, 23],
             [0, 153, "unadjustedStartDate", Kind::Leaf(Leaf::Date), Count::Maybe, 0],
             [0, 154, "unadjustedEndDate", Kind::Leaf(Leaf::Date), Count::Maybe, 0],
             [0, 155, "adjustedStartDate", Kind::Leaf(Leaf::Date), Count::Maybe, 0],
@@ -116,7 +111,7 @@ pub fn flow_tables_listed()
 
 /// The lines are the elements of the table of paths from after `cashflows` to its end, in its
 /// order.
-#[tactic(auto, using(crate::proofs::FlowLaws::flow_lines_are, crate::proofs::FlowLaws::period_lines_are))]
+#[tactic(auto, unfolding(crate::specs::FlowFaults::flow_table, crate::specs::FlowFaults::flow_elements, crate::specs::FlowFaults::period_table, crate::specs::FlowFaults::period_elements, irs_terms::specs::Paths::printed_paths, irs_terms::specs::Paths::paths))]
 pub fn flow_lines_follow()
     ensures flows { map (λ (l : Line). l.path) flow_table.lines ≡ flow_elements }
     ensures periods { map (λ (l : Line). l.path) period_table.lines ≡ period_elements }

@@ -3,11 +3,11 @@ use Rattle.irs_flows.specs.{FlowFaults.flow_periods_of, FlowReading.payment_in, 
 use Rattle.serde_json.specs.View.{view}
 use Rattle.std.proofs.Common.{◌≡◌, ◌++◌, map, take}
 
--- the lists have the payments before place j, and the calculation periods of these
-abbrev pub invariant-loop-j : goal.invariant-loop-j
-invariant-loop-j l =
-    (l.payments.items ≡ map payment_in (map view (take l.j l.found)))
-    × (l.periods.items ≡ map period_in (flow_periods_of (map view (take l.j l.found))))
+-- the lists have the payments so far, and the calculation periods of these
+abbrev pub invariant-loop-v : goal.invariant-loop-v
+invariant-loop-v l =
+    (l.payments.items ≡ map payment_in (map view (take l.v-index l.found)))
+    × (l.periods.items ≡ map period_in (flow_periods_of (map view (take l.v-index l.found))))
 
 -- the list is followed by the calculation periods so far of this payment
 abbrev pub invariant-loop-one : goal.invariant-loop-one
