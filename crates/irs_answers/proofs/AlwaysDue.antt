@@ -5,7 +5,7 @@ use Rattle.irs_base.specs.Outcomes.{Determined, answered, refused}
 use Rattle.irs_terms.specs.Faults.{is_before}
 use Rattle.irs_terms.specs.declared.places.Broken.{Broken}
 use Rattle.irs_read.specs.Documents.{DocumentFault, Means, swap_of_document}
-use Rattle.irs_read.proofs.EachValue.{faultless_means}
+use Rattle.irs_read.proofs.Outcomes.{faultless_means}
 use Rattle.irs_flows.specs.FlowFaults.{FlowFault}
 use Rattle.irs_flows.specs.FlowReading.{flows_of_document}
 use Rattle.irs_flows.proofs.EachFlows.{faultless_flows}

@@ -1,26 +1,21 @@
 -- The function of a date's text gives the day that the text names.
 use Rattle.irs_base.proofs.PlainDates.{is_plain, plain_is}
 use Rattle.irs_base.specs.{Texts.date_at, Texts.IsDateText, Texts.IsPlainDate, Days.IsDay}
-use Rattle.irs_elements.proofs.Exact.{both_true}
 use Rattle.irs_elements.specs.Leaves.{leaf_date_at, without_z}
 use Rattle.std.proofs.Common.{◌≡◌, inl, inr, ℕ, Bool, true, false, ◌&&◌, ◌==◌, List, [], ◌∷◌, ◌++◌, length, take, ℤ}
-use Rattle.std.proofs.Common.{slice_index, Option, Some, None, IfSome, IfNone, refl, sym, ap, ◌∙◌, subst, arith}
+use Rattle.std.proofs.Common.{slice_index, Option, Some, None, IfSome, IfNone, refl, sym, ap, ◌∙◌, arith}
 use Rattle.std.proofs.Common.{if◌then◌else◌}
 use Rattle.std.proofs.lemmas.{Bool.Decides.nat_tests, List.take_all, List.take_more}
 
 dropped : (s : List ℕ) (d : ℤ) → IsDateText s d → IsPlainDate (without_z s) d
-dropped s d (inl p) =
-    subst (λ (x : List ℕ). IsPlainDate (without_z x) d) (sym p.is)
-    (record { year = p.year; month = p.month; day = p.day; has = p.has; is = refl })
+dropped s d (inl p) = rw p.is (record { year = p.year; month = p.month; day = p.day; has = p.has; is = refl })
 dropped s d (inr (front, e, p)) =
-    subst (λ (x : List ℕ). IsPlainDate (without_z x) d) (sym (e ∙ ap (λ (x : List ℕ). x ++ 90 ∷ []) p.is))
-    (record { year = p.year; month = p.month; day = p.day; has = p.has; is = refl })
+    rw (e, p.is) (record { year = p.year; month = p.month; day = p.day; has = p.has; is = refl })
 
 ends_in_z : (s : List ℕ) → ((length s == 11) && (slice_index s 10 == 90)) ≡ true → s ≡ take 10 s ++ 90 ∷ []
 ends_in_z s e =
-    let tests = both_true (length s == 11) (slice_index s 10 == 90) e in
-    let len : length s ≡ 11 = grind (arith, nat_tests, tests.0) in
-    let last : slice_index s 10 ≡ 90 = grind (arith, nat_tests, tests.1) in
+    let len : length s ≡ 11 = grind (arith, nat_tests, e) in
+    let last : slice_index s 10 ≡ 90 = grind (arith, nat_tests, e) in
     sym (take_all 11 s (omega arith)) ∙ take_more s 10 0 (omega arith) ∙ ap (λ (z : ℕ). take 10 s ++ z ∷ []) last
 
 kept_by : (s : List ℕ) (d : ℤ) (b : Bool) → ((length s == 11) && (slice_index s 10 == 90)) ≡ b

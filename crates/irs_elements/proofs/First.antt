@@ -1,9 +1,10 @@
 -- The first of a set of faults.
-use Rattle.std.proofs.Common.{◌≡◌, ℕ, ◌<◌, ◌≤◌, ◌+◌, subst, ◌⊎◌, inl, inr, Option, Some}
-use Rattle.std.proofs.Common.{None, refl, sym, arith}
+use Rattle.std.proofs.Common.{◌≡◌, ℕ, ◌<◌, ◌≤◌, ◌+◌, subst, ◌⊎◌, inl, inr, Option, Some, None}
+use Rattle.std.proofs.Common.{refl, sym, arith}
 use Rattle.std.proofs.Math.Nat.{eq-or-lt_of_le}
 use Rattle.irs_terms.specs.declared.places.Broken.{Broken}
 use Rattle.irs_terms.specs.Faults.{is_before, earlier_broken as earlier, IsFirstBroken as IsFirst}
+use Rattle.irs_elements.specs.Private.Walk.{Any}
 use Rattle.irs_terms.proofs.FaultOrder.{broken_order}
 use Rattle.irs_base.proofs.Firsts.{first_or as either_first, first_same as same_first, first_one as alone_first}
 
@@ -26,10 +27,6 @@ module _ (F : ℕ → Broken → Type 0) where
   abbrev pub Below : ℕ → Broken → Type 0
   Below n f = (c : ℕ) × ((c < n) × F c f)
 
-  -- before the first row there is no fault
-  pub first_zero : IsFirst (Below 0) None
-  first_zero = λ f (c, (h, x)). absurd (omega arith)
-
   split : (n : ℕ) (f : Broken) → Below (n + 1) f → Below n f ⊎ F n f
   split n f (c, (h, x)) = let le : c ≤ n = omega arith in
       elim (eq-or-lt_of_le le) [ inl e ↦ inr (subst (λ (m : ℕ). F m f) e x) | inr lt ↦ inl (c, (lt, x)) ]
@@ -43,13 +40,10 @@ module _ (F : ℕ → Broken → Type 0) where
       → IsFirst (Below (n + 1)) (earlier a b)
   first_more n a b p q = first_same _ _ _ (joined n) (split n) (first_or _ _ _ _ p q)
 
-  narrowed : (n : ℕ) → ((f : Broken) → F n f → ⊥) → (f : Broken) → Below (n + 1) f → Below n f
-  narrowed n never f x = elim (split n f x) [ inl y ↦ y | inr y ↦ absurd (never f y) ]
-
-  -- a row without a fault changes nothing
-  pub first_skip : (n : ℕ) (a : Option Broken) → IsFirst (Below n) a → ((f : Broken) → F n f → ⊥)
-      → IsFirst (Below (n + 1)) a
-  first_skip n a p never = first_same _ _ _ (λ f (c, (h, x)). (c, (omega arith, x))) (narrowed n never) p
+  -- where each is of the first n, the first of these is that of all
+  pub first_all : (n : ℕ) (a : Option Broken) → ((c : ℕ) (f : Broken) → F c f → c < n) → IsFirst (Below n) a
+      → IsFirst (Any F) a
+  first_all n a before p = first_same _ _ a (λ f (c, (h, x)). (c, x)) (λ f (c, x). (c, (before c f x, x))) p
 
 -- the same answer
 pub first_is : (P : Broken → Type 0) (a b : Option Broken) → b ≡ a → IsFirst P a → IsFirst P b

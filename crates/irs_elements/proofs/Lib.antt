@@ -1,13 +1,8 @@
 pub mod First
 pub mod Steps
 pub mod Ends
-pub mod Attributes
 pub mod Exact
 pub mod DecimalsAt
 pub mod DatesAt
-pub mod FractionsAt
-pub mod Wholes
 pub mod TableRules
 pub mod KnownNames
-pub mod Objects
-pub mod FewDigits

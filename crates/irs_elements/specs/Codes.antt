@@ -2,9 +2,9 @@
 use Rattle.irs_base.specs.declared.day.DayName.TheVariants.{Mon, Tue, Wed, Thu, Fri, Sat, Sun}
 use Rattle.irs_base.specs.declared.rounding.Direction.{Direction}
 use Rattle.irs_base.specs.declared.rounding.Direction.TheVariants.{Up, Down, Nearest as ToNearest}
-use Rattle.irs_terms.specs.declared.{codes.CompCode.CompCode, codes.ConvCode.ConvCode, codes.DayCountCode.DayCountCode}
-use Rattle.irs_terms.specs.declared.{codes.DayKind.DayKind, codes.Relative.Relative, codes.RollCode.RollCode}
-use Rattle.irs_terms.specs.declared.{codes.StubKind.StubKind, codes.Treatment.Treatment}
+use Rattle.irs_terms.specs.declared.codes.{CompCode.CompCode, ConvCode.ConvCode, DayCountCode.DayCountCode}
+use Rattle.irs_terms.specs.declared.codes.{DayKind.DayKind, Relative.Relative, RollCode.RollCode, StubKind.StubKind}
+use Rattle.irs_terms.specs.declared.codes.{Treatment.Treatment}
 use Rattle.irs_terms.specs.declared.{frequency.Unit.Unit as PeriodUnit, parameters.CalculationMethod.CalculationMethod}
 use Rattle.irs_terms.specs.declared.codes.CompCode.TheVariants.{Simple, Straight, Flat, SpreadExclusive}
 use Rattle.irs_terms.specs.declared.codes.ConvCode.TheVariants.{Following, ModFollowing, Preceding, ModPreceding}

@@ -163,10 +163,6 @@ module _ (names : List (List ℕ)) where
   choice_unmet (ExactlyOne a b) d =
       if stands a d && stands b d then Some Both else (if stands a d || stands b d then None else Some Neither)
 
-  -- whether the choice of an object is kept
-  abbrev pub is_chosen : Choice → Data → Bool
-  is_chosen choice d = is_none (choice_unmet choice d)
-
 module _ (rows : List Row) (names : List (List ℕ)) where
   -- whether a row below the object at row r has the name
   abbrev pub is_known : ℕ → List ℕ → Bool

@@ -1,7 +1,7 @@
 -- The leaves of the table of elements: what their texts say.
 use Rattle.std.specs.{List.list_all, List.list_any, Fmt.signed_decimal, Str.bytes_eq}
 use Rattle.std.specs.Prelude.{ℕ, nat_le, nat_lt, ◌==◌, Bool, not, ◌&&◌, List, length, Option, Some, None, if◌then◌else◌}
-use Rattle.std.specs.Prelude.{take, slice_index, ℤ, [], ◌∷◌, is_some, codes}
+use Rattle.std.specs.Prelude.{take, slice_index, ℤ, [], ◌∷◌, ◌-◌, get_or, is_some, codes}
 use Rattle.irs_base.specs.{Limits.most_index, Limits.most_name, Texts.date_at}
 use Rattle.irs_terms.specs.declared.{places.Rule.Rule, currency.Currency.Currency}
 use Rattle.irs_terms.specs.declared.places.Rule.TheVariants.{K3, K5, K6}
@@ -25,9 +25,11 @@ is_center_name s = nat_lt 0 (length s) && nat_le (length s) most_name && list_al
 abbrev pub is_no_control : ℕ → Bool
 is_no_control b = nat_le 32 b && not (b == 127)
 
--- the index of a rate: 1 to 128 bytes, none of them a control byte
+-- the index of a rate: 1 to 128 bytes, none of them a control byte, and no space at its ends
 abbrev pub is_index_name : List ℕ → Bool
-is_index_name s = nat_lt 0 (length s) && nat_le (length s) most_index && list_all is_no_control s
+is_index_name s =
+    nat_lt 0 (length s) && nat_le (length s) most_index && list_all is_no_control s
+    && not (get_or s 0 0 == 32) && not (get_or s (length s - 1) 0 == 32)
 
 -- a capital letter
 abbrev pub is_capital : ℕ → Bool

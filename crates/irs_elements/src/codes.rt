@@ -27,15 +27,9 @@ pub fn truth(text: &str) -> Option<bool>
 pub fn convention(text: &str) -> Option<ConvCode>
     ensures { result ≡ spec.convention_at text.now }
 {
-    among!(
-        text,
-        "FOLLOWING" => ConvCode::Following,
-        "MODFOLLOWING" => ConvCode::ModFollowing,
-        "PRECEDING" => ConvCode::Preceding,
-        "MODPRECEDING" => ConvCode::ModPreceding,
-        "NEAREST" => ConvCode::Nearest,
-        "NONE" => ConvCode::Unadjusted
-    )
+    among!(text, "FOLLOWING" => ConvCode::Following, "MODFOLLOWING" => ConvCode::ModFollowing,
+        "PRECEDING" => ConvCode::Preceding, "MODPRECEDING" => ConvCode::ModPreceding,
+        "NEAREST" => ConvCode::Nearest, "NONE" => ConvCode::Unadjusted)
 }
 
 /// `period` of a frequency.
@@ -70,13 +64,8 @@ pub fn day_kind(text: &str) -> Option<DayKind>
 pub fn stub_kind(text: &str) -> Option<StubKind>
     ensures { result ≡ spec.stub_kind_at text.now }
 {
-    among!(
-        text,
-        "ShortInitial" => StubKind::ShortInitial,
-        "LongInitial" => StubKind::LongInitial,
-        "ShortFinal" => StubKind::ShortFinal,
-        "LongFinal" => StubKind::LongFinal
-    )
+    among!(text, "ShortInitial" => StubKind::ShortInitial, "LongInitial" => StubKind::LongInitial,
+        "ShortFinal" => StubKind::ShortFinal, "LongFinal" => StubKind::LongFinal)
 }
 
 /// `payRelativeTo` and `resetRelativeTo`.
@@ -90,29 +79,18 @@ pub fn relative(text: &str) -> Option<Relative>
 pub fn day_count(text: &str) -> Option<DayCountCode>
     ensures { result ≡ spec.day_count_at text.now }
 {
-    among!(
-        text,
-        "1/1" => DayCountCode::OneOne,
-        "ACT/ACT.ISDA" => DayCountCode::ActActIsda,
-        "ACT/365.FIXED" => DayCountCode::Act365Fixed,
-        "ACT/360" => DayCountCode::Act360,
-        "30/360" => DayCountCode::Thirty360,
-        "30E/360" => DayCountCode::ThirtyE360,
-        "30E/360.ISDA" => DayCountCode::ThirtyE360Isda
-    )
+    among!(text, "1/1" => DayCountCode::OneOne, "ACT/ACT.ISDA" => DayCountCode::ActActIsda,
+        "ACT/365.FIXED" => DayCountCode::Act365Fixed, "ACT/360" => DayCountCode::Act360,
+        "30/360" => DayCountCode::Thirty360, "30E/360" => DayCountCode::ThirtyE360,
+        "30E/360.ISDA" => DayCountCode::ThirtyE360Isda)
 }
 
 /// `compoundingMethod`.
 pub fn compounding(text: &str) -> Option<CompCode>
     ensures { result ≡ spec.compounding_at text.now }
 {
-    among!(
-        text,
-        "None" => CompCode::Simple,
-        "Straight" => CompCode::Straight,
-        "Flat" => CompCode::Flat,
-        "SpreadExclusive" => CompCode::SpreadExclusive
-    )
+    among!(text, "None" => CompCode::Simple, "Straight" => CompCode::Straight, "Flat" => CompCode::Flat,
+        "SpreadExclusive" => CompCode::SpreadExclusive)
 }
 
 /// `calculationMethod`.
@@ -146,19 +124,11 @@ pub fn roll(text: &str) -> Option<RollCode>
 fn named_roll(text: &str) -> Option<RollCode>
     ensures { result ≡ spec.named_roll_at text.now }
 {
-    among!(
-        text,
-        "EOM" => RollCode::Eom,
-        "IMM" => RollCode::Imm,
-        "NONE" => RollCode::NoRoll,
-        "MON" => RollCode::OnWeekday(DayName::Mon),
-        "TUE" => RollCode::OnWeekday(DayName::Tue),
-        "WED" => RollCode::OnWeekday(DayName::Wed),
-        "THU" => RollCode::OnWeekday(DayName::Thu),
-        "FRI" => RollCode::OnWeekday(DayName::Fri),
-        "SAT" => RollCode::OnWeekday(DayName::Sat),
-        "SUN" => RollCode::OnWeekday(DayName::Sun)
-    )
+    among!(text, "EOM" => RollCode::Eom, "IMM" => RollCode::Imm, "NONE" => RollCode::NoRoll,
+        "MON" => RollCode::OnWeekday(DayName::Mon), "TUE" => RollCode::OnWeekday(DayName::Tue),
+        "WED" => RollCode::OnWeekday(DayName::Wed), "THU" => RollCode::OnWeekday(DayName::Thu),
+        "FRI" => RollCode::OnWeekday(DayName::Fri), "SAT" => RollCode::OnWeekday(DayName::Sat),
+        "SUN" => RollCode::OnWeekday(DayName::Sun))
 }
 
 // A day number from 1 to 30 in one or two digits, the first of them no zero.
@@ -167,20 +137,14 @@ fn day_roll(text: &[u8]) -> Option<RollCode>
 {
     match text {
         [a] if b'1' <= *a && *a <= b'9' => Some(RollCode::Dom(*a - b'0')),
-        [a, b] if b'1' <= *a && *a <= b'9' && b'0' <= *b && *b <= b'9' => day_number(
-            10 * (*a - b'0') + (*b - b'0'),
-        ),
+        [a, b] if b'1' <= *a && *a <= b'9' && b'0' <= *b && *b <= b'9' => {
+            let day = 10 * (*a - b'0') + (*b - b'0');
+            if day <= 30 {
+                Some(RollCode::Dom(day))
+            } else {
+                None
+            }
+        }
         _ => None,
-    }
-}
-
-// A day number of at most 30.
-fn day_number(n: u8) -> Option<RollCode>
-    ensures { result ≡ spec.day_number_at n }
-{
-    if n <= 30 {
-        Some(RollCode::Dom(n))
-    } else {
-        None
     }
 }

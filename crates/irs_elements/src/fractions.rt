@@ -1,10 +1,10 @@
 //! Day count fractions as cash flows state them (FpML `dayCountYearFraction`). Each is a decimal
 //! without sign, with at most 18 digits before its point and any number after it. The limits are
 //! ours.
-ghost use Rattle.irs_base.specs.Texts.{AreDigits, number_after, most_places};
+ghost use Rattle.irs_base.specs.Texts.{AreDigits, most_places};
 ghost use Rattle.irs_base.specs.declared.line.Dec.{Dec as DecRecord};
 ghost use Rattle.irs_elements.specs.Numbers.{IsFraction, carried, fraction_at, fraction_from_digits as fraction_by};
-ghost use Rattle.std.specs.Prelude.{◌≡◌, ◌+◌, ◌^◌, ◌≤◌, [], IfNone, IfSome, drop, length, take};
+ghost use Rattle.std.specs.Prelude.{◌≡◌, ◌+◌, ◌≤◌, [], IfNone, IfSome, drop, length, take};
 
 use irs_base::{Dec, decimal_parts, number_of_parts};
 
@@ -34,19 +34,8 @@ fn kept(decimals: &[u8]) -> (&[u8], &[u8])
     }
 }
 
-// The number of both parts, a half of the last kept place being carried.
+// The fraction of both parts, a half of the last kept place being carried.
 #[tactic(auto, using(irs_base::proofs::DecimalLemmas::padded_whole))]
-fn units(whole: &[u8], kept: &[u8], left: &[u8]) -> u128
-    requires whole { AreDigits whole.now }
-    requires kept { AreDigits kept.now }
-    requires short { length whole.now ≤ 18 }
-    requires few { length kept.now ≤ 12 }
-    ensures value { result ≡ number_after (number_after 0 whole.now) kept.now + carried left.now }
-    ensures below { result ≤ 10 ^ 30 }
-{
-    number_of_parts(whole, kept, kept.len() as u8) + carry(left)
-}
-
 fn fraction_of(whole: &[u8], decimals: &[u8]) -> Dec
     requires whole { AreDigits whole.now }
     requires decimals { AreDigits decimals.now }
@@ -54,16 +43,18 @@ fn fraction_of(whole: &[u8], decimals: &[u8]) -> Dec
     ensures { result ≡ fraction_by whole.now decimals.now }
 {
     let (kept, left) = kept(decimals);
+    let places = kept.len() as u8;
+    let units = number_of_parts(whole, kept, places) + carry(left);
     Dec {
-        units: units(whole, kept, left) as i128,
-        places: kept.len() as u8,
+        units: units as i128,
+        places,
     }
 }
 
 /// The value of a stated fraction, with as many places as it has decimals; past 12 decimals it is
 /// rounded to 12, a half upwards. `None` exactly where the text is no decimal, has a sign, or has more
 /// than 18 digits before its point.
-#[tactic(auto, using(crate::proofs::FractionsAt::fraction_both))]
+#[tactic(auto, using(crate::proofs::DecimalsAt::fraction_both))]
 pub fn fraction(text: &[u8]) -> Option<Dec>
     ensures some { IfSome result (IsFraction text.now) }
     ensures none { IfNone result ((v : DecRecord) → IsFraction text.now v → ⊥) }
@@ -73,7 +64,7 @@ pub fn fraction(text: &[u8]) -> Option<Dec>
     stated(text)
 }
 
-#[tactic(auto, using(crate::proofs::FractionsAt::fraction_is, crate::proofs::FractionsAt::no_fraction))]
+#[tactic(auto, using(crate::proofs::DecimalsAt::fraction_is, crate::proofs::DecimalsAt::no_fraction))]
 fn stated(text: &[u8]) -> Option<Dec>
     ensures { result ≡ fraction_at text.now }
 {

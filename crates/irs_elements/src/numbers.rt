@@ -1,23 +1,13 @@
 //! Dates and numbers: the value of a text. `None` comes exactly where the text is outside the
 //! grammar or the range of its kind.
 ghost use Rattle.irs_elements.specs.{Leaves.leaf_date_at, Private.Walk.digits_at, Private.Walk.few_digits_at};
-ghost use Rattle.irs_base.specs.Texts.{has_no_point as no_point_of};
-ghost use Rattle.std.specs.Prelude.{◌≡◌, ◌+◌, ◌*◌, ◌^◌, ◌<◌, ◌≤◌, length, unsigned_abs};
+ghost use Rattle.std.specs.Prelude.{◌≡◌, ◌+◌, ◌*◌, ◌^◌, ◌<◌, ◌≤◌, ◌==◌, get_or, if◌then◌else◌, length, neg_ℤ, pos};
 ghost use Rattle.irs_elements.specs.Numbers as spec;
 
 use irs_base::{Day, MOST_RATE, read_date, read_dec};
 
 // 10^13, in units of 10^-4.
 const MOST_NOTIONAL: i128 = 100_000_000_000_000_000;
-
-// The greatest multiplier of a frequency.
-const MOST_MULTIPLIER: i128 = 999;
-
-// The most days of an offset.
-const MOST_OFFSET: i128 = 60;
-
-// The most days of an observation shift, a lookback or a lockout.
-const MOST_OBSERVATION_OFFSET: i128 = 30;
 
 /// A date: `YYYY-MM-DD` of a day in range, with or without a last `Z`.
 pub fn day(text: &[u8]) -> Option<Day>
@@ -47,7 +37,7 @@ fn within(low: i128, high: i128, n: Option<i128>) -> Option<i128>
 
 // The number that a text of nothing but digits spells after those of n; `None` exactly where a byte
 // is no digit.
-#[tactic(auto, using(irs_base::proofs::DecimalLemmas::room_left, crate::proofs::FewDigits::room_for_one))]
+#[tactic(auto, using(irs_base::proofs::DecimalLemmas::room_left, crate::proofs::DecimalsAt::room))]
 fn digits_behind(n: u32, digits: &[u8]) -> Option<u32>
     requires { (n + 1) * 10 ^ length digits.now ≤ 10 ^ 9 }
     ensures { result ≡ digits_at n digits.now }
@@ -75,7 +65,7 @@ fn few_digits(text: &[u8]) -> Option<u32>
 
 /// A notional: a decimal of 4 places from 0 to 10^13. Most have few digits and no point, and are read
 /// at once.
-#[tactic(auto, using(crate::proofs::FewDigits::few_is))]
+#[tactic(auto, using(crate::proofs::DecimalsAt::few_is))]
 pub fn notional(text: &[u8]) -> Option<i128>
     ensures { result ≡ spec.notional_at text.now }
 {
@@ -97,8 +87,7 @@ pub fn rate(text: &[u8]) -> Option<i128>
 pub fn small_rate(text: &[u8]) -> Option<i64>
     ensures { result ≡ spec.leaf_rate_at text.now }
 {
-    let n = rate(text)?;
-    Some(n as i64)
+    Some(rate(text)? as i64)
 }
 
 /// An amount of cash flows: a decimal of 12 places.
@@ -108,69 +97,65 @@ pub fn amount(text: &[u8]) -> Option<i128>
     decimal(text, 12)
 }
 
-// The number of bytes after a sign.
-fn digits(text: &[u8]) -> usize
-    ensures { result ≡ length (spec.digits_of text.now) }
-{
-    match text {
-        [b'+' | b'-', rest @ ..] => rest.len(),
-        _ => text.len(),
-    }
-}
-
-fn has_no_point(text: &[u8]) -> bool
-    ensures { result ≡ no_point_of text.now }
-{
-    text.iter().all(|b| *b != b'.')
-}
-
 /// A whole number: 1 to 9 digits after an optional sign.
 pub fn whole(text: &[u8]) -> Option<i128>
     ensures { result ≡ spec.whole_at text.now }
 {
-    if digits(text) <= 9 && has_no_point(text) {
-        decimal(text, 0)
-    } else {
-        None
+    small_whole(text).map(|n| i128::from(n))
+}
+
+// Whether the text begins with a minus, and what comes after its sign.
+fn cut_sign(text: &[u8]) -> (bool, &[u8])
+    ensures minus { result.0 ≡ (get_or text.now 0 0 == 45) }
+    ensures digits { result.1.now ≡ spec.digits_of text.now }
+{
+    match text {
+        [b'+', digits @ ..] => (false, digits),
+        [b'-', digits @ ..] => (true, digits),
+        _ => (false, text),
     }
 }
 
+fn signed(minus: bool, n: u32) -> i64
+    ensures { result ≡ (if minus then neg_ℤ (pos n) else pos n) }
+{
+    if minus { -i64::from(n) } else { i64::from(n) }
+}
+
 /// The same in 64 bits.
+#[tactic(auto, using(crate::proofs::DecimalsAt::whole_is))]
 pub fn small_whole(text: &[u8]) -> Option<i64>
     ensures { result ≡ spec.whole_at text.now }
 {
-    let n = whole(text)?;
-    Some(n as i64)
+    let (minus, digits) = cut_sign(text);
+    let n = few_digits(digits)?;
+    Some(signed(minus, n))
 }
 
 /// `periodMultiplier` of a frequency: 1 to 999.
 pub fn multiplier(text: &[u8]) -> Option<u16>
     ensures { result ≡ spec.multiplier_at text.now }
 {
-    let n = within(1, MOST_MULTIPLIER, whole(text))?;
-    Some(n.unsigned_abs() as u16)
+    Some(within(1, 999, whole(text))?.unsigned_abs() as u16)
 }
 
 /// `periodMultiplier` of an offset: -60 to 60.
 pub fn offset(text: &[u8]) -> Option<i16>
     ensures { result ≡ spec.offset_at text.now }
 {
-    let n = within(-MOST_OFFSET, MOST_OFFSET, whole(text))?;
-    Some(n as i16)
+    Some(within(-60, 60, whole(text))? as i16)
 }
 
 /// `offsetDays` of an observation shift, a lookback or a lockout: 1 to 30.
 pub fn observation_days(text: &[u8]) -> Option<u8>
     ensures { result ≡ spec.observation_days_at text.now }
 {
-    let n = within(1, MOST_OBSERVATION_OFFSET, whole(text))?;
-    Some(n.unsigned_abs() as u8)
+    Some(within(1, 30, whole(text))?.unsigned_abs() as u8)
 }
 
 /// `precision`: 0 to 9.
 pub fn precision(text: &[u8]) -> Option<u8>
     ensures { result ≡ spec.precision_at text.now }
 {
-    let n = within(0, 9, whole(text))?;
-    Some(n.unsigned_abs() as u8)
+    Some(within(0, 9, whole(text))?.unsigned_abs() as u8)
 }

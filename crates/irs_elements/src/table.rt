@@ -65,7 +65,7 @@ macro_rules! row {
 }
 
 /// A table of elements, and the stream in whose values it is followed. For each element it has a
-/// row, a name and the end of its members. Stream 0 is what lies outside the streams.
+/// row and a name. Stream 0 is what lies outside the streams.
 #[derive(Clone, Copy)]
 pub struct Table<'t> {
     /// The rows.
@@ -73,7 +73,7 @@ pub struct Table<'t> {
     /// The name at each row.
     pub names: &'t [&'static str],
     /// For each row the number of the row after its last member; 0 where it has none. They save
-    /// steps and change no answer: wrong ones aren't followed.
+    /// steps in a long table, change no answer, and may be left out: wrong ones aren't followed.
     pub ends: &'t [usize],
     /// The number of the stream, from 1.
     pub stream: u8,

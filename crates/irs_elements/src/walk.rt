@@ -3,23 +3,21 @@
 //! The walk goes down the table and not down the value: each row's members come after it. It keeps
 //! nothing on the way; each step returns the first broken rule of its part.
 ghost use Rattle.irs_elements.specs.Elements.{FaultAt, FaultUnder, ShapeFault, absent_index as absent_index_of};
-ghost use Rattle.irs_elements.specs.Elements.{are_two as are_two_of, choice_unmet as choice_unmet_of, elem_at, elem_of};
+ghost use Rattle.irs_elements.specs.Elements.{are_two as are_two_of, choice_unmet as choice_unmet_of, elem_at};
 ghost use Rattle.irs_elements.specs.Elements.{has_odd as has_odd_of, index_in as index_in_of};
-ghost use Rattle.irs_elements.specs.Elements.{is_element as is_element_of, is_known as is_known_in};
-ghost use Rattle.irs_elements.specs.Elements.{is_odd as is_odd_of};
+ghost use Rattle.irs_elements.specs.Elements.{is_known as is_known_in, is_odd as is_odd_of};
 ghost use Rattle.irs_elements.specs.Elements.{is_required as is_required_of, is_unknown, lacks_href as lacks_href_of};
-ghost use Rattle.irs_elements.specs.Elements.{most as most_of, name_at, place, stands as stands_of, referenced_texts};
-ghost use Rattle.irs_elements.specs.Elements.{unmet_place};
-ghost use Rattle.irs_elements.specs.Private.Walk.{EndsHold, FaultAmong, MemberFault, fault_if, end_at, is_apart};
-ghost use Rattle.irs_elements.specs.Private.Walk.{is_one_right, is_right_leaf as is_right_leaf_of, names_among};
-ghost use Rattle.irs_json.specs.Leaves.{child_of, leaf_of, element_names};
-ghost use Rattle.serde_json.specs.View.{view};
-ghost use Rattle.std.specs.List.{list_any};
-ghost use Rattle.std.specs.Prelude.{◌≡◌, ◌↔◌, ◌+◌, ◌<◌, ◌≤◌, ◌&&◌, ◌==◌, IsTrue, false, true, nat_lt, length, map};
-ghost use Rattle.std.specs.Prelude.{option_map};
-ghost use Rattle.std.specs.Str.{bytes_eq};
+ghost use Rattle.irs_elements.specs.Elements.{most as most_of, name_at, place, referenced_texts, seen};
+ghost use Rattle.irs_elements.specs.Elements.{stands as stands_of, unmet_place};
 ghost use Rattle.irs_elements.specs.Leaves.{leaf_rule as leaf_rule_of};
+ghost use Rattle.irs_elements.specs.Private.Walk.{Any, EndsHold, IsUnbroken, ItemsFault, RowFault, end_at, fault_if};
+ghost use Rattle.irs_json.specs.Leaves.{child_of, element_names, is_attribute_name as is_attribute_name_of, leaf_of};
 ghost use Rattle.irs_terms.specs.Faults.{IsFirstBroken, earlier_broken};
+ghost use Rattle.serde_json.specs.View.{view};
+ghost use Rattle.std.specs.List.{Contains, list_any};
+ghost use Rattle.std.specs.Prelude.{◌≡◌, ◌↔◌, ◌+◌, ◌<◌, ◌&&◌, ◌==◌, IsSome, IsTrue, List, Some, length, map, nat_lt};
+ghost use Rattle.std.specs.Prelude.{option_map, true, ℕ};
+ghost use Rattle.std.specs.Str.{bytes_eq};
 
 use crate::leaves::leaf_rule;
 use crate::order::earlier;
@@ -40,15 +38,10 @@ enum Unmet {
 fn element(rows: &[Row], r: usize) -> Elem
     ensures { result ≡ elem_at rows.now r }
 {
-    rows.get(r)
-        .map_or(Elem::DOCUMENT, |row| element_at(row.place))
-}
-
-// The element at a place of the table of paths.
-fn element_at(place: u8) -> Elem
-    ensures { result ≡ elem_of place }
-{
-    Elem::at(place).unwrap_or(Elem::DOCUMENT)
+    rows.get(r).map_or(
+        Elem::DOCUMENT,
+        |row| Elem::at(row.place).unwrap_or(Elem::DOCUMENT),
+    )
 }
 
 // A rule that is broken at row r.
@@ -128,16 +121,20 @@ fn absent_index(count: Count, index: u32) -> u32
 fn name_of(names: &[&'static str], c: usize) -> &'static str
     ensures { result.now ≡ name_at (referenced_texts names.now) c }
 {
-    match names.get(c) {
-        None => "",
-        Some(name) => name,
-    }
+    names.get(c).map_or("", |name| *name)
+}
+
+// The member at row c of an object.
+fn member_at<'a>(names: &[&'static str], c: usize, v: &'a Value) -> Option<&'a Value>
+    ensures { seen result ≡ child_of (name_at (referenced_texts names.now) c) (view v.now) }
+{
+    child(v, name_of(names, c))
 }
 
 fn stands(names: &[&'static str], c: usize, v: &Value) -> bool
     ensures { result ≡ stands_of (referenced_texts names.now) c (view v.now) }
 {
-    child(v, name_of(names, c)).is_some()
+    member_at(names, c, v).is_some()
 }
 
 // Whether two of three hold, or all of them.
@@ -189,15 +186,23 @@ fn choice_fault(
     }
 }
 
+// Whether the row at c is a member's of the object at row r; such a row comes after its object's.
+fn is_member(row: &Row, r: usize, c: usize) -> bool
+    ensures { result ≡ (nat_lt r c && row.now.parent == r) }
+{
+    row.parent == r && r < c
+}
+
 // Whether the row at c is below the object at row r and has the name.
 fn is_named(table: &Table<'_>, r: usize, c: usize, row: &Row, name: &str) -> bool
     ensures { result
         ≡ (nat_lt r c && row.now.parent == r && bytes_eq (name_at (referenced_texts table.now.names.now) c) name.now) }
 {
-    r < c && row.parent == r && name_of(table.names, c) == name
+    is_member(row, r, c) && name_of(table.names, c) == name
 }
 
 // Whether a row below the object at row r has the name; these rows come after its own.
+#[inline(never)]
 fn is_known(table: &Table<'_>, r: usize, name: &str) -> bool
     ensures { result ≡ is_known_in table.now.rows.now (referenced_texts table.now.names.now) r name.now }
 {
@@ -209,17 +214,22 @@ fn is_known(table: &Table<'_>, r: usize, name: &str) -> bool
     false
 }
 
-// Whether an object at row r has a member that the table doesn't know.
-fn has_unknown(table: &Table<'_>, r: usize, v: &Value) -> bool
-    ensures { result ≡ list_any (is_unknown table.now.rows.now (referenced_texts table.now.names.now) r)
-        (names_among (element_names (view v.now))) }
+// Of the names of an object at row r: whether the table doesn't know one, and whether one is an
+// attribute's.
+fn names_seen(table: &Table<'_>, r: usize, listed: MemberIter<'_>) -> (bool, bool)
+    ensures unknown { result.0
+        ≡ list_any (is_unknown table.now.rows.now (referenced_texts table.now.names.now) r) listed.entry }
+    ensures attribute { result.1 ≡ list_any is_attribute_name_of listed.entry }
 {
-    match members(v) {
-        None => false,
-        Some(mut listed) => {
-            listed.any(|name| !(is_attribute_name(name) || is_known(table, r, name)))
-        },
+    let (mut unknown, mut attribute) = (false, false);
+    for name in listed {
+        if is_attribute_name(name) {
+            attribute = true;
+        } else if !is_known(table, r, name) {
+            unknown = true;
+        }
     }
+    (unknown, attribute)
 }
 
 // Whether an attribute is there and is no text.
@@ -243,6 +253,7 @@ fn lacks_href(choice: Choice, v: &Value) -> bool
 }
 
 // The first of what was found before and of what is found now; mostly nothing is.
+#[inline(always)]
 fn first_of(first: Option<Broken>, found: Option<Broken>) -> Option<Broken>
     ensures { result ≡ earlier_broken first found }
 {
@@ -252,54 +263,48 @@ fn first_of(first: Option<Broken>, found: Option<Broken>) -> Option<Broken>
     }
 }
 
-// Whether one of the names is an attribute's, or one that the table doesn't know below the object at
-// row r.
-fn is_one_apart(table: &Table<'_>, r: usize, mut listed: MemberIter<'_>) -> bool
-    ensures { result ≡ list_any (is_apart table.now.rows.now (referenced_texts table.now.names.now) r) listed.entry }
-{
-    listed.any(|name| is_attribute_name(name) || !is_known(table, r, name))
-}
-
-// Whether a member of the object at row r has such a name. Where none has, no attribute is odd.
-fn has_apart(table: &Table<'_>, r: usize, v: &Value) -> bool
-    ensures names { result ≡ list_any (is_apart table.now.rows.now (referenced_texts table.now.names.now) r)
-        (names_among (element_names (view v.now))) }
-    ensures even { result ≡ false → has_odd_of (view v.now) ≡ false }
-{
-    match members(v) {
-        None => false,
-        Some(listed) => is_one_apart(table, r, listed),
-    }
-}
-
-// The first rule that an object breaks by what it requires of its members together.
-fn asked_fault(table: &Table<'_>, r: usize, choice: Choice, index: u32, v: &Value) -> Option<Broken>
+// The first rule that the names of an object break: an attribute is odd, or the table doesn't know a
+// name. Mostly there is neither.
+fn names_fault(
+    table: &Table<'_>,
+    r: usize,
+    index: u32,
+    v: &Value,
+    listed: MemberIter<'_>,
+) -> Option<Broken>
+    requires { (name : List ℕ) → IsSome (child_of name (view v.now)) → Contains listed name }
     ensures { result ≡ earlier_broken
-        (option_map (unmet_place table.now.rows.now table.now.stream r index)
-        (choice_unmet_of (referenced_texts table.now.names.now) choice (view v.now)))
-        (fault_if (lacks_href_of choice (view v.now)) (place table.now.rows.now table.now.stream Rule.K2 r index)) }
+        (fault_if (has_odd_of (view v.now)) (place table.now.rows.now table.now.stream Rule.K3 r index))
+        (fault_if (list_any (is_unknown table.now.rows.now (referenced_texts table.now.names.now) r) listed.entry)
+        (place table.now.rows.now table.now.stream Rule.K4 r index)) }
 {
-    let chosen = choice_fault(table, r, choice, index, v);
-    first_of(
-        chosen,
-        broken_if(lacks_href(choice, v), table, Rule::K2, r, index),
-    )
+    let (unknown, attribute) = names_seen(table, r, listed);
+    if !unknown && !attribute {
+        return None;
+    }
+    let odd = broken_if(attribute && has_odd(v), table, Rule::K3, r, index);
+    first_of(odd, broken_if(unknown, table, Rule::K4, r, index))
 }
 
-// The first rule that an object breaks beside those of its members. Most names are those of known
-// elements. Where all are, no name is unknown and no attribute is odd.
-fn shape_fault(table: &Table<'_>, r: usize, choice: Choice, index: u32, v: &Value) -> Option<Broken>
+// The first rule that an object with these names breaks beside those of its members.
+fn shape_fault(
+    table: &Table<'_>,
+    r: usize,
+    choice: Choice,
+    index: u32,
+    v: &Value,
+    listed: MemberIter<'_>,
+) -> Option<Broken>
+    requires names { element_names (view v.now) ≡ Some listed }
+    requires found { (name : List ℕ) → IsSome (child_of name (view v.now)) → Contains listed name }
     ensures { IsFirstBroken
         (ShapeFault table.now.rows.now (referenced_texts table.now.names.now) table.now.stream r choice index (view v.now))
         result }
 {
-    let asked = asked_fault(table, r, choice, index, v);
-    if !has_apart(table, r, v) {
-        return asked;
-    }
-    let unknown = broken_if(has_unknown(table, r, v), table, Rule::K4, r, index);
-    let odd = broken_if(has_odd(v), table, Rule::K3, r, index);
-    earlier(earlier(unknown, odd), asked)
+    let unmet = choice_fault(table, r, choice, index, v);
+    let no_href = broken_if(lacks_href(choice, v), table, Rule::K2, r, index);
+    let asked = first_of(unmet, no_href);
+    first_of(asked, names_fault(table, r, index, v, listed))
 }
 
 // The number of the row after the last member of the object at row r. Where the table doesn't say
@@ -329,7 +334,7 @@ fn with_sure_ends<'t>(table: &Table<'t>) -> Table<'t>
     ensures stream { result.stream ≡ table.now.stream }
     ensures ends { EndsHold result.rows.now result.ends.now }
 {
-    if ends_hold(table) {
+    if !table.ends.is_empty() && ends_hold(table) {
         *table
     } else {
         Table {
@@ -356,53 +361,30 @@ fn value_fault(table: &Table<'_>, r: usize, kind: Kind, index: u32, v: &Value) -
         (FaultAt table.now.rows.now (referenced_texts table.now.names.now) table.now.stream r kind index (view v.now)) result }
 {
     match kind {
-        Kind::Object(choice) => object_fault(table, r, choice, index, v),
+        Kind::Object(choice) => match members(v) {
+            None => Some(broken(table, Rule::K3, r, index)),
+            Some(listed) => {
+                let shape = shape_fault(table, r, choice, index, v, listed);
+                first_of(shape, members_fault(table, r, index, v))
+            },
+        },
         Kind::Leaf(leaf) => leaf_fault(table, r, leaf, index, v),
         Kind::Passed | Kind::Refused => None,
     }
 }
 
-// The first rule that an object at row r breaks.
-#[cycle(faults)]
-fn object_fault(
-    table: &Table<'_>,
-    r: usize,
-    choice: Choice,
-    index: u32,
-    v: &Value,
-) -> Option<Broken>
-    requires { EndsHold table.now.rows.now table.now.ends.now }
-    ensures { IsFirstBroken
-        (FaultAt table.now.rows.now (referenced_texts table.now.names.now) table.now.stream r (Kind.Object choice) index
-        (view v.now)) result }
-{
-    if !v.is_object() {
-        return Some(broken(table, Rule::K3, r, index));
-    }
-    let shape = shape_fault(table, r, choice, index, v);
-    first_of(shape, members_fault(table, r, index, v))
-}
-
-// Whether the member of that name occurs once, and is a leaf that breaks no rule.
-fn is_one_right_leaf(name: &str, leaf: Leaf, v: &Value) -> bool
-    ensures { result ≡ is_one_right leaf (child_of name.now (view v.now)) }
-{
-    match child(v, name) {
-        None => false,
-        Some(member) => match items(member).as_slice() {
-            [one] => leaf_rule(leaf, one).is_none(),
-            [] | [_, _, ..] => false,
-        },
-    }
-}
-
 // Whether the member at row c is a leaf that occurs once and breaks no rule, as most members are.
 fn is_right_leaf(table: &Table<'_>, c: usize, row: &Row, v: &Value) -> bool
-    ensures { result ≡ is_right_leaf_of (referenced_texts table.now.names.now) c row.now (view v.now) }
+    ensures { result ≡ true → IsUnbroken table.now.rows.now (referenced_texts table.now.names.now) table.now.stream c row.now
+        (view v.now) }
 {
     match row.kind {
-        Kind::Leaf(leaf) => {
-            0 < most(row.count) && is_one_right_leaf(name_of(table.names, c), leaf, v)
+        Kind::Leaf(leaf) => match member_at(table.names, c, v) {
+            None => false,
+            Some(member) => match items(member).as_slice() {
+                [one] => 0 < most(row.count) && leaf_rule(leaf, one).is_none(),
+                [] | [_, _, ..] => false,
+            },
         },
         Kind::Object(_) | Kind::Passed | Kind::Refused => false,
     }
@@ -413,14 +395,15 @@ fn is_right_leaf(table: &Table<'_>, c: usize, row: &Row, v: &Value) -> bool
 fn members_fault(table: &Table<'_>, r: usize, index: u32, v: &Value) -> Option<Broken>
     requires { EndsHold table.now.rows.now table.now.ends.now }
     ensures { IsFirstBroken
-        (MemberFault table.now.rows.now (referenced_texts table.now.names.now) table.now.stream r index (view v.now)) result }
+        (Any (RowFault table.now.rows.now (referenced_texts table.now.names.now) table.now.stream r index (view v.now)))
+        result }
 {
     let mut first = None;
     let end = end_of(table, r).min(table.rows.len());
     for c in r..end {
         let row = &table.rows[c];
-        if row.parent == r && r < c && !is_right_leaf(table, c, row, v) {
-            first = first_of(first, fault_under(table, c, row, index, v));
+        if is_member(row, r, c) && !is_right_leaf(table, c, row, v) {
+            first = first_of(first, member_fault(table, c, row, index, v));
         }
     }
     first
@@ -428,70 +411,48 @@ fn members_fault(table: &Table<'_>, r: usize, index: u32, v: &Value) -> Option<B
 
 // The first rule that the member at row c breaks.
 #[cycle(faults)]
-fn fault_under(table: &Table<'_>, c: usize, row: &Row, index: u32, v: &Value) -> Option<Broken>
+fn member_fault(table: &Table<'_>, c: usize, row: &Row, index: u32, v: &Value) -> Option<Broken>
     requires { EndsHold table.now.rows.now table.now.ends.now }
     ensures { IsFirstBroken
         (FaultUnder table.now.rows.now (referenced_texts table.now.names.now) table.now.stream c row.now index (view v.now))
         result }
 {
     match row.kind {
-        Kind::Object(_) | Kind::Leaf(_) => element_fault(table, c, row, index, v),
+        Kind::Object(_) | Kind::Leaf(_) => match member_at(table.names, c, v) {
+            None => {
+                let at = absent_index(row.count, index);
+                broken_if(is_required(row.count), table, Rule::K2, c, at)
+            },
+            Some(member) => items_fault(table, c, row, index, items(member).as_slice()),
+        },
         Kind::Passed => None,
-        Kind::Refused => if stands(table.names, c, v) {
-            Some(broken(table, Rule::K5, row.parent, index))
-        } else {
-            None
+        Kind::Refused => {
+            broken_if(
+                stands(table.names, c, v),
+                table,
+                Rule::K5,
+                row.parent,
+                index,
+            )
         },
-    }
-}
-
-// The first rule that the element at row c breaks.
-#[cycle(faults)]
-fn element_fault(table: &Table<'_>, c: usize, row: &Row, index: u32, v: &Value) -> Option<Broken>
-    requires ends { EndsHold table.now.rows.now table.now.ends.now }
-    requires element { is_element_of row.now.kind ≡ true }
-    ensures { IsFirstBroken
-        (FaultUnder table.now.rows.now (referenced_texts table.now.names.now) table.now.stream c row.now index (view v.now))
-        result }
-{
-    match child(v, name_of(table.names, c)) {
-        None => if is_required(row.count) {
-            let at = absent_index(row.count, index);
-            Some(broken(table, Rule::K2, c, at))
-        } else {
-            None
-        },
-        Some(member) => {
-            let list = items(member).as_slice();
-            if list.len() > most(row.count) as usize {
-                Some(broken(table, Rule::K7, c, 0))
-            } else {
-                fault_among(table, c, row.kind, row.count, index, list)
-            }
-        }
     }
 }
 
 // The first rule that the values of the member at row c break.
 #[cycle(faults)]
-fn fault_among(
-    table: &Table<'_>,
-    c: usize,
-    kind: Kind,
-    count: Count,
-    index: u32,
-    list: &[Value],
-) -> Option<Broken>
-    requires few { length list.now ≤ most_of count }
-    requires ends { EndsHold table.now.rows.now table.now.ends.now }
+fn items_fault(table: &Table<'_>, c: usize, row: &Row, index: u32, list: &[Value]) -> Option<Broken>
+    requires { EndsHold table.now.rows.now table.now.ends.now }
     ensures { IsFirstBroken
-        (FaultAmong table.now.rows.now (referenced_texts table.now.names.now) table.now.stream c kind (index_in_of count index)
+        (ItemsFault table.now.rows.now (referenced_texts table.now.names.now) table.now.stream c row.now index
         (map view list.now)) result }
 {
+    if list.len() > most(row.count) as usize {
+        return Some(broken(table, Rule::K7, c, 0));
+    }
     let mut first = None;
     for j in 0..list.len() {
-        let at = index_in(count, index, j as u32);
-        first = first_of(first, value_fault(table, c, kind, at, &list[j]));
+        let at = index_in(row.count, index, j as u32);
+        first = first_of(first, value_fault(table, c, row.kind, at, &list[j]));
     }
     first
 }

@@ -18,11 +18,16 @@ fn are_visible(text: &[u8]) -> bool
     text.iter().all(|b| b'!' <= *b && *b <= b'~')
 }
 
-/// Whether the text may be the index of a rate: 1 to 128 bytes without control bytes.
+/// Whether the text may be the index of a rate: 1 to 128 bytes without control bytes, and without a
+/// space at its ends.
 pub fn is_index_name(text: &[u8]) -> bool
     ensures { result ≡ spec.is_index_name text.now }
 {
-    0 < text.len() && text.len() <= MOST_INDEX && are_no_controls(text)
+    0 < text.len()
+        && text.len() <= MOST_INDEX
+        && are_no_controls(text)
+        && text[0] != b' '
+        && text[text.len() - 1] != b' '
 }
 
 fn are_no_controls(text: &[u8]) -> bool
@@ -36,15 +41,9 @@ pub fn currency(text: &[u8]) -> Option<Currency>
     ensures { result ≡ spec.currency_at text.now }
 {
     match text {
-        [a, b, c] if are_capitals(text) => Some(Currency {
+        [a, b, c] if text.iter().all(|b| b'A' <= *b && *b <= b'Z') => Some(Currency {
             letters: [*a, *b, *c],
         }),
         _ => None,
     }
-}
-
-fn are_capitals(text: &[u8]) -> bool
-    ensures { result ≡ list_all spec.is_capital text.now }
-{
-    text.iter().all(|b| b'A' <= *b && *b <= b'Z')
 }

@@ -307,7 +307,7 @@ periods_free : (stream : ℕ) (ds : List Data) → length ds ≤ most_rows → E
     → PeriodsFault stream ds f → ⊥
 periods_free stream ds l h f (many_periods lt) = absurd (omega (arith, l, lt))
 periods_free stream ds l h f (in_period g le among) =
-    every_get (IsGood stream) ds among.0 among.1.0 h among.1.1.0 (0 + among.0 + 1) f among.1.1.1
+    every_get (IsGood stream) ds among.0 among.1.0 h among.1.1.0 (among.0 + 1) f among.1.1.1
 
 cash_fault_free : (stream : ℕ) (p : Part) → IsPartShort p → (f : Broken)
     → CashflowsFault stream (cashflows_value p) f → ⊥

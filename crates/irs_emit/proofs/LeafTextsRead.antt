@@ -7,9 +7,8 @@ use Rattle.irs_base.specs.Days.{IsDay}
 use Rattle.irs_base.specs.Texts.{DecText, bare, minus, IsUnsigned, number_after, number_of, day_text, dec_text}
 use Rattle.irs_base.specs.Texts.{digit_row, unsigned_dec, has_no_point}
 use Rattle.irs_elements.proofs.DatesAt.{day_is}
-use Rattle.irs_elements.proofs.DecimalsAt.{dec_is}
+use Rattle.irs_elements.proofs.DecimalsAt.{dec_is, fraction_exact, one_fraction}
 use Rattle.irs_elements.proofs.Exact.{both_true, exact_same, true_both}
-use Rattle.irs_elements.proofs.FractionsAt.{fraction_exact, one_fraction}
 use Rattle.irs_elements.specs.Numbers.{IsFraction, fraction_at, amount_at, digits_of, is_whole_number, whole_at}
 use Rattle.irs_elements.specs.Leaves.{currency_at, is_capital, is_currency, leaf_date_at}
 use Rattle.irs_base.specs.Limits.{Rounded}

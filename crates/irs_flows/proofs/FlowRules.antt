@@ -61,7 +61,7 @@ of_once stream [] f is = rw is tt
 of_once stream (x ∷ []) f (inl q) = of_table flow_rows flow_names stream 0 0 OBJECT x f q
 of_once stream (x ∷ []) f (inr (many_periods h)) = tt
 of_once stream (x ∷ []) f (inr (in_period _ h (j, (d, (e, inl q))))) =
-    of_table period_table_rows period_names stream 0 (0 + j + 1) OBJECT d f q
+    of_table period_table_rows period_names stream 0 (j + 1) OBJECT d f q
 of_once stream (x ∷ []) f (inr (in_period _ h (j, (d, (e, inr (t, is)))))) = rw is tt
 of_once stream (x ∷ y ∷ rest) f is = rw is tt
 

@@ -1,85 +1,79 @@
--- The calculation periods of payments, one after another, and the first fault of them.
+-- The first fault of the calculation periods of a stream, one after another.
 use Rattle.irs_base.specs.Limits.{most_rows}
-use Rattle.irs_elements.proofs.First.{Below, first_one, first_same}
-use Rattle.irs_flows.specs.FlowFaults.{PeriodFault, PeriodsFault, flow_broken_at, flow_periods_of, in_period}
+use Rattle.irs_elements.proofs.First.{Below, first_is, first_more, first_one, first_same}
+use Rattle.irs_flows.specs.FlowFaults.{FaultIf, PeriodFault, PeriodsFault, flow_broken_at, flow_periods_of, in_period}
 use Rattle.irs_flows.specs.FlowFaults.{many_periods, periods_in}
-use Rattle.irs_read.proofs.Each.{Each}
-use Rattle.irs_terms.specs.declared.{places.Broken.Broken, places.Rule.TheVariants.K7}
-use Rattle.irs_terms.specs.{Elements.flow_period, Faults.IsFirstBroken}
+use Rattle.irs_read.proofs.Each.{Each, each_one}
+use Rattle.irs_terms.specs.declared.places.{Broken.Broken, Rule.TheVariants.K7}
+use Rattle.irs_terms.specs.{Elements.flow_period, Faults.IsFirstBroken, Faults.earlier_broken}
 use Rattle.serde_json.specs.{Data.Data, View.view, declared.value.Value.Value}
-use Rattle.std.proofs.Common.{slice_get, Option, Some, refl, sym, ap, ◌∙◌, arith}
-use Rattle.std.proofs.Common.{◌≡◌, ℕ, ◌+◌, ◌<◌, ◌≤◌, List, length, map, take, get_or}
-use Rattle.std.proofs.lemmas.{Option.slice_get_read, Option.slice_get_within}
-use Rattle.std.proofs.lemmas.{List.Concat.get_or-flat_map, List.Concat.length-flat_map, List.Folds.flat_map-map}
-use Rattle.std.proofs.lemmas.{List.Folds.length-flat_map-take, List.Sums.sum_by_more, List.get_or-map, List.length-map}
-use Rattle.std.specs.List.{flat_map}
+use Rattle.std.proofs.Common.{◌≡◌, ℕ, ◌+◌, ◌<◌, ◌≤◌, Bool, true, false, if◌then◌else◌, List, [], ◌∷◌, length}
+use Rattle.std.proofs.Common.{Option, Some, None, drop, slice_get, refl, sym, ◌∙◌, arith, ap, get_or, map, ◌++◌}
+use Rattle.std.proofs.lemmas.{List.drop_more, List.length-drop, Option.slice_get-get_or, Option.slice_get_within}
 
--- ---- payment by payment
+-- a fault that depends on a test is the first where the test is true
+pub first_if : (b : Bool) (x : Broken) (a : Option Broken) → a ≡ (if b then Some x else None)
+    → IsFirstBroken (FaultIf b x) a
+first_if true x a is = first_is _ _ a is (first_one _ x (refl, refl) (λ g q. q.1))
+first_if false x a is = first_is _ None a is (λ g q. cc)
 
--- the calculation periods of a payment, and of payments
-abbrev pub Inside : Value → List Data
-Inside v = periods_in (view v)
+-- ---- what is left of the payments
 
-abbrev pub All : List Value → List Data
-All vs = flat_map Inside vs
+-- the periods of the next payment, and of those after it
+pub payment_left : (vs : List Value) (i : ℕ) (v : Value) (list : List Value) → i < length vs → v ≡ get_or vs i v
+    → map view list ≡ periods_in (view v)
+    → flow_periods_of (map view (drop i vs)) ≡ map view list ++ flow_periods_of (map view (drop (i + 1) vs))
+payment_left vs i v list lt is these = rw (drop_more vs i v lt) (rw (sym is) (rw these refl))
 
-module _ (vs : List Value) (i : ℕ) (p : Value) (list : List Value) (lt : i < length vs) (is : p ≡ get_or vs i p)
-    (these : map view list ≡ periods_in (view p)) where
-  here : map view list ≡ Inside (get_or vs i p)
-  here = these ∙ ap Inside is
+-- ---- the periods of a stream
 
-  many : length list ≡ length (Inside (get_or vs i p))
-  many = sym (length-map list view) ∙ ap length here
+module _ (stream : ℕ) (ds : List Data) where
+  -- the faults of a period by the number of those before
+  abbrev Fault : ℕ → Data → Broken → Type 0
+  Fault j = PeriodFault stream (j + 1)
 
-  -- how many periods there are with those of the next payment
-  pub count_step : length (All (take (i + 1) vs)) ≡ length (All (take i vs)) + length list
-  count_step =
-      omega (
-        arith,
-        many,
-        length-flat_map Inside (take i vs),
-        length-flat_map Inside (take (i + 1) vs),
-        sum_by_more (λ v. length (Inside v)) vs i p lt,
-      )
+  -- the first fault of the first n periods, which are within the limit, and those that are left
+  abbrev pub Looked : ℕ → Option Broken → List Data → Type 0
+  Looked n first left = IsFirstBroken (Below (Each Fault ds) n) first × (drop n ds ≡ left) × (n ≤ most_rows)
 
-  -- they are at most those of all payments
-  pub count_fits : length (All (take i vs)) + length list ≤ length (All vs)
-  count_fits = omega (arith, many, length-flat_map-take Inside vs i p lt)
+  module _ (vs : List Value) (k : ℕ) (v : Value) (rest : List Data) (within : k < length vs) (is : v ≡ get_or vs k v) where
+    -- the next period, and what is left after it
+    next_of : (n : ℕ) → drop n ds ≡ map view (drop k vs) ++ rest
+        → (slice_get ds n ≡ Some (view v)) × (drop (n + 1) ds ≡ map view (drop (k + 1) vs) ++ rest)
+    next_of n at =
+        let e : drop n ds ≡ view v ∷ (map view (drop (k + 1) vs) ++ rest) =
+        at ∙ rw (drop_more vs k v within) (rw (sym is) refl) in
+        let lt : n < length ds = omega (arith, ap length e, length-drop n ds) in
+        let more = drop_more ds n (view v) lt in
+        let got = slice_get-get_or ds n (view v) lt in
+        (cc, cc)
 
-  -- a period of the next payment stands after those before
-  pub period_at : (k : ℕ) (v : Value) → k < length list → v ≡ get_or list k v
-      → slice_get (All vs) (length (All (take i vs)) + k) ≡ Some (view v)
-  period_at k v within at =
-      let found = get_or-flat_map Inside vs i k p (view v) lt (omega (arith, many, within)) in
-      slice_get_read (All vs) _ _ (view v) refl (omega (arith, count_fits, within))
-      (grind (arith, found, here, at, get_or-map view list k v (view v) within))
+    -- with one period more
+    pub looked_more : (n : ℕ) (a b s : Option Broken) → Looked n a (map view (drop k vs) ++ rest) → n < most_rows
+        → s ≡ earlier_broken a b → IsFirstBroken (PeriodFault stream (n + 1) (view v)) b
+        → Looked (n + 1) s (map view (drop (k + 1) vs) ++ rest)
+    looked_more n a b s (first, at, le) lt e q =
+        let (found, left) = next_of n at in
+        let one = each_one Fault ds n (view v) b found q in
+        (first_is _ _ s e (first_more (Each Fault ds) n a b first one), left, omega (arith, lt))
 
--- ---- all periods
+    -- one period more than the limit breaks K7
+    pub many_first : (n : ℕ) (a : Option Broken) → Looked n a (map view (drop k vs) ++ rest) → n ≡ most_rows
+        → IsFirstBroken (PeriodsFault stream ds) (Some (flow_broken_at stream K7 flow_period))
+    many_first n a (first, at, le) e =
+        let more = slice_get_within ds n (view v) (next_of n at).0 in
+        first_one _ _ (many_periods (omega (arith, more, e)))
+        (λ g q. elim q as (λ k _. k ≡ flow_broken_at stream K7 flow_period) [
+          | many_periods h ↦ refl
+          | in_period f few r ↦ absurd (omega (arith, more, e, few))
+        ])
 
--- the faults of a period by the number of those before
-abbrev pub Faults : ℕ → ℕ → Data → Broken → Type 0
-Faults stream j = PeriodFault stream (0 + j + 1)
-
--- the faults of the first n periods of payments
-abbrev pub OfFirst : ℕ → List Value → ℕ → Broken → Type 0
-OfFirst stream vs n = Below (Each (Faults stream) (All vs)) n
-
--- too many calculation periods break K7
-pub many_first : (stream : ℕ) (vs : List Value) → most_rows < length (All vs)
-    → IsFirstBroken (PeriodsFault stream (flow_periods_of (map view vs))) (Some (flow_broken_at stream K7 flow_period))
-many_first stream vs h =
-    rw (flat_map-map periods_in view vs) (first_one _ _ (many_periods h) (λ g q. elim q as (λ k _. k ≡ _) [
-      | many_periods e ↦ refl
-      | in_period f le r ↦ absurd (omega (arith, h, le))
-    ]))
-
--- where they are few, the first fault of one of them is the first of all
-pub few_first : (stream : ℕ) (vs : List Value) (n : ℕ) (a : Option Broken) → length (All vs) ≡ n → n ≤ most_rows
-    → IsFirstBroken (OfFirst stream vs n) a
-    → IsFirstBroken (PeriodsFault stream (flow_periods_of (map view vs))) a
-few_first stream vs n a e le p =
-    rw (flat_map-map periods_in view vs) (first_same _ _ a (λ f (j, (lt, q)). in_period f (omega (arith, e, le)) (j, q))
-    (λ f q. elim q as (λ k _. OfFirst stream vs n k) [
-      | many_periods h ↦ absurd (omega (arith, e, le, h))
-      | in_period g h (j, (x, (at, r))) ↦ (j, (omega (arith, e, slice_get_within _ j x at), (x, (at, r))))
-    ]) p)
+  -- where none is left, their first fault is the first of all
+  pub few_first : (n : ℕ) (a : Option Broken) → Looked n a [] → IsFirstBroken (PeriodsFault stream ds) a
+  few_first n a (first, at, le) =
+      let all : length ds ≤ n = omega (arith, ap length at, length-drop n ds) in
+      first_same _ _ a (λ f (j, (lt, q)). in_period f (omega (arith, all, le)) (j, q))
+      (λ f q. elim q as (λ k _. Below (Each Fault ds) n k) [
+        | many_periods h ↦ absurd (omega (arith, all, le, h))
+        | in_period g h (j, (x, (is, r))) ↦ (j, (omega (arith, all, slice_get_within ds j x is), (x, (is, r))))
+      ]) first

@@ -1,6 +1,6 @@
 -- The elements of cash flows, and the faults of a document of them.
 use Rattle.std.specs.Prelude.{ℕ, ◌+◌, ◌-◌, List, [], ◌∷◌, drop, take, ◌≡◌, ◌⊎◌, ◌<◌, ◌≤◌, nat_le, Bool, true, not, ◌&&◌}
-use Rattle.std.specs.Prelude.{length, Option, Some, None, is_some, option_and_then, codes, Ok, if◌then◌else◌, slice_get}
+use Rattle.std.specs.Prelude.{length, Option, Some, None, is_some, option_and_then, codes, if◌then◌else◌}
 use Rattle.serde_json.specs.Data.{Data}
 use Rattle.std.specs.List.{flat_map}
 use Rattle.irs_terms.specs.Elements.{cashflows, flow_period, swap, swap_stream}
@@ -11,9 +11,9 @@ use Rattle.irs_json.specs.Leaves.{child_of, element_names}
 use Rattle.irs_elements.specs.Lines.{Table, others_at, leaf, line, line_below, table_names, object, table_rows}
 use Rattle.irs_elements.specs.declared.table.Count.TheVariants.{Maybe, UpTo}
 use Rattle.irs_elements.specs.declared.table.Leaf.TheVariants.{Amount, CurrencyName, Date, Fraction, Whole}
-use Rattle.irs_elements.specs.Elements.{FaultAt, has_odd, values_in, once}
+use Rattle.irs_elements.specs.Elements.{FaultAt, has_odd, values_in}
 use Rattle.irs_elements.specs.declared.table.{Row.Row, Choice.TheVariants.Free, Kind.TheVariants.Object}
-use Rattle.irs_read.specs.Documents.{the_swap, Among, FaultOfStreams, FaultOfSwap, IsStated, WithMembers}
+use Rattle.irs_read.specs.Documents.{Among, FaultOfStreams, FaultOfSwap, WithMembers}
 
 -- ---- the elements of cash flows (FpML's `cashflows` of an InterestRateStream), line by line: the path, what is there,
 -- and how often
@@ -153,16 +153,13 @@ periods_in d = values_in (codes "calculationPeriod") (Some d)
 abbrev pub flow_periods_of : List Data → List Data
 flow_periods_of payments = flat_map periods_in payments
 
--- the faults of calculation periods that come after the first `before` of the stream
-abbrev pub PeriodsFrom : ℕ → ℕ → List Data → Broken → Type 0
-PeriodsFrom stream before = Among (λ j. PeriodFault stream (before + j + 1))
-
--- the faults of all calculation periods of a stream
+-- the faults of all calculation periods of a stream, which are numbered from 1
 pub data PeriodsFault (stream : ℕ) (ds : List Data) : Broken → Type 0 where
   -- there are too many of them
   many_periods : most_rows < length ds → PeriodsFault stream ds (flow_broken_at stream K7 flow_period)
   -- there are not, and one of them has the fault
-  in_period : (f : Broken) → length ds ≤ most_rows → PeriodsFrom stream 0 ds f → PeriodsFault stream ds f
+  in_period : (f : Broken) → length ds ≤ most_rows → Among (λ j. PeriodFault stream (j + 1)) ds f
+      → PeriodsFault stream ds f
 
 -- ---- the cash flows of a stream
 
@@ -204,19 +201,3 @@ FlowSwapFault d = WithMembers (OwnFault 0 swap d) (FlowStreamsFault (values_in (
 -- the faults of a document of cash flows: a rule ends the way to its swap, or the swap has the fault
 abbrev pub FlowFault : Data → Broken → Type 0
 FlowFault d = FaultOfSwap FlowSwapFault d
-
--- ---- nothing is passed over in the cash flows of a document
--- What must occur does, and each leaf that occurs has a value of its kind. So a field of what is read is absent exactly
--- where its leaf is.
-
--- nothing is passed over in a `cashflows`, nor in any calculation period of its payments
-pub record AreStated (flows : Data) : Type 0 where
-  pub rows : IsStated flow_rows flow_names flows
-  pub periods : (j : ℕ) (period : Data) → slice_get (flow_periods_of (payments_in (Some flows))) j ≡ Some period
-      → IsStated period_table_rows period_names period
-
--- each stream of a document has one `cashflows`, in which nothing is passed over
-abbrev pub EachFlowStated : Data → Type 0
-EachFlowStated d = (swap : Data) → the_swap d ≡ Ok swap → (j : ℕ) (stream : Data)
-    → slice_get (values_in (codes "swapStream") (Some swap)) j ≡ Some stream
-    → (flows : Data) × (once (codes "cashflows") stream ≡ Some flows) × AreStated flows

@@ -3,20 +3,18 @@
 //! stream.
 //!
 //! The carrier, the table and the order of faults are our rule.
-ghost use Rattle.irs_base.specs.{Outcomes.First};
-ghost use Rattle.irs_elements.specs.Elements.{seen};
+ghost use Rattle.irs_base.specs.Outcomes.{First};
+ghost use Rattle.irs_elements.specs.Elements.{seen, values_in};
 ghost use Rattle.irs_flows.specs.FlowFaults.{CashflowsFault, FaultIf, FlowFault, FlowStreamFault, FlowStreamsFault};
-ghost use Rattle.irs_flows.specs.FlowFaults.{FlowSwapFault, OnceFault, OwnFault, PeriodFault, PeriodsFault};
+ghost use Rattle.irs_flows.specs.FlowFaults.{FlowSwapFault, OnceFault, PeriodFault, PeriodsFault};
 ghost use Rattle.irs_flows.specs.FlowFaults.{flow_broken_at as at_of, flow_periods_of, payments_in};
 ghost use Rattle.irs_flows.specs.FlowFaults.{has_both_rates as has_both_rates_of, is_sound as is_sound_of};
 ghost use Rattle.irs_read.specs.Documents.{the_swap as the_swap_of};
 ghost use Rattle.irs_terms.specs.{Faults.IsFirstBroken, Faults.is_before, declared.places.Broken.Broken as BrokenRule};
 ghost use Rattle.serde_json.specs.View.{view};
-ghost use Rattle.std.specs.Prelude.{◌≡◌, IfErr, IfOk, Ok, map};
+ghost use Rattle.std.specs.Prelude.{◌≡◌, IfErr, IfOk, Ok, Some, codes, map};
 
-use crate::flow_table::{
-    FLOW_ENDS, FLOW_NAMES, FLOW_ROWS, OBJECT, PERIOD_ENDS, PERIOD_NAMES, PERIOD_ROWS,
-};
+use crate::flow_table::{FLOW_NAMES, FLOW_ROWS, OBJECT, PERIOD_NAMES, PERIOD_ROWS};
 use irs_base::{MOST_ROWS, MOST_STREAMS};
 use irs_elements::{Table, earlier, first_fault, has_odd, values, values_at};
 use irs_json::{Value, child, members};
@@ -38,6 +36,7 @@ fn at(stream: u8, rule: Rule, elem: Elem) -> Broken
 }
 
 // That rule, where the condition holds.
+#[tactic(auto, using(crate::proofs::FlowSteps::first_if))]
 fn broken_if(condition: bool, stream: u8, rule: Rule, elem: Elem) -> Option<Broken>
     ensures { IsFirstBroken (FaultIf condition (at_of stream rule elem)) result }
 {
@@ -51,12 +50,6 @@ fn is_sound(v: &Value) -> bool
     ensures { result ≡ is_sound_of (view v.now) }
 {
     members(v).is_some() && !has_odd(v)
-}
-
-fn own_fault(stream: u8, elem: Elem, v: &Value) -> Option<Broken>
-    ensures { IsFirstBroken (OwnFault stream elem (view v.now)) result }
-{
-    broken_if(!is_sound(v), stream, Rule::K3, elem)
 }
 
 // ---- calculation periods
@@ -78,7 +71,7 @@ fn period_fault(stream: u8, number: u32, v: &Value) -> Option<Broken>
     let table = Table {
         rows: &PERIOD_ROWS,
         names: &PERIOD_NAMES,
-        ends: &PERIOD_ENDS,
+        ends: &[],
         stream,
     };
     let own = first_fault(&table, 0, OBJECT, number, v);
@@ -124,18 +117,18 @@ fn cashflows_fault(stream: u8, v: &Value) -> Option<Broken>
     let table = Table {
         rows: &FLOW_ROWS,
         names: &FLOW_NAMES,
-        ends: &FLOW_ENDS,
+        ends: &[],
         stream,
     };
     let own = first_fault(&table, 0, OBJECT, 0, v);
     earlier(own, periods_fault(stream, payments_of(Some(v))))
 }
 
-// The first fault of the values of `cashflows`, which occurs once.
-fn once_fault(stream: u8, list: &[Value]) -> Option<Broken>
-    ensures { IsFirstBroken (OnceFault stream (map view list.now)) result }
+// The first fault of the `cashflows` of a stream, which occurs once.
+fn once_fault(stream: u8, v: &Value) -> Option<Broken>
+    ensures { IsFirstBroken (OnceFault stream (values_in (codes "cashflows") (Some (view v.now)))) result }
 {
-    match list {
+    match values_at(v, "cashflows") {
         [] => Some(at(stream, Rule::K2, Elem::CASHFLOWS)),
         [one] => cashflows_fault(stream, one),
         [_, _, ..] => Some(at(stream, Rule::K7, Elem::CASHFLOWS)),
@@ -143,13 +136,14 @@ fn once_fault(stream: u8, list: &[Value]) -> Option<Broken>
 }
 
 // The first fault of the stream with this number.
+#[tactic(auto, using(irs_read::proofs::Each::object_none))]
 fn stream_fault(number: u8, v: &Value) -> Option<Broken>
     ensures { IsFirstBroken (FlowStreamFault number (view v.now)) result }
 {
-    let own = own_fault(number, Elem::SWAP_STREAM, v);
+    let own = broken_if(!is_sound(v), number, Rule::K3, Elem::SWAP_STREAM);
     match members(v) {
         None => own,
-        Some(_) => earlier(own, once_fault(number, values_at(v, "cashflows"))),
+        Some(_) => earlier(own, once_fault(number, v)),
     }
 }
 
@@ -172,10 +166,11 @@ fn streams_fault(list: &[Value]) -> Option<Broken>
     first
 }
 
+#[tactic(auto, using(irs_read::proofs::Each::object_none))]
 fn swap_fault(v: &Value) -> Option<Broken>
     ensures { IsFirstBroken (FlowSwapFault (view v.now)) result }
 {
-    let own = own_fault(0, Elem::SWAP, v);
+    let own = broken_if(!is_sound(v), 0, Rule::K3, Elem::SWAP);
     match members(v) {
         None => own,
         Some(_) => earlier(own, streams_fault(values_at(v, "swapStream"))),
@@ -183,17 +178,16 @@ fn swap_fault(v: &Value) -> Option<Broken>
 }
 
 /// The swap of a document of cash flows, where it has no fault, and else the first fault.
+#[tactic(auto, using(irs_read::proofs::Ways::ended_first))]
 pub fn clean_swap(v: &Value) -> Result<&Value, Broken>
     ensures found { IfOk result (λ swap. the_swap_of (view v.now) ≡ Ok (view swap.now)) }
     ensures clean { IfOk result (λ _. (f : BrokenRule) → FlowFault (view v.now) f → ⊥) }
     ensures broken { IfErr result (First is_before (FlowFault (view v.now))) }
 {
-    match the_swap(v) {
-        Err(broken) => Err(broken),
-        Ok(swap) => match swap_fault(swap) {
-            None => Ok(swap),
-            Some(broken) => Err(broken),
-        },
+    let swap = the_swap(v)?;
+    match swap_fault(swap) {
+        None => Ok(swap),
+        Some(broken) => Err(broken),
     }
 }
 

@@ -2,7 +2,7 @@
 ghost use Rattle.irs_base.specs.Outcomes.{Determined};
 ghost use Rattle.irs_flows.specs.FlowReading.{FlowPart, FlowsAreWithin, FlowsOf, HidesNone, IsFirstFlowFault};
 ghost use Rattle.irs_flows.specs.FlowReading.{flow_parts_in, flows_of_document, shape_kind_of as kind_by};
-ghost use Rattle.irs_flows.specs.FlowFaults.{EachFlowStated, FlowSwapFault};
+ghost use Rattle.irs_flows.specs.FlowFaults.{FlowSwapFault};
 ghost use Rattle.irs_terms.specs.declared.places.Broken.{Broken as BrokenRule};
 ghost use Rattle.serde_json.specs.{Data.Data, View.view};
 ghost use Rattle.std.specs.Prelude.{◌≡◌, IfErr, IfOk, List};
@@ -50,8 +50,6 @@ fn flows_of(alloc: Global, v: &Value) -> Result<Flows, Memory>
 /// from 1970-01-01, amounts and rates in units of 10^-12.
 pub fn read_flows(alloc: Global, v: &Value) -> Result<Flows, FlowErr>
     ensures flows { IfOk result (λ flows. FlowsOf (view v.now) flows) }
-    // No field is passed over: each leaf that occurs has a value of its kind.
-    ensures stated { IfOk result (λ _. EachFlowStated (view v.now)) }
     ensures fault { IfErr result (λ e. IsFirstFlowFault (view v.now) e) }
     // Running out of memory hides no fault.
     ensures memory { IfErr result (λ e. HidesNone (view v.now) e) }

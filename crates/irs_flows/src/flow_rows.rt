@@ -47,7 +47,7 @@ fn period(v: &Value, float: Option<&Value>, reset: Option<FlowReset>) -> FlowPer
 fn exchanges(alloc: Global, found: &[Value]) -> Result<Vec<FlowExchange>, Memory>
     ensures { IfOk result (λ list. list.items ≡ map exchange_in (map view found.now)) }
 {
-    let mut list = Vec::new(alloc);
+    let mut list = Vec::with_capacity(alloc, found.len())?;
     for v in found {
         list.push(FlowExchange {
             unadjusted: day(once(v, "unadjustedPrincipalExchangeDate")),
@@ -64,7 +64,7 @@ fn payments(alloc: Global, found: &[Value]) -> Result<(Vec<FlowPayment>, Vec<Flo
     ensures payments { IfOk result (λ both. both.0.items ≡ map payment_in (map view found.now)) }
     ensures periods { IfOk result (λ both. both.1.items ≡ map period_in (flow_periods_of (map view found.now))) }
 {
-    let mut payments = Vec::new(alloc);
+    let mut payments = Vec::with_capacity(alloc, found.len())?;
     let mut periods = Vec::new(alloc);
     for v in found {
         let inside = values_at(v, "calculationPeriod");

@@ -12,7 +12,7 @@ ghost use Rattle.std.specs.Prelude.{◌≡◌, drop, map, true};
 
 use irs_base::MOST_ROWS;
 use irs_elements::{Choice, Count, Kind, Leaf, Row, row};
-use irs_read::{ends, names, rows};
+use irs_read::{names, rows};
 
 /// What `cashflows` is, a calculation period, and each element that has members: an object.
 pub const OBJECT: Kind = Kind::Object(Choice::Free);
@@ -22,29 +22,29 @@ const PASSED: Kind = Kind::Passed;
 const REFUSED: Kind = Kind::Refused;
 
 // The members at the rows of `cashflows`, one a line: the row of the object that it stands in, the place of its element
-// in the table of paths, its name, kind and count, and the row after its last member, 0 if it has none. Passed and
-// refused members have the place of the whole.
+// in the table of paths, its name, kind and count. Passed and refused members have the place of the whole. Where the
+// members of an object end isn't said, as it saves nothing in so short a table.
 macro_rules! flow_elements {
     ($part:ident) => {
         $part![
-            [0, 141, "cashflows", OBJECT, Count::One, 12],
-            [0, 142, "principalExchange", OBJECT, Count::UpTo(MOST_ROWS), 14],
-            [1, 143, "unadjustedPrincipalExchangeDate", Kind::Leaf(Leaf::Date), Count::Maybe, 0],
-            [1, 144, "adjustedPrincipalExchangeDate", Kind::Leaf(Leaf::Date), Count::Maybe, 0],
-            [1, 145, "principalExchangeAmount", Kind::Leaf(Leaf::Amount), Count::Maybe, 0],
-            [0, 146, "paymentCalculationPeriod", OBJECT, Count::UpTo(MOST_ROWS), 18],
-            [5, 147, "unadjustedPaymentDate", Kind::Leaf(Leaf::Date), Count::Maybe, 0],
-            [5, 148, "adjustedPaymentDate", Kind::Leaf(Leaf::Date), Count::Maybe, 0],
-            [5, 149, "forecastPaymentAmount", OBJECT, Count::Maybe, 11],
-            [8, 150, "currency", Kind::Leaf(Leaf::CurrencyName), Count::Maybe, 0],
-            [8, 151, "amount", Kind::Leaf(Leaf::Amount), Count::Maybe, 0],
-            [0, 141, "cashflowsMatchParameters", PASSED, Count::Maybe, 0],
-            [1, 141, "discountFactor", PASSED, Count::Maybe, 0],
-            [1, 141, "presentValuePrincipalExchangeAmount", PASSED, Count::Maybe, 0],
-            [5, 141, "discountFactor", PASSED, Count::Maybe, 0],
-            [5, 141, "presentValueAmount", PASSED, Count::Maybe, 0],
-            [5, 141, "calculationPeriod", PASSED, Count::Maybe, 0],
-            [5, 141, "fixedPaymentAmount", REFUSED, Count::Maybe, 0]
+            [0, 141, "cashflows", OBJECT, Count::One],
+            [0, 142, "principalExchange", OBJECT, Count::UpTo(MOST_ROWS)],
+            [1, 143, "unadjustedPrincipalExchangeDate", Kind::Leaf(Leaf::Date), Count::Maybe],
+            [1, 144, "adjustedPrincipalExchangeDate", Kind::Leaf(Leaf::Date), Count::Maybe],
+            [1, 145, "principalExchangeAmount", Kind::Leaf(Leaf::Amount), Count::Maybe],
+            [0, 146, "paymentCalculationPeriod", OBJECT, Count::UpTo(MOST_ROWS)],
+            [5, 147, "unadjustedPaymentDate", Kind::Leaf(Leaf::Date), Count::Maybe],
+            [5, 148, "adjustedPaymentDate", Kind::Leaf(Leaf::Date), Count::Maybe],
+            [5, 149, "forecastPaymentAmount", OBJECT, Count::Maybe],
+            [8, 150, "currency", Kind::Leaf(Leaf::CurrencyName), Count::Maybe],
+            [8, 151, "amount", Kind::Leaf(Leaf::Amount), Count::Maybe],
+            [0, 141, "cashflowsMatchParameters", PASSED, Count::Maybe],
+            [1, 141, "discountFactor", PASSED, Count::Maybe],
+            [1, 141, "presentValuePrincipalExchangeAmount", PASSED, Count::Maybe],
+            [5, 141, "discountFactor", PASSED, Count::Maybe],
+            [5, 141, "presentValueAmount", PASSED, Count::Maybe],
+            [5, 141, "calculationPeriod", PASSED, Count::Maybe],
+            [5, 141, "fixedPaymentAmount", REFUSED, Count::Maybe]
         ]
     };
 }
@@ -55,38 +55,35 @@ pub const FLOW_ROWS: [Row; 18] = flow_elements!(rows);
 /// The name at each row of `cashflows`.
 pub const FLOW_NAMES: [&str; 18] = flow_elements!(names);
 
-/// For each row of `cashflows` the number of the row after its last member; 0 where it has none.
-pub const FLOW_ENDS: [usize; 18] = flow_elements!(ends);
-
 // The same of a calculation period.
 macro_rules! period_elements {
     ($part:ident) => {
         $part![
-            [0, 152, "calculationPeriod", OBJECT, Count::One, 23],
-            [0, 153, "unadjustedStartDate", Kind::Leaf(Leaf::Date), Count::Maybe, 0],
-            [0, 154, "unadjustedEndDate", Kind::Leaf(Leaf::Date), Count::Maybe, 0],
-            [0, 155, "adjustedStartDate", Kind::Leaf(Leaf::Date), Count::Maybe, 0],
-            [0, 156, "adjustedEndDate", Kind::Leaf(Leaf::Date), Count::Maybe, 0],
-            [0, 157, "calculationPeriodNumberOfDays", Kind::Leaf(Leaf::Whole), Count::Maybe, 0],
-            [0, 158, "notionalAmount", Kind::Leaf(Leaf::Amount), Count::Maybe, 0],
-            [0, 159, "fixedRate", Kind::Leaf(Leaf::Amount), Count::Maybe, 0],
-            [0, 160, "dayCountYearFraction", Kind::Leaf(Leaf::Fraction), Count::Maybe, 0],
-            [0, 161, "floatingRateDefinition", OBJECT, Count::Maybe, 25],
-            [9, 162, "calculatedRate", Kind::Leaf(Leaf::Amount), Count::Maybe, 0],
-            [9, 163, "rateObservation", OBJECT, Count::Maybe, 22],
-            [11, 164, "resetDate", Kind::Leaf(Leaf::Date), Count::Maybe, 0],
-            [11, 165, "adjustedFixingDate", Kind::Leaf(Leaf::Date), Count::Maybe, 0],
-            [11, 166, "observedRate", Kind::Leaf(Leaf::Amount), Count::Maybe, 0],
-            [0, 152, "forecastAmount", PASSED, Count::Maybe, 0],
-            [0, 152, "forecastRate", PASSED, Count::Maybe, 0],
-            [9, 152, "floatingRateMultiplier", PASSED, Count::Maybe, 0],
-            [9, 152, "spread", PASSED, Count::Maybe, 0],
-            [11, 152, "treatedRate", PASSED, Count::Maybe, 0],
-            [11, 152, "observationWeight", PASSED, Count::Maybe, 0],
-            [11, 152, "forecastRate", PASSED, Count::Maybe, 0],
-            [0, 152, "fxLinkedNotionalAmount", REFUSED, Count::Maybe, 0],
-            [9, 152, "capRate", REFUSED, Count::Maybe, 0],
-            [9, 152, "floorRate", REFUSED, Count::Maybe, 0]
+            [0, 152, "calculationPeriod", OBJECT, Count::One],
+            [0, 153, "unadjustedStartDate", Kind::Leaf(Leaf::Date), Count::Maybe],
+            [0, 154, "unadjustedEndDate", Kind::Leaf(Leaf::Date), Count::Maybe],
+            [0, 155, "adjustedStartDate", Kind::Leaf(Leaf::Date), Count::Maybe],
+            [0, 156, "adjustedEndDate", Kind::Leaf(Leaf::Date), Count::Maybe],
+            [0, 157, "calculationPeriodNumberOfDays", Kind::Leaf(Leaf::Whole), Count::Maybe],
+            [0, 158, "notionalAmount", Kind::Leaf(Leaf::Amount), Count::Maybe],
+            [0, 159, "fixedRate", Kind::Leaf(Leaf::Amount), Count::Maybe],
+            [0, 160, "dayCountYearFraction", Kind::Leaf(Leaf::Fraction), Count::Maybe],
+            [0, 161, "floatingRateDefinition", OBJECT, Count::Maybe],
+            [9, 162, "calculatedRate", Kind::Leaf(Leaf::Amount), Count::Maybe],
+            [9, 163, "rateObservation", OBJECT, Count::Maybe],
+            [11, 164, "resetDate", Kind::Leaf(Leaf::Date), Count::Maybe],
+            [11, 165, "adjustedFixingDate", Kind::Leaf(Leaf::Date), Count::Maybe],
+            [11, 166, "observedRate", Kind::Leaf(Leaf::Amount), Count::Maybe],
+            [0, 152, "forecastAmount", PASSED, Count::Maybe],
+            [0, 152, "forecastRate", PASSED, Count::Maybe],
+            [9, 152, "floatingRateMultiplier", PASSED, Count::Maybe],
+            [9, 152, "spread", PASSED, Count::Maybe],
+            [11, 152, "treatedRate", PASSED, Count::Maybe],
+            [11, 152, "observationWeight", PASSED, Count::Maybe],
+            [11, 152, "forecastRate", PASSED, Count::Maybe],
+            [0, 152, "fxLinkedNotionalAmount", REFUSED, Count::Maybe],
+            [9, 152, "capRate", REFUSED, Count::Maybe],
+            [9, 152, "floorRate", REFUSED, Count::Maybe]
         ]
     };
 }
@@ -96,9 +93,6 @@ pub const PERIOD_ROWS: [Row; 25] = period_elements!(rows);
 
 /// The name at each row of a calculation period.
 pub const PERIOD_NAMES: [&str; 25] = period_elements!(names);
-
-/// The same for the rows of a calculation period.
-pub const PERIOD_ENDS: [usize; 25] = period_elements!(ends);
 
 /// The rows of the tables and their names are those that the lines of the specification give.
 #[tactic(auto, using(crate::proofs::FlowLaws::flow_rows_are, crate::proofs::FlowLaws::flow_names_are, crate::proofs::FlowLaws::period_rows_are, crate::proofs::FlowLaws::period_names_are))]

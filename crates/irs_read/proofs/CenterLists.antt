@@ -3,13 +3,14 @@ use Prim.Native.String.{String}
 use Rattle.irs_base.{proofs.EveryLemmas.every_both, specs.Limits.most_centers, specs.Lists.Every}
 use Rattle.irs_elements.specs.declared.table.Leaf.TheVariants.{CenterName, Convention}
 use Rattle.irs_elements.specs.{Elements.member, declared.table.Count.TheVariants.OneTo}
-use Rattle.irs_read.proofs.Rows.{At, AtMost, LeafRow, May, Must, Path, RowIs, facts, is_leaf, most_of, row_of}
+use Rattle.irs_read.proofs.Rows.{At, AtMost, LeafRow, May, Path, RowIs, facts, is_leaf, most_of, row_of}
 use Rattle.irs_read.proofs.Tells.{Fills, Told, each_fills, fine, leaf_fills, perhaps, some, told}
-use Rattle.irs_read.specs.Readings.{found_value, has_id, lists_in, lists_of, the_one}
-use Rattle.irs_read.{proofs.LeafKinds.center_names, specs.StreamElements.center_list, specs.StreamElements.center_name}
+use Rattle.irs_read.specs.Readings.{has_id, lists_in, lists_of, the_one}
+use Rattle.irs_read.{proofs.ReadParts.center_names, specs.StreamElements.center_list, specs.StreamElements.center_name}
 use Rattle.irs_terms.specs.Lawful.{IsLawfulNames}
 use Rattle.serde_json.specs.Data.{Data}
 use Rattle.std.proofs.Common.{count_by, find, Option, Some, None, slice_get, codes, refl, arith, if◌then◌else◌, ◌≡◌, ℕ}
+use Rattle.std.specs.Option.{option_flatten}
 use Rattle.std.proofs.Common.{suc, Bool, true, false, ◌==◌, List, [], ◌∷◌, cond}
 
 -- what the table says of a list of centres at the end of a path
@@ -68,25 +69,19 @@ adjusted_good : {must : Bool} (p : Path) (name : String) → RowIs p name must N
     → (o : Option Data) → AtMost p o → GoodList (Centers (member (codes name) o))
 adjusted_good p name row at o clean = good_below (name ∷ p) at (member (codes name) o) (below p name row o clean)
 
--- the list in the adjustments of the date with this name
-dated_good : {must : Bool} (name : String) → RowIs dates_path name must None
-    → Must (name ∷ dates_path) "dateAdjustments"
-    → AdjustingRows ("dateAdjustments" ∷ name ∷ dates_path) → (dates : Option Data) → AtMost dates_path dates
-    → GoodList (Centers (member (codes "dateAdjustments") (member (codes name) dates)))
-dated_good name row adj at dates clean =
-    adjusted_good (name ∷ dates_path) "dateAdjustments" adj at (member (codes name) dates)
-    (below dates_path name row dates clean)
-
 lists_good : (d : Data) → At [] d → GoodLists (lists_in d)
 unfolding facts row_of most_of
 lists_good d clean =
     let dates = perhaps [] "calculationPeriodDates" refl d clean in
     let resets = perhaps [] "resetDates" refl d clean in
     let pays = perhaps [] "paymentDates" refl d clean in
-    let start = dated_good "effectiveDate" refl refl (refl, refl, (refl, refl)) _ dates in
-    let end = dated_good "terminationDate" refl refl (refl, refl, (refl, refl)) _ dates in
+    let start = adjusted_good ("effectiveDate" ∷ dates_path) "dateAdjustments" refl (refl, refl, (refl, refl)) _
+    (below dates_path "effectiveDate" refl _ dates) in
+    let end = adjusted_good ("terminationDate" ∷ dates_path) "dateAdjustments" refl (refl, refl, (refl, refl)) _
+    (below dates_path "terminationDate" refl _ dates) in
     let own = adjusted_good dates_path "calculationPeriodDatesAdjustments" refl (refl, refl, (refl, refl)) _ dates in
-    let first = dated_good "firstPeriodStartDate" refl refl (refl, refl, (refl, refl)) _ dates in
+    let first = adjusted_good ("firstPeriodStartDate" ∷ dates_path) "dateAdjustments" refl (refl, refl, (refl, refl)) _
+    (below dates_path "firstPeriodStartDate" refl _ dates) in
     let pay = adjusted_good ("paymentDates" ∷ []) "paymentDatesAdjustments" refl (refl, refl, (refl, refl)) _ pays in
     let fix = adjusted_good resets_path "fixingDates" refl (refl, refl, (refl, refl)) _ resets in
     let reset = adjusted_good resets_path "resetDatesAdjustments" refl (refl, refl, (refl, refl)) _ resets in
@@ -102,14 +97,14 @@ all_good (d ∷ ds) clean =
 -- ---- the list that a reference names
 
 good_found : (p : Option Data → Bool) (lists : List (Option Data)) → GoodLists lists
-    → GoodList (found_value (find p lists))
+    → GoodList (option_flatten (find p lists))
 good_found p [] g = tt
 good_found p (o ∷ os) g =
-    elim (p o) as (λ b. GoodList (found_value (cond b (Some o) (find p os))))
+    elim (p o) as (λ b. GoodList (option_flatten (cond b (Some o) (find p os))))
     [ true ↦ g.0 | false ↦ good_found p os g.1 ]
 
 -- the list that a text names
 pub one_good : (id : List ℕ) (lists : List (Option Data)) → GoodLists lists → GoodList (the_one id lists)
 one_good id lists g =
-    elim (count_by (has_id id) lists == 1) as (λ b. GoodList (if b then found_value (find (has_id id) lists) else None))
+    elim (count_by (has_id id) lists == 1) as (λ b. GoodList (if b then option_flatten (find (has_id id) lists) else None))
     [ true ↦ good_found (has_id id) lists g | false ↦ tt ]

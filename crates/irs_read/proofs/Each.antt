@@ -7,7 +7,7 @@ use Rattle.irs_terms.specs.declared.places.{Broken.Broken, Rule.TheVariants.K2, 
 use Rattle.irs_terms.specs.{Elements.swap_stream, Faults.IsFirstBroken, Faults.earlier_broken}
 use Rattle.serde_json.specs.{Data.Data, View.view, declared.value.Value.Value}
 use Rattle.std.proofs.Common.{get_or, Option, Some, None, option_map, refl, ap, ◌∙◌, subst, arith}
-use Rattle.std.proofs.Common.{◌≡◌, ℕ, ◌+◌, ◌<◌, ◌≤◌, true, false, true≢false, inl, inr, List, [], ◌∷◌, length, map, sym}
+use Rattle.std.proofs.Common.{◌≡◌, ℕ, ◌+◌, ◌<◌, ◌≤◌, true≢false, inl, inr, List, [], ◌∷◌, length, map, sym}
 use Rattle.std.proofs.lemmas.{List.length-map, Option.slice_get_read, Option.slice_get_within, Option.slice_get-map}
 use Rattle.std.{proofs.lemmas.Bool.cases_lt, specs.Prelude.slice_get, specs.Prelude.is_some}
 
@@ -46,9 +46,9 @@ module _ (P : ℕ → Data → Broken → Type 0) where
   none_first ds a h e = first_is _ _ a e (first_one _ _ (no_stream h) (only ds h))
     where
       only : (ds : List Data) → length ds ≡ 0 → (g : Broken) → FaultOfStreams P ds g → g ≡ outside K2 swap_stream
-      only ds h g (no_stream e) = refl
-      only ds h g (many_streams e) = absurd (omega arith)
-      only ds h g (in_stream _ lo hi q) = absurd (omega arith)
+      only ds h _ (no_stream e) = refl
+      only ds h _ (many_streams e) = absurd (omega arith)
+      only ds h _ (in_stream _ lo hi q) = absurd (omega arith)
 
   -- a swap with too many streams breaks K7 first
   pub many_first : (ds : List Data) (a : Option Broken) → most_streams < length ds → a ≡ Some (outside K7 swap_stream)
@@ -57,9 +57,9 @@ module _ (P : ℕ → Data → Broken → Type 0) where
     where
       only : (ds : List Data) → most_streams < length ds → (g : Broken) → FaultOfStreams P ds g
           → g ≡ outside K7 swap_stream
-      only ds h g (no_stream e) = absurd (omega arith)
-      only ds h g (many_streams e) = refl
-      only ds h g (in_stream _ lo hi q) = absurd (omega arith)
+      only ds h _ (no_stream e) = absurd (omega arith)
+      only ds h _ (many_streams e) = refl
+      only ds h _ (in_stream _ lo hi q) = absurd (omega arith)
 
   -- the first broken rule of one to eight streams
   pub each_first : (ds : List Data) (a : Option Broken) → 0 < length ds → length ds ≤ most_streams
@@ -68,9 +68,9 @@ module _ (P : ℕ → Data → Broken → Type 0) where
     where
       inner : (ds : List Data) → 0 < length ds → length ds ≤ most_streams → (g : Broken) → FaultOfStreams P ds g
           → Among P ds g
-      inner ds lo hi g (no_stream e) = absurd (omega arith)
-      inner ds lo hi g (many_streams e) = absurd (omega arith)
-      inner ds lo hi g (in_stream _ lo' hi' q) = q
+      inner ds lo hi _ (no_stream e) = absurd (omega arith)
+      inner ds lo hi _ (many_streams e) = absurd (omega arith)
+      inner ds lo hi _ (in_stream _ lo' hi' q) = q
 
   -- the streams are one to eight, and none of them breaks a rule
   pub record AreFree (ds : List Data) : Type 0 where
@@ -92,17 +92,14 @@ module _ (own inside : Broken → Type 0) where
   -- what is no object breaks what it breaks by itself
   pub object_none : (d : Data) (a : Option Broken) → element_names d ≡ None → IsFirstBroken own a
       → IsFirstBroken (WithMembers own inside d) a
-  object_none d a h p = first_same _ _ a (λ f q. inl q) (only d h) p
-    where
-      only : (d : Data) → element_names d ≡ None → (f : Broken) → WithMembers own inside d f → own f
-      only d h f (inl q) = q
-      only d h f (inr (t, q)) = let e : is_some (element_names d) ≡ false = rw h refl in absurd (true≢false (sym t ∙ e))
+  object_none d a h p =
+      first_same _ _ a (λ f q. inl q)
+      (λ f q. elim q [ inl own ↦ own | inr (t, _) ↦ absurd (true≢false (sym t ∙ ap is_some h)) ]) p
 
   -- an object breaks the earlier of what it and its members break
   pub object_some : (d : Data) (ns : List (List ℕ)) (a b s : Option Broken) → element_names d ≡ Some ns
       → s ≡ earlier_broken a b → IsFirstBroken own a → IsFirstBroken inside b
       → IsFirstBroken (WithMembers own inside d) s
   object_some d ns a b s h e p q =
-      let there : is_some (element_names d) ≡ true = rw h refl in
-      first_is _ _ s e (first_or own (λ f. (is_some (element_names d) ≡ true)
-      × inside f) a b p (first_same _ _ b (λ f x. (there, x)) (λ f (t, x). x) q))
+      first_is _ _ s e
+      (first_or own _ a b p (first_same _ _ b (λ f x. (ap is_some h, x)) (λ f (t, x). x) q))

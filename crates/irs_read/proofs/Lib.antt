@@ -4,14 +4,11 @@ pub mod EachSaid
 pub mod Ways
 pub mod Clean
 pub mod Ranges
-pub mod Words
 pub mod Rows
 pub mod Tells
-pub mod LeafKinds
+pub mod ReadParts
 pub mod CenterLists
 pub mod StreamParts
 pub mod StreamReads
 pub mod LawfulSwaps
-pub mod StatedTables
 pub mod Outcomes
-pub mod EachValue

@@ -1,15 +1,17 @@
 -- The values of leaves lie in their ranges.
-use Rattle.irs_base.specs.Lists.{Every}
+use Rattle.irs_base.specs.{Lists.Every, Limits.most_index, Limits.most_name}
 use Rattle.irs_base.specs.declared.day.DayName.TheVariants.{Mon, Tue, Wed, Thu, Fri, Sat, Sun}
 use Rattle.irs_elements.specs.Codes.{among, day_number_at, day_roll_at, first_there, is_first_digit, named_roll_at}
 use Rattle.irs_elements.specs.{Codes.roll_at, Codes.tenor_unit_at, Leaves.currency_at, Numbers.whole_at, Numbers.within}
-use Rattle.irs_elements.{proofs.Exact.both_true, specs.Leaves.is_capital, specs.Leaves.is_currency}
+use Rattle.irs_elements.proofs.Exact.{both_true}
+use Rattle.irs_elements.specs.Leaves.{is_capital, is_center_name, is_currency, is_index_name, is_no_control, is_visible}
 use Rattle.irs_terms.specs.declared.codes.RollCode.TheVariants.{Dom, Eom, Imm, NoRoll, OnWeekday}
 use Rattle.irs_terms.specs.declared.frequency.Unit.TheVariants.{D, W, M, Y, T as Term}
-use Rattle.irs_terms.specs.{Lawful.IsLawfulCurrency, Lawful.IsLawfulRoll, declared.frequency.Unit.Unit as PeriodUnit}
+use Rattle.irs_terms.specs.Lawful.{IsLawfulCurrency, IsLawfulIndex, IsLawfulName, IsLawfulRoll}
+use Rattle.irs_terms.specs.declared.frequency.Unit.{Unit as PeriodUnit}
 use Rattle.std.proofs.Common.{negsuc, neg_ℤ, ◌≤ℤ◌, int_le, unsigned_abs, Option, Some, None, IfSome, option_map, ◌≡◌, ℕ}
-use Rattle.std.proofs.Common.{option_and_then, All, refl, arith, if◌then◌else◌, bytes_eq, codes, ℤ, pos, ◌+◌, ◌-◌, ◌*◌}
-use Rattle.std.proofs.Common.{◌≤◌, nat_le, Bool, true, false, ◌&&◌, ◌==◌, List, [], ◌∷◌, length}
+use Rattle.std.proofs.Common.{option_and_then, refl, arith, if◌then◌else◌, bytes_eq, codes, ℤ, pos, ◌+◌, ◌-◌, ◌*◌}
+use Rattle.std.proofs.Common.{◌≤◌, nat_le, nat_lt, Bool, true, false, ◌&&◌, ◌==◌, not, List, [], ◌∷◌, length, get_or}
 use Rattle.std.proofs.lemmas.{Bool.Decides.nat_tests, Int.ints, List.Sums.AllPass-from_list_all, Option.IfSome_then}
 use Rattle.std.specs.List.{list_all}
 
@@ -26,7 +28,7 @@ abbrev Between : ℤ → ℤ → ℤ → Type 0
 Between low high z = (low ≤ℤ z) × (z ≤ℤ high)
 
 -- what is there only by a test
-pub guarded : {A : Type 0} (P : A → Type 0) (b : Bool) (o : Option A) → (b ≡ true → IfSome o P)
+guarded : {A : Type 0} (P : A → Type 0) (b : Bool) (o : Option A) → (b ≡ true → IfSome o P)
     → IfSome (if b then o else None) P
 guarded P true o h = h refl
 guarded P false o h = tt
@@ -37,11 +39,6 @@ within_range low high None = tt
 within_range low high (Some z) =
     guarded (Between low high) (int_le low z && int_le z high) (Some z)
     (λ e. (grind (arith, ints, nat_tests), grind (arith, ints, nat_tests)))
-
-if_mapped : {A B : Type 0} (P : A → Type 0) (Q : B → Type 0) (g : A → B) → ((a : A) → P a → Q (g a)) → (o : Option A)
-    → IfSome o P → IfSome (option_map g o) Q
-if_mapped P Q g f None h = tt
-if_mapped P Q g f (Some a) h = f a h
 
 size : (m : ℕ) (z : ℤ) → Between (neg_ℤ (pos m)) (pos m) z → unsigned_abs z ≤ m
 size m (pos n) h = omega (arith, ints, h)
@@ -58,7 +55,10 @@ up l m (negsuc n) h = absurd (omega (arith, ints, h))
 -- a number from l to m, without a sign
 pub count_range : (l m : ℕ) (s : List ℕ)
     → IfSome (option_map unsigned_abs (within (pos l) (pos m) (whole_at s))) (λ n. (l ≤ n) × (n ≤ m))
-count_range l m s = if_mapped _ _ unsigned_abs (up l m) _ (within_range (pos l) (pos m) (whole_at s))
+count_range l m s =
+    elim (within (pos l) (pos m) (whole_at s))
+    as (λ o. IfSome o (Between (pos l) (pos m)) → IfSome (option_map unsigned_abs o) (λ n. (l ≤ n) × (n ≤ m)))
+    [ None ↦ λ h. h | Some z ↦ up l m z ] (within_range (pos l) (pos m) (whole_at s))
 
 -- ---- codes
 
@@ -77,13 +77,6 @@ tenor_unit_range s =
     ((codes "D", D) ∷ (codes "W", W) ∷ (codes "M", M) ∷ (codes "Y", Y) ∷ [])
     ((λ e. cc), ((λ e. cc), ((λ e. cc), ((λ e. cc), tt)))) s
 
-named_range : (s : List ℕ) → IfSome (named_roll_at s) IsLawfulRoll
-named_range s =
-    among_range IsLawfulRoll ((codes "EOM", Eom) ∷ (codes "IMM", Imm) ∷ (codes "NONE", NoRoll)
-    ∷ (codes "MON", OnWeekday Mon) ∷ (codes "TUE", OnWeekday Tue) ∷ (codes "WED", OnWeekday Wed)
-    ∷ (codes "THU", OnWeekday Thu) ∷ (codes "FRI", OnWeekday Fri) ∷ (codes "SAT", OnWeekday Sat)
-    ∷ (codes "SUN", OnWeekday Sun) ∷ []) (tt, (tt, (tt, (tt, (tt, (tt, (tt, (tt, (tt, (tt, tt)))))))))) s
-
 day_roll_range : (s : List ℕ) → IfSome (day_roll_at s) IsLawfulRoll
 day_roll_range [] = tt
 day_roll_range (a ∷ []) = guarded IsLawfulRoll (is_first_digit a) (Some (Dom (a - 48))) (λ e.
@@ -101,16 +94,43 @@ either_range P (Some a) p g h = g
 
 -- a roll that is read is lawful
 pub roll_range : (s : List ℕ) → IfSome (roll_at s) IsLawfulRoll
-roll_range s = either_range IsLawfulRoll (named_roll_at s) (day_roll_at s) (named_range s) (day_roll_range s)
+roll_range s =
+    either_range IsLawfulRoll (named_roll_at s) (day_roll_at s)
+    (among_range IsLawfulRoll ((codes "EOM", Eom) ∷ (codes "IMM", Imm) ∷ (codes "NONE", NoRoll)
+    ∷ (codes "MON", OnWeekday Mon) ∷ (codes "TUE", OnWeekday Tue) ∷ (codes "WED", OnWeekday Wed)
+    ∷ (codes "THU", OnWeekday Thu) ∷ (codes "FRI", OnWeekday Fri) ∷ (codes "SAT", OnWeekday Sat)
+    ∷ (codes "SUN", OnWeekday Sun) ∷ []) (tt, (tt, (tt, (tt, (tt, (tt, (tt, (tt, (tt, (tt, tt)))))))))) s)
+    (day_roll_range s)
 
 -- ---- currencies
-
--- letters that pass the test are capitals
-pub capitals : (s : List ℕ) → list_all is_capital s ≡ true → All (λ b. (65 ≤ b) × (b ≤ 90)) s
-capitals s e = λ k d lt. let h = AllPass-from_list_all is_capital s e k d lt in grind (arith, nat_tests)
 
 -- a currency that is read is lawful
 pub currency_range : (s : List ℕ) → IfSome (currency_at s) IsLawfulCurrency
 currency_range s =
-    guarded IsLawfulCurrency (is_currency s) (Some (record { letters = s }))
-    (λ e. capitals s (both_true (length s == 3) (list_all is_capital s) e).1)
+    guarded IsLawfulCurrency (is_currency s) (Some (record { letters = s })) (λ e k d lt.
+    let h = AllPass-from_list_all is_capital s (both_true (length s == 3) (list_all is_capital s) e).1 k d lt in
+    grind (arith, nat_tests))
+
+-- ---- names
+
+-- the name of a centre that passes its test is lawful
+pub name_range : (s : List ℕ) → IfSome (if is_center_name s then Some s else None) IsLawfulName
+name_range s = guarded IsLawfulName (is_center_name s) (Some s) (λ e.
+    let (long, all) = both_true (nat_lt 0 (length s) && nat_le (length s) most_name) (list_all is_visible s) e in (
+      grind (arith, nat_tests, long),
+      grind (arith, nat_tests, long),
+      λ k d lt. let h = AllPass-from_list_all is_visible s all k d lt in grind (arith, nat_tests, h),
+    ))
+
+-- so is that of an index
+pub index_range : (s : List ℕ) → IfSome (if is_index_name s then Some s else None) IsLawfulIndex
+index_range s = guarded IsLawfulIndex (is_index_name s) (Some s) (λ e.
+    let (start, last) = both_true _ (not (get_or s (length s - 1) 0 == 32)) e in
+    let (text, first) = both_true _ (not (get_or s 0 0 == 32)) start in
+    let (long, all) = both_true (nat_lt 0 (length s) && nat_le (length s) most_index) (list_all is_no_control s) text in (
+      grind (arith, nat_tests, long),
+      grind (arith, nat_tests, long),
+      (λ k d lt. let h = AllPass-from_list_all is_no_control s all k d lt in grind (arith, nat_tests, h)),
+      (λ h. grind (arith, nat_tests, first, h)),
+      (λ h. grind (arith, nat_tests, last, h)),
+    ))

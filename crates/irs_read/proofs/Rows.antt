@@ -36,10 +36,6 @@ facts p c = (
 abbrev pub RowIs : Path → String → Bool → Option LeafKind → Type 0
 RowIs p name must kind = facts p (row_of (name ∷ p)) ≡ (true, (must, (kind, codes name)))
 
--- an object that must occur
-abbrev pub Must : Path → String → Type 0
-Must p name = RowIs p name true None
-
 -- an object that may be absent
 abbrev pub May : Path → String → Type 0
 May p name = RowIs p name false None
@@ -47,10 +43,6 @@ May p name = RowIs p name false None
 -- a leaf that must occur
 abbrev pub LeafRow : Path → String → LeafKind → Type 0
 LeafRow p name kind = RowIs p name true (Some kind)
-
--- a leaf that may be absent
-abbrev pub FreeRow : Path → String → LeafKind → Type 0
-FreeRow p name kind = RowIs p name false (Some kind)
 
 -- the most values of the member at the end of a path
 unfoldable pub most_of : Path → ℕ

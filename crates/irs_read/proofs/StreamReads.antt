@@ -1,72 +1,76 @@
--- A stream that breaks no rule says one stream, and that one is lawful.
-use Prim.Native.String.{String}
-use Rattle.irs_base.specs.{Days.IsDay, Limits.most_steps, declared.rounding.Direction.TheVariants.Nearest}
-use Rattle.irs_elements.specs.Codes
+-- A stream that breaks no rule says one stream, and that one is lawful: each part reads as the table does.
+use Rattle.irs_base.specs.{Days.IsDay, Limits.most_centers, Limits.most_steps}
+use Rattle.irs_base.specs.declared.rounding.Direction.TheVariants.{Nearest}
+use Rattle.irs_elements.specs.Elements.{once}
 use Rattle.irs_elements.specs.declared.table.Leaf.TheVariants as Leaf
-use Rattle.irs_elements.specs.declared.table.{Count.TheVariants.UpTo, Kind.TheVariants.Object, Leaf.Leaf as LeafKind}
-use Rattle.irs_elements.specs.{Elements.once, Lines.object, declared.table.Choice.TheVariants.ExactlyOne}
-use Rattle.irs_read.proofs.CenterLists.{AdjustingRows, GoodLists, dates_path, good_below, list_fills, one_good}
-use Rattle.irs_read.proofs.LeafKinds.{currencies, dates, indices, multipliers, notionals, observations, offsets, plain}
-use Rattle.irs_read.proofs.LeafKinds.{precisions, rates, rolls, tenor_units}
-use Rattle.irs_read.proofs.Rows.{At, FreeRow, LeafRow, May, Must, Path, RowIs, facts, is_leaf, is_named, most_of}
-use Rattle.irs_read.proofs.Tells.{Any, Fills, LeafIs, Tells, Told, both, each_fills, fine, just, leaf_fills, leaf_maybe}
-use Rattle.irs_read.proofs.Tells.{leaf_one, leaf_or, maybe_fills, member_fills, member_tells, one_fills, or_fills}
-use Rattle.irs_read.proofs.Tells.{perhaps, shape, shaped, there, told, ◌⊗◌}
-use Rattle.irs_read.proofs.{CenterLists.resets_path, TableLaws.code_names as row_names}
-use Rattle.irs_read.proofs.{Clean.either_there, Clean.kind_at, Rows.row_of, StreamParts.Inside, StreamParts.parts_tell}
-use Rattle.irs_read.specs.Readings.{Says, Value, either_member, holds, href_of, or_by, text, the_one}
-use Rattle.irs_read.specs.StreamElements.{StreamSays, adjustable, adjusting, adjustments, always, center_list, centers}
-use Rattle.irs_read.specs.StreamElements.{exchanges, fixing_dates, floating, frequency, indexed, leg, observed}
-use Rattle.irs_read.specs.StreamElements.{observing, offset, parameters, payment_dates, places_by, rate, reference}
-use Rattle.irs_read.specs.StreamElements.{reset_dates, rounding_read, schedule, step, stub, stubs, tenor, unadjusted}
-use Rattle.irs_read.specs.{Private.Sayings.StreamParts, Private.Sayings.FixingsSaid, declared.table.TheConstants.ROWS}
+use Rattle.irs_read.proofs.CenterLists.{GoodLists, list_fills, one_good}
+use Rattle.irs_read.proofs.ReadParts.{Reads, RowFacts, Whole, always, any, by_field, currencies, dates, each}
+use Rattle.irs_read.proofs.ReadParts.{either, filled}
+use Rattle.irs_read.proofs.ReadParts.{indices, leaf, maybe, member, multipliers, named, notionals, observations}
+use Rattle.irs_read.proofs.ReadParts.{offsets, one}
+use Rattle.irs_read.proofs.ReadParts.{or, precisions, rates, rolls, tenor_units, unread, whole, ◌also◌, ◌gives◌}
+use Rattle.irs_read.proofs.Rows.{At, facts, most_of, row_of}
+use Rattle.irs_read.proofs.Tells.{Any, Tells, Told, just, member_tells, perhaps, told}
+use Rattle.irs_read.specs.Readings.{Says, Value, has_id, href_of, the_one}
+use Rattle.irs_read.specs.StreamElements.{StreamSays, adjustable, adjusting, center_list, centers}
+use Rattle.irs_read.specs.StreamElements.{exchanges, fixing_dates}
+use Rattle.irs_read.specs.StreamElements.{fixings, floating, frequency, indexed, leg, notional, observing, offset}
+use Rattle.irs_read.specs.StreamElements.{parameters, payment_dates, places_by, rate, reference, reset_dates}
+use Rattle.irs_read.specs.StreamElements.{rounding_read as rounding, schedule, step, stream_by, stub, stubs, tenor}
+use Rattle.irs_read.specs.StreamElements.{always as constant, unadjusted}
 use Rattle.irs_terms.specs.Lawful.{IsLawfulAdjustableDate, IsLawfulCenters, IsLawfulFix, IsLawfulFloat, IsLawfulValues}
 use Rattle.irs_terms.specs.Lawful.{IsLawfulFrequency, IsLawfulIndex, IsLawfulLeg, IsLawfulObservationOffset}
-use Rattle.irs_terms.specs.Lawful.{IsLawfulOffset, IsLawfulParameters, IsLawfulPay, IsRate, IsLawfulReset}
-use Rattle.irs_terms.specs.Lawful.{IsLawfulStream, IsLawfulStubRate, IsLawfulStubs, IsLawfulTenor, IsObservationDays}
+use Rattle.irs_terms.specs.Lawful.{IsLawfulNames, IsLawfulOffset, IsLawfulParameters, IsLawfulPay}
+use Rattle.irs_terms.specs.Lawful.{IsRate, IsLawfulReset}
+use Rattle.irs_terms.specs.Lawful.{IsLawfulStream, IsLawfulStubRate, IsLawfulStubs, IsLawfulTenor}
+use Rattle.irs_terms.specs.declared.adjustments.Adjustments.{Adjustments}
 use Rattle.irs_terms.specs.declared.adjustments.Centers.TheVariants.{Absent, Listed, Dangling}
-use Rattle.irs_terms.specs.declared.amounts.StubRate.TheVariants.{Index, Fixed as FixedStub}
-use Rattle.irs_terms.specs.declared.amounts.{Leg.TheVariants.Fixed, Leg.TheVariants.Floating, Rounding.Rounding}
-use Rattle.irs_terms.specs.declared.codes.{CompCode.TheVariants.Simple, RefState.TheVariants.Absent as NoReference}
-use Rattle.irs_terms.specs.declared.codes.{DayKind.TheVariants.Unsaid, RefState.RefState, Relative.TheVariants.Start}
-use Rattle.irs_terms.specs.declared.parameters.ObservationOffset.TheVariants.{Absent as NoOffset, Shift, Lookback}
-use Rattle.irs_terms.specs.declared.parameters.ObservationOffset.{ObservationOffset, TheVariants.Lockout}
-use Rattle.irs_terms.specs.declared.{adjustments.Adjustments.Adjustments, codes.Treatment.TheVariants.AsIs}
-use Rattle.irs_terms.specs.declared.{dates.FixTerms.FixTerms, frequency.Frequency.Frequency, step_list.Step.Step}
+use Rattle.irs_terms.specs.declared.amounts.{FloatTerms.FloatTerms, Leg.TheVariants.Fixed, Leg.TheVariants.Floating}
+use Rattle.irs_terms.specs.declared.amounts.{Rounding.Rounding, StubRate.TheVariants.Index}
+use Rattle.irs_terms.specs.declared.amounts.StubRate.TheVariants.{Fixed as FixedStub}
+use Rattle.irs_terms.specs.declared.codes.RefState.TheVariants.{Absent as NoReference, Good, Dangling as NoTarget}
+use Rattle.irs_terms.specs.declared.codes.{CompCode.TheVariants.Simple, DayKind.TheVariants.Unsaid}
+use Rattle.irs_terms.specs.declared.codes.{RefState.RefState, Relative.TheVariants.Start, Treatment.TheVariants.AsIs}
+use Rattle.irs_terms.specs.declared.dates.{FixTerms.FixTerms, ResetTerms.ResetTerms}
+use Rattle.irs_terms.specs.declared.parameters.CalculationParameters.{CalculationParameters}
+use Rattle.irs_terms.specs.declared.parameters.ObservationOffset.TheVariants.{Absent as NoOffset, Lockout}
+use Rattle.irs_terms.specs.declared.parameters.ObservationOffset.TheVariants.{Lookback, Shift}
+use Rattle.irs_terms.specs.declared.{frequency.Frequency.Frequency, step_list.Step.Step, stream.Stream.Stream}
 use Rattle.serde_json.specs.Data.{Data}
-use Rattle.std.proofs.Common.{[], ◌∷◌, length, ℤ, pos, Option, Some, None, IfSome, slice_get, All, codes, refl, ap, ◌∙◌}
-use Rattle.std.proofs.Common.{arith, ◌≡◌, ℕ, ◌≤◌, false, List}
+use Rattle.std.proofs.Common.{IfSome, List, None, Option, Some, ap, arith, codes, false, if◌then◌else◌, pos, refl, ℤ, ℕ}
+use Rattle.std.proofs.Common.{[], true, ◌≡◌, ◌≤◌, ◌∷◌}
 
 -- ---- numbers of periods and offsets
 
 -- a frequency
-frequency_fills : (p : Path) → LeafRow p "periodMultiplier" Leaf.Multiplier → LeafRow p "period" Leaf.PeriodUnit
-    → Fills p frequency.says IsLawfulFrequency
-frequency_fills p count unit =
-    shaped (leaf_one p "periodMultiplier" multipliers count
-    ⊗ leaf_one p "period" (plain Leaf.PeriodUnit Codes.period_unit_at (λ s. refl)) unit)
-    _ _ (λ s. refl) (λ t. refl) (λ t l. assumption)
+abbrev frequency_reads : Whole frequency.says IsLawfulFrequency
+frequency_reads =
+    whole (one "periodMultiplier" multipliers
+    also one "period" (any Leaf.PeriodUnit (λ s. refl))) _ (λ s t. (refl, refl, λ l. assumption))
 
 -- the tenor of an index
-tenor_fills : (p : Path) → LeafRow p "periodMultiplier" Leaf.Multiplier → LeafRow p "period" Leaf.TenorUnit
-    → Fills p tenor.says IsLawfulTenor
-tenor_fills p count unit =
-    shaped (leaf_one p "periodMultiplier" multipliers count ⊗ leaf_one p "period" tenor_units unit)
-    _ _ (λ s. refl) (λ t. refl) (λ t l. assumption)
-
--- nothing is read of a member
-unread_fills : (p : Path) → Fills p (λ (d : Data) (u : Unit {0}). Unit {0}) (λ u. Any u)
-unread_fills p = record { tells = λ d clean. record { is = tt; says = tt; only = λ b h. refl; lawful = tt } }
+abbrev tenor_reads : Whole tenor.says IsLawfulTenor
+tenor_reads =
+    whole (one "periodMultiplier" multipliers
+    also one "period" tenor_units) _ (λ s t. (refl, refl, λ l. assumption))
 
 -- an offset
-offset_fills : (p : Path) → LeafRow p "periodMultiplier" Leaf.OffsetDays → FreeRow p "dayType" Leaf.DayType
-    → Fills p offset.says IsLawfulOffset
-offset_fills p count kind =
-    shaped (leaf_one p "periodMultiplier" offsets count ⊗ unread_fills p
-    ⊗ leaf_or p "dayType" Unsaid tt (plain Leaf.DayType Codes.day_kind_at (λ s. refl)) kind)
-    _ _ (λ s. refl) (λ t. refl) (λ t l. assumption)
+abbrev offset_reads : Whole offset.says IsLawfulOffset
+offset_reads =
+    whole (one "periodMultiplier" offsets
+    also unread
+    also or "dayType" (any Leaf.DayType (λ s. refl)) Unsaid tt) _ (λ s t. (refl, refl, λ l. assumption))
 
 -- ---- adjustments
+
+-- a list of centres
+abbrev list_reads : Whole center_list.says IsLawfulNames
+list_reads = record {
+  Facts = RowFacts × ℕ;
+  found = λ p. (facts p (row_of ("businessCenter" ∷ p)), most_of ("businessCenter" ∷ p));
+  stated = λ p. ((true, (true, (Some Leaf.CenterName, codes "businessCenter"))), most_centers);
+  tells = λ p e d clean. by_field (λ a. a) ((list_fills p (ap (λ t. t.0) e, ap (λ t. t.1) e)).tells d clean);
+}
 
 -- the centres that a reference to one of these lists names
 named_told : (lists : List (Option Data)) → GoodLists lists → (ref : Option Data)
@@ -75,332 +79,216 @@ named_told lists g None = tt
 named_told lists g (Some r) =
     member_tells _ _ _ _ (λ a l. l) (one_good (href_of r) lists g) (λ e. just Dangling tt)
 
+-- those of the list that stands here, if no list is referenced
+abbrev listed_reads : Whole (λ d. Says (once (codes "businessCenters") d) center_list.says Listed (λ c. c ≡ Absent))
+    IsLawfulCenters
+listed_reads = member "businessCenters" list_reads Listed (λ a l. l) (always (λ d. Absent) (λ d. tt))
+
 -- the centres of adjustments
-centers_fills : (lists : List (Option Data)) → GoodLists lists → (p : Path) → AdjustingRows p
-    → Fills p (centers lists).says IsLawfulCenters
-centers_fills lists g p at = record {
-  tells = λ d clean.
-      member_tells _ _ _ (once (codes "businessCentersReference") d) (λ a l. l) (named_told lists g _)
-      (λ e. member_tells _ Listed _ _ (λ a l. l) (good_below p at (Some d) clean) (λ f. just Absent tt));
+abbrev centers_reads : (lists : List (Option Data)) → GoodLists lists → Whole (centers lists).says IsLawfulCenters
+centers_reads lists g = record {
+  Facts = listed_reads.Facts;
+  found = listed_reads.found;
+  stated = listed_reads.stated;
+  tells = λ p e d clean.
+      by_field (λ c. c) (member_tells _ _ _ (once (codes "businessCentersReference") d) (λ a l. l)
+      (named_told lists g _) (λ none. (filled listed_reads p e).tells d clean));
 }
 
 -- adjustments with lawful centres
-abbrev LawfulAdjustments : Adjustments → Type 0
-LawfulAdjustments a = IsLawfulCenters a.centers
+abbrev adjusting_reads : (lists : List (Option Data)) → GoodLists lists
+    → Whole (adjusting lists).says (λ (a : Adjustments). IsLawfulCenters a.centers)
+adjusting_reads lists g =
+    whole (one "businessDayConvention" (any Leaf.Convention (λ s. refl))
+    also centers_reads lists g gives (λ (a : Adjustments). a.centers)) _ (λ s t. (refl, refl, λ l. assumption))
 
-adjusting_fills : (lists : List (Option Data)) → GoodLists lists → (p : Path) → AdjustingRows p
-    → Fills p (adjusting lists).says LawfulAdjustments
-adjusting_fills lists g p at =
-    shaped (leaf_one p "businessDayConvention" (plain Leaf.Convention Codes.convention_at (λ s. refl)) at.0
-    ⊗ centers_fills lists g p at)
-    _ _ (λ s. refl) (λ t. refl) (λ t l. assumption)
+-- a date with its adjustments
+abbrev dated_reads : (lists : List (Option Data)) → GoodLists lists
+    → Whole (adjustable lists).says IsLawfulAdjustableDate
+dated_reads lists g =
+    whole (one "unadjustedDate" dates
+    also one "dateAdjustments" (adjusting_reads lists g)) _ (λ s t. (refl, refl, λ l. assumption))
 
--- what the table says of a date with adjustments at the end of a path
-abbrev DatedRows : Path → Type 0
-DatedRows p = LeafRow p "unadjustedDate" Leaf.Date × Must p "dateAdjustments" × AdjustingRows ("dateAdjustments" ∷ p)
-
-dated_fills : (lists : List (Option Data)) → GoodLists lists → (p : Path) → DatedRows p
-    → Fills p (adjustable lists).says IsLawfulAdjustableDate
-dated_fills lists g p at =
-    shaped (leaf_one p "unadjustedDate" dates at.0
-    ⊗ one_fills p "dateAdjustments" (adjustments lists) at.1 (adjusting_fills lists g ("dateAdjustments" ∷ p) at.2))
-    _ _ (λ s. refl) (λ t. refl) (λ t l. assumption)
-
--- adjustments that may be absent
-adjustments_or : (lists : List (Option Data)) → GoodLists lists → (p : Path) (name : String) → May p name
-    → AdjustingRows (name ∷ p) → Fills p (or_by name (adjustments lists) (λ _. unadjusted)).says LawfulAdjustments
-adjustments_or lists g p name row at =
-    or_fills p name (adjustments lists) (λ _. unadjusted) (λ _. tt) row (adjusting_fills lists g (name ∷ p) at)
-
--- a reference to the target, which may be absent
-reference_fills : (p : Path) (name : String) (target : Option Data) → May p name
-    → Fills p (or_by name (reference target) (λ _. NoReference)).says (λ r. Any r)
-reference_fills p name target row =
-    or_fills p name (reference target) (λ _. NoReference) (λ _. tt) row (record { tells = λ d clean. just _ tt })
+-- a reference to the target
+abbrev reference_reads : (target : Option Data) → Whole (reference target).says (λ r. Any r)
+reference_reads target = always (λ x. if has_id (href_of x) target then Good else NoTarget) (λ x. tt)
 
 -- ---- payments and resets
 
-pay_fills : (lists : List (Option Data)) → GoodLists lists → (target : Option Data)
-    → Fills ("paymentDates" ∷ []) (payment_dates lists target).says IsLawfulPay
-unfolding facts row_of most_of
-pay_fills lists g target =
-    let p : Path = "paymentDates" ∷ [] in
-    shaped (reference_fills p "calculationPeriodDatesReference" target refl
-    ⊗ one_fills p "paymentFrequency" (holds object frequency) refl (frequency_fills ("paymentFrequency" ∷ p) refl refl)
-    ⊗ leaf_maybe p "firstPaymentDate" dates refl
-    ⊗ leaf_maybe p "lastRegularPaymentDate" dates refl
-    ⊗ leaf_one p "payRelativeTo" (plain Leaf.PayRelative Codes.relative_at (λ s. refl)) refl
-    ⊗ or_fills p "paymentDaysOffset" (holds object offset) (λ _. record { days = pos 0; kind = Unsaid })
-    (λ _. omega arith) refl (offset_fills ("paymentDaysOffset" ∷ p) refl refl)
-    ⊗ adjustments_or lists g p "paymentDatesAdjustments" refl (refl, refl, (refl, refl)))
-    _ _ (λ s. refl) (λ t. refl) (λ t l. assumption)
+-- `paymentDates`
+abbrev pay_reads : (lists : List (Option Data)) → GoodLists lists → (target : Option Data)
+    → Whole (payment_dates lists target).says IsLawfulPay
+pay_reads lists g target =
+    whole (or "calculationPeriodDatesReference" (reference_reads target) NoReference tt
+    also one "paymentFrequency" frequency_reads
+    also maybe "firstPaymentDate" dates
+    also maybe "lastRegularPaymentDate" dates
+    also one "payRelativeTo" (any Leaf.PayRelative (λ s. refl))
+    also or "paymentDaysOffset" offset_reads (record { days = pos 0; kind = Unsaid }) (omega arith)
+    also or "paymentDatesAdjustments" (adjusting_reads lists g) unadjusted tt) _ (λ s t. (refl, refl, λ l. assumption))
 
 -- `fixingDates`
-abbrev fixings_path : Path
-fixings_path = "fixingDates" ∷ resets_path
+abbrev fixing_reads : (lists : List (Option Data)) → GoodLists lists → (target : Option Data)
+    → Whole (fixing_dates lists target).says (λ (f : FixTerms × RefState). IsLawfulFix f.0)
+fixing_reads lists g target =
+    whole (offset_reads gives (λ (f : FixTerms × RefState). f.0.offset)
+    also adjusting_reads lists g gives (λ (f : FixTerms × RefState). f.0.adj)
+    also or "dateRelativeTo" (reference_reads target) NoReference tt) _ (λ s t. (refl, refl, λ l. assumption))
 
-fixing_fills : (lists : List (Option Data)) → GoodLists lists → (target : Option Data)
-    → Fills fixings_path (fixing_dates lists target).says (λ (f : FixTerms × RefState). IsLawfulFix f.0)
-unfolding facts row_of most_of
-fixing_fills lists g target =
-    shaped (offset_fills fixings_path refl refl
-    ⊗ adjusting_fills lists g fixings_path (refl, refl, (refl, refl))
-    ⊗ reference_fills fixings_path "dateRelativeTo" target refl)
-    _ _ (λ s. refl) (λ t. refl) (λ t l. assumption)
+-- fixing dates, which refer to the resets that they are in
+abbrev fixings_reads : (lists : List (Option Data)) → GoodLists lists
+    → Reads {A = Option FixTerms × RefState} (λ (r : ResetTerms). (r.fixing, r.fixing_ref)) (fixings lists).says
+    (λ (f : Option FixTerms × RefState). IfSome f.0 IsLawfulFix)
+fixings_reads lists g = record {
+  Facts = RowFacts × (fixing_reads lists g None).Facts;
+  found = λ p. (facts p (row_of ("fixingDates" ∷ p)), (fixing_reads lists g None).found ("fixingDates" ∷ p));
+  stated = λ p. (named p "fixingDates" false, (fixing_reads lists g None).stated ("fixingDates" ∷ p));
+  tells = λ p e d clean.
+      by_field {A = Option FixTerms × RefState} (λ (r : ResetTerms). (r.fixing, r.fixing_ref))
+      (member_tells _ _ _ _ (λ a l. l)
+      (told (filled (fixing_reads lists g (Some d)) ("fixingDates" ∷ p) (ap (λ t. t.1) e)) _
+      (perhaps p "fixingDates" (ap (λ t. t.0) e) d clean))
+      (λ none. just (None, NoReference) tt));
+}
 
--- what holds of fixing dates, if they are there
-abbrev LawfulFixings : Option FixTerms × RefState → Type 0
-LawfulFixings f = IfSome f.0 IsLawfulFix
-
-reset_fills : (lists : List (Option Data)) → GoodLists lists → (target : Option Data)
-    → Fills resets_path (reset_dates lists target).says IsLawfulReset
-unfolding facts row_of most_of
-reset_fills lists g target =
-    let p = resets_path in
-    let fixing : Fills p (FixingsSaid lists) LawfulFixings =
-    record {
-      tells = λ d clean.
-          member_tells _ _ _ _ (λ a l. l)
-          (told (fixing_fills lists g (Some d)) _ (perhaps p "fixingDates" refl d clean))
-          (λ e. just (None, NoReference) tt);
-    } in
-    shaped (reference_fills p "calculationPeriodDatesReference" target refl
-    ⊗ leaf_or p "resetRelativeTo" Start tt (plain Leaf.ResetRelative Codes.relative_at (λ s. refl)) refl
-    ⊗ fixing
-    ⊗ one_fills p "resetFrequency" (holds object frequency) refl (frequency_fills ("resetFrequency" ∷ p) refl refl)
-    ⊗ adjustments_or lists g p "resetDatesAdjustments" refl (refl, refl, (refl, refl)))
-    _ _ (λ s. refl) (λ t. refl) (λ t l. assumption)
+-- `resetDates`
+abbrev reset_reads : (lists : List (Option Data)) → GoodLists lists → (target : Option Data)
+    → Whole (reset_dates lists target).says IsLawfulReset
+reset_reads lists g target =
+    whole (or "calculationPeriodDatesReference" (reference_reads target) NoReference tt
+    also or "resetRelativeTo" (any Leaf.ResetRelative (λ s. refl)) Start tt
+    also fixings_reads lists g
+    also one "resetFrequency" frequency_reads
+    also or "resetDatesAdjustments" (adjusting_reads lists g) unadjusted tt) _ (λ s t. (refl, refl, λ l. assumption))
 
 -- ---- schedules
 
--- what the table says of a schedule at the end of a path
-abbrev ScheduleRows : LeafKind → Path → Type 0
-ScheduleRows kind p =
-    LeafRow p "initialValue" kind × May p "step" × LeafRow ("step" ∷ p) "stepDate" Leaf.Date
-    × LeafRow ("step" ∷ p) "stepValue" kind × (most_of ("step" ∷ p) ≡ most_steps)
-
 -- a step with a day in range and a value in its range
-abbrev LawfulStep : (ℤ → Type 0) → Step → Type 0
-LawfulStep L s = IsDay s.day × L s.value
+abbrev step_reads : {L : ℤ → Type 0} (number : Value ℤ) → Whole number.says L
+    → Whole (step number).says (λ (s : Step). IsDay s.day × L s.value)
+step_reads number values =
+    whole (one "stepDate" dates also one "stepValue" values) _ (λ s t. (refl, refl, λ l. assumption))
 
-step_fills : {kind : LeafKind} {at : List ℕ → Option ℤ} {L : ℤ → Type 0} → LeafIs kind at L → (p : Path)
-    → LeafRow p "stepDate" Leaf.Date → LeafRow p "stepValue" kind → Fills p (step (text kind at)).says (LawfulStep L)
-step_fills {L = L} leaf p day value =
-    shaped (leaf_one p "stepDate" dates day ⊗ leaf_one p "stepValue" leaf value)
-    _ _ (λ s. refl) (λ t. refl) (λ t l. assumption)
+-- a schedule
+abbrev schedule_reads : {L : ℤ → Type 0} (number : Value ℤ) → Whole number.says L
+    → Whole (schedule number).says (IsLawfulValues L)
+schedule_reads number values =
+    whole (one "initialValue" values
+    also each "step" most_steps (step_reads number values)) _ (λ s t. (refl, refl, λ l. assumption))
 
--- steps in their ranges, and not too many
-abbrev LawfulSteps : (ℤ → Type 0) → List Step → Type 0
-LawfulSteps L steps = (length steps ≤ most_steps) × All (LawfulStep L) steps
-
-schedule_fills : {kind : LeafKind} {at : List ℕ → Option ℤ} {L : ℤ → Type 0} → LeafIs kind at L → (p : Path)
-    → ScheduleRows kind p → Fills p (schedule (text kind at)).says (IsLawfulValues L)
-schedule_fills {kind = kind} {at = at} {L = L} leaf p rows =
-    shaped (leaf_one p "initialValue" leaf rows.0
-    ⊗ each_fills {M = LawfulSteps L} p "step" (UpTo most_steps) (step (text kind at)) rows.1
-    (λ d clean all h. let high = (fine p "step" rows.1 d clean).0 in (omega (arith, h.many, high, rows.4), h.each))
-    (step_fills leaf ("step" ∷ p) rows.2 rows.3))
-    _ _ (λ s. refl) (λ t. refl) (λ t l. assumption)
-
--- a schedule of rates that may be absent, and then a value without steps
-schedule_or : (z : ℤ) → IsRate z → (p : Path) (name : String) → May p name → ScheduleRows Leaf.Rate (name ∷ p)
-    → Fills p (or_by name (holds object (schedule rate)) (λ _. always z)).says (IsLawfulValues IsRate)
-schedule_or z lawful p name row rows =
-    or_fills p name (holds object (schedule rate)) (λ _. always z)
-    (λ _. (lawful, omega arith, λ k d lt. absurd (omega (arith, lt)))) row (schedule_fills rates (name ∷ p) rows)
+-- one rate is lawful
+constant_lawful : (z : ℤ) → IsRate z → IsLawfulValues IsRate (constant z)
+constant_lawful z lawful = (lawful, omega arith, λ k d lt. absurd (omega (arith, lt)))
 
 -- ---- rates
 
--- what the table says of an index with its tenor at the end of a path
-abbrev IndexedRows : Path → Type 0
-IndexedRows p =
-    LeafRow p "floatingRateIndex" Leaf.IndexName × May p "indexTenor"
-    × LeafRow ("indexTenor" ∷ p) "periodMultiplier" Leaf.Multiplier × LeafRow ("indexTenor" ∷ p) "period" Leaf.TenorUnit
-
--- an index and its tenor are lawful
-abbrev LawfulIndexed : List ℕ × Option Frequency → Type 0
-LawfulIndexed i = IsLawfulIndex i.0 × IfSome i.1 IsLawfulTenor
-
-indexed_fills : (p : Path) → IndexedRows p → Fills p indexed.says LawfulIndexed
-indexed_fills p rows =
-    leaf_one p "floatingRateIndex" indices rows.0
-    ⊗ maybe_fills p "indexTenor" (holds object tenor) rows.1 (tenor_fills ("indexTenor" ∷ p) rows.2 rows.3)
-
--- `calculation`
-abbrev calculation_path : Path
-calculation_path = "calculation" ∷ "calculationPeriodAmount" ∷ []
-
--- `floatingRateCalculation`
-abbrev floating_path : Path
-floating_path = "floatingRateCalculation" ∷ calculation_path
-
--- `calculationParameters`
-abbrev parameters_path : Path
-parameters_path = "calculationParameters" ∷ floating_path
+-- an index with its tenor
+abbrev indexed_reads : Whole indexed.says
+    (λ (i : List ℕ × Option Frequency). IsLawfulIndex i.0 × IfSome i.1 IsLawfulTenor)
+indexed_reads =
+    whole (one "floatingRateIndex" (leaf indices)
+    also maybe "indexTenor" tenor_reads) _ (λ s t. (refl, refl, λ l. assumption))
 
 -- a rounding to at most 9 decimals
-rounding_fills : Fills ("finalRateRounding" ∷ floating_path) rounding_read.says (λ (r : Rounding). r.places ≤ 9)
-unfolding facts row_of
-rounding_fills =
-    let p = "finalRateRounding" ∷ floating_path in
-    shaped (leaf_one p "roundingDirection" (plain Leaf.Direction Codes.direction_at (λ s. refl)) refl
-    ⊗ leaf_one p "precision" precisions refl)
-    _ _ (λ s. refl) (λ t. refl) (λ t l. assumption)
+abbrev rounding_reads : Whole rounding.says (λ (r : Rounding). r.places ≤ 9)
+rounding_reads =
+    whole (one "roundingDirection" (any Leaf.Direction (λ s. refl))
+    also one "precision" precisions) _ (λ s t. (refl, refl, λ l. assumption))
 
 few_places : (stated : Option Data) → places_by stated ≤ 9
 few_places None = omega arith
 few_places (Some d) = omega arith
 
--- one of the members of `calculationParameters` that say days, or what is said where it is absent
-observing_by : (name : String) (make : ℕ → ObservationOffset) (other : Data → ObservationOffset → Type 0)
-    → May parameters_path name → LeafRow (name ∷ parameters_path) "offsetDays" Leaf.ObservationDays
-    → ((n : ℕ) → IsObservationDays n → IsLawfulObservationOffset (make n))
-    → Fills parameters_path other IsLawfulObservationOffset
-    → Fills parameters_path (λ d. Says (once (codes name) d) observed.says make (other d)) IsLawfulObservationOffset
-observing_by name make other row days lawful rest =
-    member_fills parameters_path name observed make other row lawful
-    (leaf_one (name ∷ parameters_path) "offsetDays" observations days) (λ d clean e. rest.tells d clean)
+-- an observation shift, a lookback or a lockout
+abbrev observing_reads : Whole observing.says IsLawfulObservationOffset
+observing_reads =
+    let days = one "offsetDays" observations in
+    member "observationShift" days Shift (λ n h. h)
+    (member "lookback" days Lookback (λ n h. h)
+    (member "lockout" days Lockout (λ n h. h) (always (λ d. NoOffset) (λ d. tt))))
 
-observing_fills : Fills parameters_path observing.says IsLawfulObservationOffset
-unfolding facts row_of
-observing_fills =
-    observing_by "observationShift" Shift _ refl refl (λ n h. h)
-    (observing_by "lookback" Lookback _ refl refl (λ n h. h)
-    (observing_by "lockout" Lockout _ refl refl (λ n h. h) (record { tells = λ d clean. just NoOffset tt })))
+-- `calculationParameters`
+abbrev parameters_reads : Whole parameters.says IsLawfulParameters
+parameters_reads =
+    whole (one "calculationMethod" (any Leaf.CalculationMethod (λ s. refl))
+    also observing_reads gives (λ (p : CalculationParameters). p.offset)
+    also one "applicableBusinessDays" list_reads) _ (λ s t. (refl, refl, λ l. assumption))
 
-parameters_fills : Fills parameters_path parameters.says IsLawfulParameters
-unfolding facts row_of most_of
-parameters_fills =
-    let p = parameters_path in
-    shaped (leaf_one p "calculationMethod" (plain Leaf.CalculationMethod Codes.calculation_method_at (λ s. refl)) refl
-    ⊗ observing_fills
-    ⊗ one_fills p "applicableBusinessDays" center_list refl (list_fills ("applicableBusinessDays" ∷ p) (refl, refl)))
-    _ _ (λ s. refl) (λ t. refl) (λ t l. assumption)
-
-floating_fills : Fills floating_path floating.says IsLawfulFloat
-unfolding facts row_of most_of
-floating_fills =
-    let p = floating_path in
-    shaped (indexed_fills p (refl, refl, refl, refl)
-    ⊗ schedule_or (pos 1_000_000_000) (omega arith) p "floatingRateMultiplierSchedule" refl
-    (refl, refl, refl, refl, refl)
-    ⊗ schedule_or (pos 0) (omega arith) p "spreadSchedule" refl (refl, refl, refl, refl, refl)
-    ⊗ leaf_maybe p "initialRate" rates refl
-    ⊗ or_fills p "finalRateRounding" rounding_read
-    (λ d. record { dir = Nearest; places = places_by (once (codes "calculationParameters") d) })
-    (λ d. few_places (once (codes "calculationParameters") d)) refl rounding_fills
-    ⊗ leaf_or p "negativeInterestRateTreatment" AsIs tt (plain Leaf.Treatment Codes.treatment_at (λ s. refl)) refl
-    ⊗ maybe_fills p "calculationParameters" parameters refl parameters_fills)
-    _ _ (λ s. refl) (λ t. refl) (λ t l. assumption)
+-- `floatingRateCalculation`
+abbrev floating_reads : Whole floating.says IsLawfulFloat
+floating_reads =
+    whole (indexed_reads gives (λ (f : FloatTerms). (f.index, f.tenor))
+    also or "floatingRateMultiplierSchedule" (schedule_reads rate rates) _
+    (constant_lawful (pos 1_000_000_000) (omega arith))
+    also or "spreadSchedule" (schedule_reads rate rates) _ (constant_lawful (pos 0) (omega arith))
+    also maybe "initialRate" rates
+    also member "finalRateRounding" rounding_reads (λ r. r) (λ r l. l)
+    (always (λ d. record { dir = Nearest; places = places_by (once (codes "calculationParameters") d) })
+    (λ d. few_places (once (codes "calculationParameters") d)))
+    also or "negativeInterestRateTreatment" (any Leaf.Treatment (λ s. refl)) AsIs tt
+    also maybe "calculationParameters" parameters_reads) _ (λ s t. (refl, refl, λ l. assumption))
 
 -- ---- legs and stubs
 
--- the object at the end of a path has exactly one of two members
-abbrev ChoiceIs : Path → String → String → Type 0
-ChoiceIs p a b = kind_at (slice_get ROWS (row_of p)) ≡ Some (Object (ExactlyOne (row_of (a ∷ p)) (row_of (b ∷ p))))
+-- a fixed or a floating leg
+abbrev leg_reads : Whole leg.says IsLawfulLeg
+leg_reads =
+    either false "floatingRateCalculation" floating_reads Floating (λ a l. l)
+    "fixedRateSchedule" (schedule_reads rate rates) Fixed (λ b l. l)
 
--- so not both are absent
-one_there : {k l : Option LeafKind} (p : Path) (a b : String) → RowIs p a false k → RowIs p b false l → ChoiceIs p a b
-    → (d : Data) → At p d → once (codes a) d ≡ None → once (codes b) d ≡ None → ⊥
-one_there p a b first second choice d clean e f =
-    either_there ROWS row_names (row_of p) (row_of (a ∷ p)) (row_of (b ∷ p)) d choice clean.clean
-    (ap (λ (n : List ℕ). once n d) (is_named p a first) ∙ e) (ap (λ (n : List ℕ). once n d) (is_named p b second) ∙ f)
+-- the rate of a stub
+abbrev stub_reads : Whole stub.says IsLawfulStubRate
+stub_reads =
+    either true "floatingRate" indexed_reads (λ (i : List ℕ × Option Frequency). Index i.0 i.1) (λ a l. l)
+    "stubRate" rates FixedStub (λ b l. l)
 
--- one of two members, each of which gives the value in its way
-either_fills : {A B C : Type 0} {L : A → Type 0} {M : B → Type 0} {N : C → Type 0} {k l : Option LeafKind} (p : Path)
-    (a : String) (v : Value A) (make : A → C) (b : String) (w : Value B) (build : B → C) → RowIs p a false k
-    → RowIs p b false l → ((x : A) → L x → N (make x)) → ((y : B) → M y → N (build y)) → Fills (a ∷ p) v.says L
-    → Fills (b ∷ p) w.says M → ((d : Data) → At p d → once (codes a) d ≡ None → once (codes b) d ≡ None → ⊥)
-    → Fills p (either_member a v make b w build).says N
-either_fills {L = L} {M = M} {N = N} p a v make b w build first second f g s t some =
-    member_fills p a v make _ first f s (λ d clean e.
-    member_tells w.says build _ _ g (told t _ (perhaps p b second d clean)) (λ f. absurd (some d clean e f)))
+-- `stubCalculationPeriodAmount`
+abbrev stubs_reads : (target : Option Data) → Whole (stubs target).says IsLawfulStubs
+stubs_reads target =
+    whole (or "calculationPeriodDatesReference" (reference_reads target) NoReference tt
+    also maybe "initialStub" stub_reads
+    also maybe "finalStub" stub_reads) _ (λ s t. (refl, refl, λ l. assumption))
 
-leg_fills : Fills calculation_path leg.says IsLawfulLeg
-unfolding facts row_of most_of
-leg_fills =
-    let p = calculation_path in
-    either_fills p "floatingRateCalculation" floating
-    Floating "fixedRateSchedule" (holds object (schedule rate)) Fixed refl refl (λ a l. l) (λ b l. l) floating_fills
-    (schedule_fills rates ("fixedRateSchedule" ∷ p) (refl, refl, refl, refl, refl))
-    (λ d clean e f. one_there p "fixedRateSchedule" "floatingRateCalculation" refl refl refl d clean f e)
-
--- what the table says of a stub at the end of a path
-abbrev StubRows : Path → Type 0
-StubRows p = May p "floatingRate" × FreeRow p "stubRate" Leaf.Rate × IndexedRows ("floatingRate" ∷ p)
-
-stub_fills : (p : Path) → StubRows p → ChoiceIs p "floatingRate" "stubRate" → Fills p stub.says IsLawfulStubRate
-stub_fills p rows choice =
-    either_fills {L = LawfulIndexed} {M = IsRate} {N = IsLawfulStubRate} p "floatingRate" (holds object indexed)
-    (λ (i : List ℕ × Option Frequency). Index i.0 i.1) "stubRate" rate FixedStub rows.0 rows.1 (λ a l. l) (λ b l. l)
-    (indexed_fills ("floatingRate" ∷ p) rows.2) (leaf_fills ("stubRate" ∷ p) rates (is_leaf p "stubRate" rows.1))
-    (one_there p "floatingRate" "stubRate" rows.0 rows.1 choice)
-
-stubs_fills : (target : Option Data) → Fills ("stubCalculationPeriodAmount" ∷ []) (stubs target).says IsLawfulStubs
-unfolding facts row_of
-stubs_fills target =
-    let p : Path = "stubCalculationPeriodAmount" ∷ [] in
-    shaped (reference_fills p "calculationPeriodDatesReference" target refl
-    ⊗ maybe_fills p "initialStub" stub refl (stub_fills ("initialStub" ∷ p) (refl, refl, (refl, refl, refl, refl)) refl)
-    ⊗ maybe_fills p "finalStub" stub refl (stub_fills ("finalStub" ∷ p) (refl, refl, (refl, refl, refl, refl)) refl))
-    _ _ (λ s. refl) (λ t. refl) (λ t l. assumption)
-
-exchanges_fills : Fills ("principalExchanges" ∷ []) exchanges.says (λ e. Any e)
-unfolding facts row_of
-exchanges_fills =
-    let p : Path = "principalExchanges" ∷ [] in
-    let flags = plain Leaf.Truth Codes.truth_at (λ s. refl) in
-    shaped (leaf_one p "initialExchange" flags refl ⊗ leaf_one p "finalExchange" flags refl
-    ⊗ leaf_one p "intermediateExchange" flags refl)
-    _ _ (λ s. refl) (λ t. refl) (λ t l. assumption)
+-- `principalExchanges`
+abbrev exchanges_reads : Whole exchanges.says (λ e. Any e)
+exchanges_reads =
+    let flags = any Leaf.Truth (λ s. refl) in
+    whole (one "initialExchange" flags
+    also one "finalExchange" flags
+    also one "intermediateExchange" flags) _ (λ s t. (refl, refl, λ l. assumption))
 
 -- ---- streams
+
+-- a stream
+abbrev stream_reads : (lists : List (Option Data)) → GoodLists lists → (target : Option Data)
+    → Whole (stream_by lists target).says IsLawfulStream
+stream_reads lists g target =
+    whole (one "calculationPeriodDates" (
+    (one "effectiveDate" (dated_reads lists g)
+    also one "terminationDate" (dated_reads lists g)
+    also one "calculationPeriodDatesAdjustments" (adjusting_reads lists g)
+    also maybe "firstPeriodStartDate" (dated_reads lists g)
+    also maybe "firstRegularPeriodStartDate" dates
+    also maybe "lastRegularPeriodEndDate" dates
+    also maybe "stubPeriodType" (any Leaf.StubType (λ s. refl)))
+    also one "calculationPeriodFrequency" (frequency_reads gives (λ (s : Stream). s.freq)
+    also one "rollConvention" rolls))
+    also one "paymentDates" (pay_reads lists g target)
+    also maybe "resetDates" (reset_reads lists g target)
+    also one "calculationPeriodAmount" (one "calculation" (
+    one "notionalSchedule" (one "notionalStepSchedule" (
+    schedule_reads notional notionals gives (λ (s : Stream). s.notional)
+    also one "currency" currencies))
+    also leg_reads gives (λ (s : Stream). s.leg)
+    also one "dayCountFraction" (any Leaf.DayCount (λ s. refl))
+    also or "compoundingMethod" (any Leaf.Compounding (λ s. refl)) Simple tt))
+    also maybe "stubCalculationPeriodAmount" (stubs_reads target)
+    also or "principalExchanges" exchanges_reads
+    (record { initial = false; intermediate = false; last = false }) tt) _ (λ s t. (refl, refl, λ l. assumption))
 
 -- a stream that breaks no rule says one stream, and that one is lawful
 pub stream_tells : (lists : List (Option Data)) → GoodLists lists → (d : Data) → At [] d
     → Tells (StreamSays lists d) IsLawfulStream
-unfolding facts row_of most_of
+unfolding StreamSays facts row_of most_of
 stream_tells lists g d clean =
-    let (x, (dates_is, dated)) = there [] "calculationPeriodDates" refl d clean in
-    let (y, (times_is, timed)) = there dates_path "calculationPeriodFrequency" refl x dated in
-    let (w, (amount_is, middle)) = there [] "calculationPeriodAmount" refl d clean in
-    let (z, (calculation_is, counted)) = there ("calculationPeriodAmount" ∷ []) "calculation" refl w middle in
-    let (m, (notional_is, inner)) = there calculation_path "notionalSchedule" refl z counted in
-    let (n, (steps_are, noted)) =
-    there ("notionalSchedule" ∷ calculation_path) "notionalStepSchedule" refl m inner in
-    let p = dates_path in
-    let target = Some x in
-    let period =
-    one_fills p "effectiveDate" (adjustable lists) refl
-    (dated_fills lists g ("effectiveDate" ∷ p) (refl, refl, (refl, refl, (refl, refl))))
-    ⊗ one_fills p "terminationDate" (adjustable lists) refl
-    (dated_fills lists g ("terminationDate" ∷ p) (refl, refl, (refl, refl, (refl, refl))))
-    ⊗ one_fills p "calculationPeriodDatesAdjustments" (adjustments lists) refl
-    (adjusting_fills lists g ("calculationPeriodDatesAdjustments" ∷ p) (refl, refl, (refl, refl)))
-    ⊗ maybe_fills p "firstPeriodStartDate" (adjustable lists) refl
-    (dated_fills lists g ("firstPeriodStartDate" ∷ p) (refl, refl, (refl, refl, (refl, refl))))
-    ⊗ leaf_maybe p "firstRegularPeriodStartDate" dates refl
-    ⊗ leaf_maybe p "lastRegularPeriodEndDate" dates refl
-    ⊗ leaf_maybe p "stubPeriodType" (plain Leaf.StubType Codes.stub_kind_at (λ s. refl)) refl in
-    let q : Path = "calculationPeriodFrequency" ∷ p in
-    let times = frequency_fills q refl refl ⊗ leaf_one q "rollConvention" rolls refl in
-    let r : Path = "notionalStepSchedule" ∷ "notionalSchedule" ∷ calculation_path in
-    let noting =
-    schedule_fills notionals r (refl, refl, refl, refl, refl) ⊗ leaf_one r "currency" currencies refl in
-    let counting =
-    leg_fills
-    ⊗ leaf_one calculation_path "dayCountFraction" (plain Leaf.DayCount Codes.day_count_at (λ s. refl)) refl
-    ⊗ leaf_or calculation_path "compoundingMethod" Simple tt (plain Leaf.Compounding Codes.compounding_at (λ s. refl))
-    refl in
-    let whole =
-    one_fills [] "paymentDates" (payment_dates lists target) refl (pay_fills lists g target)
-    ⊗ maybe_fills [] "resetDates" (reset_dates lists target) refl (reset_fills lists g target)
-    ⊗ maybe_fills [] "stubCalculationPeriodAmount" (stubs target) refl (stubs_fills target)
-    ⊗ or_fills [] "principalExchanges" exchanges
-    (λ _. record { initial = false; intermediate = false; last = false }) (λ _. tt) refl exchanges_fills in
-    let i : Inside d x y w z m n = (dates_is, times_is, amount_is, calculation_is, notional_is, steps_are) in
-    let parts : Tells (StreamParts lists d x y z n) IsLawfulStream =
-    shape (both (period.tells x dated) (both (times.tells y timed) (both (noting.tells n noted)
-    (both (counting.tells z counted) (whole.tells d clean)))))
-    _ _ (λ s. refl) (λ t. refl) (λ t l. assumption) in
-    parts_tell lists i parts
+    (filled (stream_reads lists g (once (codes "calculationPeriodDates") d)) [] refl).tells d clean

@@ -5,9 +5,9 @@ use Rattle.irs_elements.specs.{Elements.once, Elements.values_in, Leaves.has_val
 use Rattle.irs_elements.specs.{Leaves.text_of_leaf, declared.table.Count.Count, declared.table.Leaf.Leaf as LeafKind}
 use Rattle.irs_json.specs.Leaves.{child_of}
 use Rattle.irs_read.proofs.Clean.{Fine, clean_leaf, clean_once, clean_there, fine_values, first_value, leaf_at}
-use Rattle.irs_read.proofs.Rows.{At, AtMost, FreeRow, LeafRow, Path, RowIs, is_leaf, is_member, is_named, is_needed}
+use Rattle.irs_read.proofs.Rows.{At, AtMost, Path, RowIs, is_member, is_named, is_needed}
 use Rattle.irs_read.proofs.{Rows.most_of, Rows.row_of, TableLaws.code_names as row_names}
-use Rattle.irs_read.specs.Readings.{Says, Value, each, maybe, one, or_by, said, text}
+use Rattle.irs_read.specs.Readings.{Says, Value, each, said, text}
 use Rattle.irs_read.specs.declared.table.TheConstants.{ROWS}
 use Rattle.serde_json.specs.Data.{Data}
 use Rattle.std.proofs.Common.{None, IfSome, is_some, slice_get, All, codes, refl, sym, ap, subst, ◌∙◌, arith, ◌≡◌, ℕ}
@@ -30,25 +30,9 @@ pub record Fills {A : Type 0} (p : Path) (P : Data → A → Type 0) (L : A → 
 abbrev pub Any : {A : Type 0} → A → Type 0
 Any a = Unit {0}
 
--- ---- several values
+-- ---- one value
 
--- two that are said
-pub both : {A B : Type 0} {P L : A → Type 0} {Q M : B → Type 0} → Tells P L → Tells Q M
-    → Tells (λ (t : A × B). P t.0 × Q t.1) (λ (t : A × B). L t.0 × M t.1)
-both s t = record {
-  is = (s.is, t.is);
-  says = (s.says, t.says);
-  only = λ b h. λ i. (s.only b.0 h.0 i, t.only b.1 h.1 i);
-  lawful = (s.lawful, t.lawful);
-}
-
-infixr 30 ◌⊗◌
--- two that an object says
-pub ◌⊗◌ : {A B : Type 0} {p : Path} {P : Data → A → Type 0} {L : A → Type 0} {Q : Data → B → Type 0} {M : B → Type 0}
-    → Fills p P L → Fills p Q M → Fills p (λ d (t : A × B). P d t.0 × Q d t.1) (λ (t : A × B). L t.0 × M t.1)
-f ⊗ g = record { tells = λ d clean. both (f.tells d clean) (g.tells d clean) }
-
--- the same of a struct with these fields
+-- a value that is told, as another that has the same parts
 pub shape : {S T : Type 0} {P L : T → Type 0} {M : S → Type 0} → Tells P L → (to : S → T) (from : T → S)
     → ((s : S) → from (to s) ≡ s) → ((t : T) → to (from t) ≡ t) → ((t : T) → L t → M (from t)) → Tells (λ s. P (to s)) M
 shape {P = P} h to from whole back lawful = record {
@@ -57,12 +41,6 @@ shape {P = P} h to from whole back lawful = record {
   only = λ s p. sym (whole s) ∙ ap from (h.only (to s) p);
   lawful = lawful h.is h.lawful;
 }
-
--- and of an object
-pub shaped : {S T : Type 0} {p : Path} {P : Data → T → Type 0} {L : T → Type 0} {M : S → Type 0} → Fills p P L
-    → (to : S → T) (from : T → S) → ((s : S) → from (to s) ≡ s) → ((t : T) → to (from t) ≡ t)
-    → ((t : T) → L t → M (from t)) → Fills p (λ d s. P d (to s)) M
-shaped f to from whole back lawful = record { tells = λ d clean. shape (f.tells d clean) to from whole back lawful }
 
 -- ---- what may be absent
 
@@ -110,35 +88,6 @@ perhaps p name row d clean =
     (clean_once ROWS row_names (row_of p) (row_of (name ∷ p)) d (is_member p name row) clean.clean)
     (λ x inner. record { clean = inner }))
 
--- what an object says by a member
-pub member_fills : {A B : Type 0} {L : A → Type 0} {M : B → Type 0} {must : Bool} {kind : Option LeafKind} (p : Path)
-    (name : String) (v : Value A) (make : A → B) (other : Data → B → Type 0) → RowIs p name must kind
-    → ((a : A) → L a → M (make a)) → Fills (name ∷ p) v.says L
-    → ((d : Data) → At p d → once (codes name) d ≡ None → Tells (other d) M)
-    → Fills p (λ d. Says (once (codes name) d) v.says make (other d)) M
-member_fills p name v make other row lawful f absent = record {
-  tells = λ d clean.
-      member_tells v.says make (other d) _ lawful (told f _ (perhaps p name row d clean)) (absent d clean);
-}
-
--- a member that occurs
-pub one_fills : {A : Type 0} {L : A → Type 0} {kind : Option LeafKind} (p : Path) (name : String) (v : Value A)
-    → RowIs p name true kind → Fills (name ∷ p) v.says L → Fills p (one name v).says L
-one_fills p name v row f =
-    member_fills p name v _ _ row (λ a l. l) f (λ d clean none. let (x, (e, inner)) = there p name row d clean in cc)
-
--- one that may be absent
-pub maybe_fills : {A : Type 0} {L : A → Type 0} {kind : Option LeafKind} (p : Path) (name : String) (v : Value A)
-    → RowIs p name false kind → Fills (name ∷ p) v.says L → Fills p (maybe name v).says (λ o. IfSome o L)
-maybe_fills p name v row f = member_fills p name v _ _ row (λ a l. l) f (λ d clean none. just None tt)
-
--- one that may be absent, and then the object has a value for it
-pub or_fills : {A : Type 0} {L : A → Type 0} {kind : Option LeafKind} (p : Path) (name : String) (v : Value A)
-    (absent : Data → A) → ((d : Data) → L (absent d)) → RowIs p name false kind → Fills (name ∷ p) v.says L
-    → Fills p (or_by name v absent).says L
-or_fills p name v absent lawful row f =
-    member_fills p name v _ _ row (λ a l. l) f (λ d clean none. just (absent d) (lawful d))
-
 -- ---- leaves
 
 some_is : {A : Type 0} (o : Option A) → is_some o ≡ true → (x : A) × (o ≡ Some x)
@@ -166,25 +115,6 @@ leaf_fills {A = A} {L = L} {kind = kind} {at = at} p leaf is = record {
         lawful = subst (λ (q : Option A). IfSome q L) e (leaf.range d);
       };
 }
-
--- one that must occur
-pub leaf_one : {A : Type 0} {L : A → Type 0} {kind : LeafKind} {at : List ℕ → Option A} (p : Path) (name : String)
-    → LeafIs kind at L → LeafRow p name kind → Fills p (one name (text kind at)).says L
-leaf_one {kind = kind} {at = at} p name leaf row =
-    one_fills p name (text kind at) row (leaf_fills (name ∷ p) leaf (is_leaf p name row))
-
--- one that may be absent
-pub leaf_maybe : {A : Type 0} {L : A → Type 0} {kind : LeafKind} {at : List ℕ → Option A} (p : Path) (name : String)
-    → LeafIs kind at L → FreeRow p name kind → Fills p (maybe name (text kind at)).says (λ o. IfSome o L)
-leaf_maybe {kind = kind} {at = at} p name leaf row =
-    maybe_fills p name (text kind at) row (leaf_fills (name ∷ p) leaf (is_leaf p name row))
-
--- one that may be absent, with a value where it is
-pub leaf_or : {A : Type 0} {L : A → Type 0} {kind : LeafKind} {at : List ℕ → Option A} (p : Path) (name : String)
-    (absent : A) → L absent → LeafIs kind at L → FreeRow p name kind
-    → Fills p (or_by name (text kind at) (λ _. absent)).says L
-leaf_or {kind = kind} {at = at} p name absent lawful leaf row =
-    or_fills p name (text kind at) (λ _. absent) (λ _. lawful) row (leaf_fills (name ∷ p) leaf (is_leaf p name row))
 
 -- ---- lists
 

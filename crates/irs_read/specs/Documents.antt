@@ -1,74 +1,69 @@
 -- A document: the way to its swap, the swap that it spells, and the rules that it breaks.
+use Prim.Native.String.{String}
 use Rattle.irs_base.specs.{Limits.most_streams, Outcomes.First, Outcomes.Spec}
-use Rattle.irs_elements.specs.Elements.{FaultAt, values_in, IsMemberRow, is_chosen, is_element, is_required, name_at}
-use Rattle.irs_elements.specs.Lines.{Line, Others, Table, others_at, table_names, table_rows}
-use Rattle.irs_elements.specs.declared.table.Choice.TheVariants.{ExactlyOne, Free, Reference, AtMostOne}
-use Rattle.irs_elements.specs.declared.table.{Choice.Choice, Choice.TheVariants.AtMostOneOfThree, Kind.Kind, Row.Row}
-use Rattle.irs_elements.specs.declared.table.{Kind.TheVariants.Object, Kind.TheVariants.Leaf, Leaf.Leaf as LeafKind}
-use Rattle.irs_elements.specs.{Elements.once, Elements.leaf_text_in, Leaves.has_value}
-use Rattle.irs_json.specs.Leaves.{element_names, child_of, items_of}
-use Rattle.irs_read.specs.{Readings.attribute, Readings.streams_in, StreamElements.stream_by, StreamElements.SwapSays}
+use Rattle.irs_elements.specs.Elements.{FaultAt, values_in}
+use Rattle.irs_elements.specs.Lines.{Table, others_at, table_names, table_rows}
+use Rattle.irs_elements.specs.declared.table.Choice.TheVariants.{AtMostOne, AtMostOneOfThree, ExactlyOne, Free}
+use Rattle.irs_elements.specs.declared.table.{Kind.Kind, Kind.TheVariants.Object, Row.Row}
+use Rattle.irs_json.specs.Leaves.{child_of, element_names}
+use Rattle.irs_read.specs.{Readings.streams_in, StreamElements.SwapSays, StreamElements.stream_by}
 use Rattle.irs_terms.specs.Elements.{calculation_period_dates, cashflows, swap_stream, document, swap}
 use Rattle.irs_terms.specs.declared.places.Rule.TheVariants.{K2, K7, K3}
 use Rattle.irs_terms.specs.declared.{places.Broken.Broken, places.Rule.Rule, stream_list.Swap.Swap}
 use Rattle.irs_terms.specs.{Faults.is_before, Paths.printed_paths}
 use Rattle.serde_json.specs.{Data.Data, View.view, declared.value.Value.Value}
-use Rattle.std.specs.Prelude.{is_some, slice_get, codes, Bool, false, Result, Ok, Err, if◌then◌else◌, Option, nat_lt}
-use Rattle.std.specs.Prelude.{not, ◌&&◌, ◌||◌, ◌==◌, map, ℕ, ◌-◌, List, [], ◌∷◌, None, drop, take, ◌≡◌, ◌+◌, ◌<◌, ◌≤◌}
-use Rattle.std.specs.{Borrow.Bor, Prelude.◌⊎◌, Prelude.true, Prelude.length, Prelude.Some, Str.bytes_eq}
+use Rattle.std.specs.Prelude.{is_some, slice_get, codes, Bool, false, Result, Ok, Err, if◌then◌else◌, nat_lt}
+use Rattle.std.specs.Prelude.{not, ◌&&◌, ◌||◌, ◌==◌, ℕ, ◌-◌, List, [], ◌∷◌, None, drop, take, ◌≡◌, ◌+◌, ◌<◌, ◌≤◌}
+use Rattle.std.specs.{Borrow.Bor, List.list_all, Option.option_map_or, Prelude.◌⊎◌, Prelude.true, Prelude.length, Prelude.Some, Str.bytes_eq}
 
 -- ---- the tables of a swap and of its streams: the elements of a stream, and the members that are passed over or out
 -- of the profile
 -- Which these are is our rule.
-
--- the line of each element of a stream
-abbrev lines : List Line
-lines = (stream_by [] None).lines
 
 -- the elements of a stream in the table of paths: those up to the cash flows, but for
 -- `payerPartyReference`, which is passed over
 unfoldable pub stream_elements : List (List ℕ)
 stream_elements = take (cashflows - calculation_period_dates) (drop calculation_period_dates printed_paths)
 
--- the members that are passed over unread
-abbrev passed : List Others
-passed =
-    others_at "" ("payerPartyReference" ∷ "payerAccountReference" ∷ "receiverPartyReference" ∷ "receiverAccountReference"
-    ∷ "cashflows" ∷ [])
-    ∷ others_at "resetDates/resetFrequency" ("weeklyRollConvention" ∷ [])
-    ∷ []
-
--- the members that are out of the profile
-abbrev refused : List Others
-refused =
-    others_at "" ("settlementProvision" ∷ "formula" ∷ [])
-    ∷ others_at "calculationPeriodDates" ("relativeEffectiveDate" ∷ "relativeTerminationDate"
-    ∷ "firstCompoundingPeriodEndDate" ∷ [])
-    ∷ others_at "calculationPeriodDates/effectiveDate" ("adjustedDate" ∷ [])
-    ∷ others_at "calculationPeriodDates/terminationDate" ("adjustedDate" ∷ [])
-    ∷ others_at "calculationPeriodDates/firstPeriodStartDate" ("adjustedDate" ∷ [])
-    ∷ others_at "paymentDates" ("resetDatesReference" ∷ "valuationDatesReference" ∷ [])
-    ∷ others_at "resetDates" ("initialFixingDate" ∷ "rateCutOffDaysOffset" ∷ [])
-    ∷ others_at "calculationPeriodAmount" ("knownAmountSchedule" ∷ [])
-    ∷ others_at "calculationPeriodAmount/calculation" ("fxLinkedNotionalSchedule" ∷ "discounting" ∷ [])
-    ∷ others_at "calculationPeriodAmount/calculation/notionalSchedule" ("notionalStepParameters" ∷ [])
-    ∷ others_at "calculationPeriodAmount/calculation/floatingRateCalculation"
-    ("rateTreatment" ∷ "capRateSchedule" ∷ "floorRateSchedule" ∷ "averagingMethod" ∷ [])
-    ∷ others_at "calculationPeriodAmount/calculation/floatingRateCalculation/calculationParameters"
-    ("observationParameters" ∷ [])
-    ∷ others_at "stubCalculationPeriodAmount/initialStub/floatingRate"
-    ("floatingRateMultiplierSchedule" ∷ "spreadSchedule" ∷ "rateTreatment" ∷ "capRateSchedule"
-    ∷ "floorRateSchedule" ∷ "calculationParameters" ∷ [])
-    ∷ others_at "stubCalculationPeriodAmount/finalStub/floatingRate"
-    ("floatingRateMultiplierSchedule" ∷ "spreadSchedule" ∷ "rateTreatment" ∷ "capRateSchedule"
-    ∷ "floorRateSchedule" ∷ "calculationParameters" ∷ [])
-    ∷ others_at "stubCalculationPeriodAmount/initialStub" ("stubAmount" ∷ [])
-    ∷ others_at "stubCalculationPeriodAmount/finalStub" ("stubAmount" ∷ [])
-    ∷ []
+-- the members of a floating rate of a stub that are out of the profile
+abbrev refused_in_stub : List String
+refused_in_stub =
+    "floatingRateMultiplierSchedule" ∷ "spreadSchedule" ∷ "rateTreatment" ∷ "capRateSchedule" ∷ "floorRateSchedule"
+    ∷ "calculationParameters" ∷ []
 
 -- the table of a stream
 unfoldable pub stream_table : Table
-stream_table = record { whole = "swapStream"; top = ""; lines = lines; passed = passed; refused = refused }
+stream_table = record {
+  whole = "swapStream";
+  top = "";
+  lines = (stream_by [] None).lines;
+  passed =
+      others_at "" ("payerPartyReference" ∷ "payerAccountReference" ∷ "receiverPartyReference"
+      ∷ "receiverAccountReference" ∷ "cashflows" ∷ [])
+      ∷ others_at "resetDates/resetFrequency" ("weeklyRollConvention" ∷ [])
+      ∷ [];
+  refused =
+      others_at "" ("settlementProvision" ∷ "formula" ∷ [])
+      ∷ others_at "calculationPeriodDates" ("relativeEffectiveDate" ∷ "relativeTerminationDate"
+      ∷ "firstCompoundingPeriodEndDate" ∷ [])
+      ∷ others_at "calculationPeriodDates/effectiveDate" ("adjustedDate" ∷ [])
+      ∷ others_at "calculationPeriodDates/terminationDate" ("adjustedDate" ∷ [])
+      ∷ others_at "calculationPeriodDates/firstPeriodStartDate" ("adjustedDate" ∷ [])
+      ∷ others_at "paymentDates" ("resetDatesReference" ∷ "valuationDatesReference" ∷ [])
+      ∷ others_at "resetDates" ("initialFixingDate" ∷ "rateCutOffDaysOffset" ∷ [])
+      ∷ others_at "calculationPeriodAmount" ("knownAmountSchedule" ∷ [])
+      ∷ others_at "calculationPeriodAmount/calculation" ("fxLinkedNotionalSchedule" ∷ "discounting" ∷ [])
+      ∷ others_at "calculationPeriodAmount/calculation/notionalSchedule" ("notionalStepParameters" ∷ [])
+      ∷ others_at "calculationPeriodAmount/calculation/floatingRateCalculation"
+      ("rateTreatment" ∷ "capRateSchedule" ∷ "floorRateSchedule" ∷ "averagingMethod" ∷ [])
+      ∷ others_at "calculationPeriodAmount/calculation/floatingRateCalculation/calculationParameters"
+      ("observationParameters" ∷ [])
+      ∷ others_at "stubCalculationPeriodAmount/initialStub/floatingRate" refused_in_stub
+      ∷ others_at "stubCalculationPeriodAmount/finalStub/floatingRate" refused_in_stub
+      ∷ others_at "stubCalculationPeriodAmount/initialStub" ("stubAmount" ∷ [])
+      ∷ others_at "stubCalculationPeriodAmount/finalStub" ("stubAmount" ∷ [])
+      ∷ [];
+}
 
 -- the table of a swap; its streams are skipped here, and each is checked with its own number
 unfoldable pub swap_table : Table
@@ -82,11 +77,11 @@ swap_table = record {
       ∷ "extendibleProvision" ∷ []) ∷ [];
 }
 
--- their rows and names
+-- the rows that the lines of a stream give
 unfoldable pub stream_rows : List Row
 stream_rows = table_rows printed_paths stream_table
 
--- the names and rows that the lines of the tables give
+-- and their names
 unfoldable pub stream_names : List (List ℕ)
 stream_names = table_names stream_table
 
@@ -125,14 +120,10 @@ pub data FaultOfStreams (P : ℕ → Data → Broken → Type 0) (ds : List Data
 abbrev pub WithMembers : (Broken → Type 0) → (Broken → Type 0) → Data → Broken → Type 0
 WithMembers own inside d f = own f ⊎ ((is_some (element_names d) ≡ true) × inside f)
 
--- those of the streams of a swap, by the table
-abbrev pub StreamsFault : List Data → Broken → Type 0
-StreamsFault ds = FaultOfStreams StreamFault ds
-
 -- those of a swap: its own, and where it is an object those of its streams
 abbrev pub SwapFault : Data → Broken → Type 0
 SwapFault d =
-    WithMembers (FaultAt swap_rows swap_names 0 0 (Object Free) 0 d) (StreamsFault (values_in (codes "swapStream") (Some d))) d
+    WithMembers (FaultAt swap_rows swap_names 0 0 (Object Free) 0 d) (FaultOfStreams StreamFault (streams_in d)) d
 
 -- ---- the way from the root of a document to its swap, and the rules that a document breaks
 
@@ -221,75 +212,27 @@ swap_of_document d = record {
   Refuses = First is_before (DocumentFault d);
 }
 
--- ---- the values inside a value, by a table of elements, and that nothing is missing among them
--- Required elements are present, and each leaf has a value of its kind. Each choice between members is kept, and each
--- reference has its `@href`. So no default replaces a leaf that is present or required.
-
--- x is a value inside d, at a row of the table and with the kind of the row
-pub data Stands (rows : List Row) (names : List (List ℕ)) (d : Data) : ℕ → Kind → Data → Type 0 where
-  -- d itself
-  whole : Stands rows names d 0 (Object Free) d
-  -- a value of a member of an object inside d
-  element : (r c j : ℕ) (choice : Choice) (row : Row) (y m x : Data) → Stands rows names d r (Object choice) y
-      → IsMemberRow rows names r c row → is_element row.kind ≡ true
-      → child_of (name_at names c) y ≡ Some m → slice_get (items_of m) j ≡ Some x → Stands rows names d c row.kind x
-
--- whether a text has a value of the kind
-abbrev pub has_said : LeafKind → Option (List ℕ) → Bool
-has_said leaf None = false
-has_said leaf (Some s) = has_value leaf s
-
--- nothing is missing in d
-pub record IsStated (rows : List Row) (names : List (List ℕ)) (d : Data) : Type 0 where
-  -- each required element of an object is present
-  pub there : (r c : ℕ) (choice : Choice) (row : Row) (y : Data) → Stands rows names d r (Object choice) y
-      → IsMemberRow rows names r c row → is_element row.kind ≡ true → is_required row.count ≡ true
-      → is_some (once (name_at names c) y) ≡ true
-  -- each leaf has a value of its kind
-  pub said : (r : ℕ) (leaf : LeafKind) (x : Data) → Stands rows names d r (Leaf leaf) x
-      → has_said leaf (leaf_text_in (Some x)) ≡ true
-  -- if an object must have exactly one of two members, or at most one, it has
-  pub chosen : (r : ℕ) (choice : Choice) (y : Data) → Stands rows names d r (Object choice) y
-      → is_chosen names choice y ≡ true
-  -- if an object names another by `@href`, that attribute is present and a text
-  pub named : (r : ℕ) (y : Data) → Stands rows names d r (Object Reference) y
-      → is_some (attribute (codes "@href") (Some y)) ≡ true
-
--- nothing is missing in the streams of a document
-abbrev pub EachStated : Data → Type 0
-EachStated d = (at : Data) → the_swap d ≡ Ok at → (j : ℕ) (x : Data) → slice_get (streams_in at) j ≡ Some x
-    → IsStated stream_rows stream_names x
-
 -- ---- when the rows of a table fit together
 
 -- no later row of the same parent has the name
-abbrev no_twin : ℕ → List ℕ → List ℕ → List (List ℕ) → Bool
-no_twin parent name (p ∷ ps) (n ∷ ns) = (not (p == parent) || not (bytes_eq n name)) && no_twin parent name ps ns
+abbrev no_twin : ℕ → List ℕ → List Row → List (List ℕ) → Bool
+no_twin parent name (row ∷ rows) (n ∷ ns) =
+    (not (row.parent == parent) || not (bytes_eq n name)) && no_twin parent name rows ns
 no_twin parent name _ _ = true
 
--- the row exists and its parent is row r
-abbrev stands_below : ℕ → Option Row → Bool
-stands_below r None = false
-stands_below r (Some row) = row.parent == r
-
--- the rows of a choice at row r are members of that row
-abbrev chooses : List Row → ℕ → Choice → Bool
-chooses rows r (AtMostOne a b) = stands_below r (slice_get rows a) && stands_below r (slice_get rows b)
-chooses rows r (AtMostOneOfThree a b c) =
-    stands_below r (slice_get rows a) && stands_below r (slice_get rows b) && stands_below r (slice_get rows c)
-chooses rows r (ExactlyOne a b) = stands_below r (slice_get rows a) && stands_below r (slice_get rows b)
-chooses rows r _ = true
-
--- an object chooses only among its own members
-abbrev kind_fits : List Row → ℕ → Kind → Bool
-kind_fits rows r (Object choice) = chooses rows r choice
-kind_fits rows r _ = true
+-- the rows among which an object chooses
+abbrev choices : Kind → List ℕ
+choices (Object (AtMostOne a b)) = a ∷ b ∷ []
+choices (Object (AtMostOneOfThree a b c)) = a ∷ b ∷ c ∷ []
+choices (Object (ExactlyOne a b)) = a ∷ b ∷ []
+choices _ = []
 
 -- from row r on, each row comes after its parent, and its choice is among its members. No later row of the
 -- same parent has its name
 abbrev pub is_whole_table : List Row → ℕ → List Row → List (List ℕ) → Bool
 is_whole_table all r [] [] = true
 is_whole_table all r (row ∷ rows) (name ∷ names) =
-    nat_lt row.parent r && kind_fits all r row.kind && no_twin row.parent name (map (λ (x : Row). x.parent) rows) names
-    && is_whole_table all (r + 1) rows names
+    nat_lt row.parent r
+    && list_all (λ c. option_map_or (λ (x : Row). x.parent == r) (slice_get all c) false) (choices row.kind)
+    && no_twin row.parent name rows names && is_whole_table all (r + 1) rows names
 is_whole_table all r rows names = false

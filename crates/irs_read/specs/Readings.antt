@@ -9,7 +9,7 @@ use Rattle.irs_json.specs.Leaves.{child_of}
 use Rattle.serde_json.specs.{Data.Data, Find.as_str}
 use Rattle.std.specs.Prelude.{Some, None, option_and_then, codes, Bool, false}
 use Rattle.std.specs.Prelude.{◌==◌, unwrap_or, count_by, find, if◌then◌else◌, ◌≡◌, ℕ, List, [], ◌∷◌, ◌++◌, map, Option}
-use Rattle.std.specs.{List.flat_map, Str.bytes_eq}
+use Rattle.std.specs.{List.flat_map, Option.option_flatten, Option.option_map_or, Prelude.filter, Str.bytes_eq}
 
 -- ---- what it is to read a value: its lines in the table of elements, and what it says of what is read from it
 -- There is no value for an element that must occur and doesn't, nor for a leaf whose text has none.
@@ -68,26 +68,24 @@ abbrev pub Says : {A B : Type 0} → Option Data → (Data → A → Type 0) →
 Says None says make other b = other b
 Says (Some x) says make other b = (a : _) × ((b ≡ make a) × says x a)
 
+-- a member: what is made of its value where it is there, and what holds where it is absent
+abbrev member_by : {A B : Type 0} → String → Count → Value A → (A → B) → (Data → B → Type 0) → ReadPart B
+member_by name often v make other = record {
+  lines = member_lines name often v;
+  says = λ d. Says (once (codes name) d) v.says make (other d);
+}
+
 -- a member that occurs
 abbrev pub one : {A : Type 0} → String → Value A → ReadPart A
-one name v = record {
-  lines = member_lines name One v;
-  says = λ d. Says (once (codes name) d) v.says (λ a. a) (λ _. ⊥);
-}
+one name v = member_by name One v (λ a. a) (λ d _. ⊥)
 
 -- a member that may be absent, and then there is no value
 abbrev pub maybe : {A : Type 0} → String → Value A → ReadPart (Option A)
-maybe name v = record {
-  lines = member_lines name Maybe v;
-  says = λ d. Says (once (codes name) d) v.says Some (λ a. a ≡ None);
-}
+maybe name v = member_by name Maybe v Some (λ d a. a ≡ None)
 
 -- a member that may be absent, and then the object has a value for it
 abbrev pub or_by : {A : Type 0} → String → Value A → (Data → A) → ReadPart A
-or_by name v absent = record {
-  lines = member_lines name Maybe v;
-  says = λ d. Says (once (codes name) d) v.says (λ a. a) (λ a. a ≡ absent d);
-}
+or_by name v absent = member_by name Maybe v (λ a. a) (λ d a. a ≡ absent d)
 
 -- a member that may be absent, and then this is its value
 abbrev pub or : {A : Type 0} → String → Value A → A → ReadPart A
@@ -118,27 +116,17 @@ either_member a v make b w build = record {
 abbrev pub attribute : List ℕ → Option Data → Option (List ℕ)
 attribute name o = option_and_then as_str (option_and_then (child_of name) o)
 
--- the text is there, and is this one
-abbrev pub is_text : List ℕ → Option (List ℕ) → Bool
-is_text id None = false
-is_text id (Some s) = bytes_eq s id
-
 -- whether the element has that `@id`
 abbrev pub has_id : List ℕ → Option Data → Bool
-has_id id o = is_text id (attribute (codes "@id") o)
+has_id id o = option_map_or (λ s. bytes_eq s id) (attribute (codes "@id") o) false
 
 -- the text of a reference's `@href`
 abbrev pub href_of : Data → List ℕ
 href_of d = unwrap_or (attribute (codes "@href") (Some d)) []
 
--- the value that a search found, if any
-abbrev pub found_value : Option (Option Data) → Option Data
-found_value None = None
-found_value (Some o) = o
-
 -- the list that has the id, where exactly one has it
 abbrev pub the_one : List ℕ → List (Option Data) → Option Data
-the_one id lists = if count_by (has_id id) lists == 1 then found_value (find (has_id id) lists) else None
+the_one id lists = if count_by (has_id id) lists == 1 then option_flatten (find (has_id id) lists) else None
 
 -- where a stream may have a list of centres
 abbrev pub lists_in : Data → List (Option Data)
@@ -181,6 +169,4 @@ value_on (n ∷ ns) o = value_on ns (member n o)
 
 -- the lines of lists of centres
 abbrev pub list_lines : List Line → List Line
-list_lines [] = []
-list_lines (l ∷ ls) =
-    if bytes_eq (last_name l.path) (codes "businessCenters") then l ∷ list_lines ls else list_lines ls
+list_lines lines = filter (λ (l : Line). bytes_eq (last_name l.path) (codes "businessCenters")) lines

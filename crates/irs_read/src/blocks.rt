@@ -1,26 +1,29 @@
-//! The blocks of a stream: frequencies, offsets, adjustments, schedules of values.
+//! The blocks of a stream: frequencies, offsets, adjustments, schedules of values, parameters of daily rates.
 ghost use Rattle.irs_base.specs.Lists.{Pairs};
 ghost use Rattle.irs_elements.specs.Elements.{once as once_of, seen, values_in};
 ghost use Rattle.irs_read.specs.Private.Sayings.{IsSaid, Or, number_by};
 ghost use Rattle.irs_read.specs.StreamElements.{adjustable, adjusting as adjusting_by, adjustments as adjustments_by};
 ghost use Rattle.irs_read.specs.StreamElements.{always, center_list, centers as centers_by, frequency as frequency_by};
 ghost use Rattle.irs_read.specs.StreamElements.{offset as offset_by, rate, schedule as schedule_by, step as step_by};
-ghost use Rattle.irs_read.specs.StreamElements.{tenor as tenor_by, unadjusted};
+ghost use Rattle.irs_read.specs.StreamElements.{observed, observing, parameters as parameters_by, tenor as tenor_by};
+ghost use Rattle.irs_read.specs.StreamElements.{unadjusted};
 ghost use Rattle.serde_json.specs.View.{view};
 ghost use Rattle.std.specs.Prelude.{IfOk, Some, codes, map};
 
-use crate::leaf_values::{Scale, center, must, number, or_else};
-use crate::members::{one, or};
+use crate::leaf_values::{Scale, center, must, number, one, or, or_else};
 use crate::references::the_named;
 use irs_base::Memory;
 use irs_elements::{codes, leaf_text, numbers, once, values_at};
 use irs_json::Value;
 use irs_terms::{
-    AdjustableDate, Adjustments, Centers, ConvCode, DayKind, Frequency, Names, Offset, Step,
-    StepList, StepValues,
+    AdjustableDate, Adjustments, CalculationParameters, Centers, ConvCode, DayKind, Frequency,
+    Names, ObservationOffset, Offset, Step, StepList, StepValues,
 };
 use itoa::Buffer;
 use std::alloc::Global;
+
+/// The lists of centres that a reference may name.
+pub type Lists<'a> = &'a [Option<&'a Value>];
 
 /// A frequency.
 pub fn frequency(v: &Value) -> Frequency
@@ -66,7 +69,7 @@ pub fn names(alloc: Global, list: &Value) -> Result<Names, Memory>
 }
 
 // The centres of the list that is referenced, else of the list that is given here.
-fn centers(alloc: Global, lists: &[Option<&Value>], v: &Value) -> Result<Centers, Memory>
+fn centers(alloc: Global, lists: Lists, v: &Value) -> Result<Centers, Memory>
     requires { IsSaid ((centers_by (map seen lists.now)).says (view v.now)) }
     ensures { IfOk result ((centers_by (map seen lists.now)).says (view v.now)) }
 {
@@ -82,7 +85,7 @@ fn centers(alloc: Global, lists: &[Option<&Value>], v: &Value) -> Result<Centers
 }
 
 /// The members of adjustments.
-pub fn adjusting(alloc: Global, lists: &[Option<&Value>], v: &Value) -> Result<Adjustments, Memory>
+pub fn adjusting(alloc: Global, lists: Lists, v: &Value) -> Result<Adjustments, Memory>
     requires { IsSaid ((adjusting_by (map seen lists.now)).says (view v.now)) }
     ensures { IfOk result ((adjusting_by (map seen lists.now)).says (view v.now)) }
 {
@@ -94,7 +97,7 @@ pub fn adjusting(alloc: Global, lists: &[Option<&Value>], v: &Value) -> Result<A
 /// Adjustments, NONE without centres where they are absent.
 pub fn adjustments_or(
     alloc: Global,
-    lists: &[Option<&Value>],
+    lists: Lists,
     v: &Value,
     name: &str,
 ) -> Result<Adjustments, Memory>
@@ -108,11 +111,7 @@ pub fn adjustments_or(
 }
 
 /// A date, and how it is adjusted: `unadjustedDate` and `dateAdjustments`, which both occur.
-pub fn adjustable_date(
-    alloc: Global,
-    lists: &[Option<&Value>],
-    v: &Value,
-) -> Result<AdjustableDate, Memory>
+pub fn adjustable_date(alloc: Global, lists: Lists, v: &Value) -> Result<AdjustableDate, Memory>
     requires { IsSaid ((adjustable (map seen lists.now)).says (view v.now)) }
     ensures { IfOk result ((adjustable (map seen lists.now)).says (view v.now)) }
 {
@@ -167,4 +166,41 @@ pub fn schedule_or(
     Ok(
         or!(v, name, StepValues { initial, steps: StepList::new(alloc) }, v => schedule(alloc, Scale::Rates, v)?),
     )
+}
+
+// The days of an observation shift, a lookback or a lockout.
+fn offset_days(v: &Value) -> u8
+    requires { IsSaid (observed.says (view v.now)) }
+    ensures { observed.says (view v.now) result }
+{
+    must!(v, "offsetDays", text => numbers::observation_days(text.as_bytes()))
+}
+
+// An observation shift, a lookback or a lockout, whichever is there.
+fn observation_offset(v: &Value) -> ObservationOffset
+    requires { IsSaid (observing.says (view v.now)) }
+    ensures { observing.says (view v.now) result }
+{
+    if let Some(shift) = once(v, "observationShift") {
+        ObservationOffset::Shift(offset_days(shift))
+    } else if let Some(lookback) = once(v, "lookback") {
+        ObservationOffset::Lookback(offset_days(lookback))
+    } else {
+        or!(v, "lockout", ObservationOffset::Absent, lockout => ObservationOffset::Lockout(offset_days(lockout)))
+    }
+}
+
+/// How daily rates become the rate of a period.
+pub fn parameters(alloc: Global, v: &Value) -> Result<CalculationParameters, Memory>
+    requires { IsSaid (parameters_by.says (view v.now)) }
+    ensures { IfOk result (parameters_by.says (view v.now)) }
+{
+    let method = must!(v, "calculationMethod", text => codes::calculation_method(text));
+    let offset = observation_offset(v);
+    let centers = one!(v, "applicableBusinessDays", list => names(alloc, list)?);
+    Ok(CalculationParameters {
+        method,
+        offset,
+        centers,
+    })
 }

@@ -2,10 +2,9 @@
 //! `swap`, `trade` (which holds `swap`) and `dataDocument` (which holds `trade`). The choice of the
 //! carrier's roots is our rule.
 ghost use Rattle.irs_base.specs.Outcomes.{First};
-ghost use Rattle.irs_read.specs.Documents.{DocumentFault, by_root as by_root_of, document_below as document_below_of};
-ghost use Rattle.irs_read.specs.Documents.{has as has_of, one_object as one_object_of, one_swap as one_swap_of};
-ghost use Rattle.irs_read.specs.Documents.{swap_below as swap_below_of, the_swap as the_swap_of, way_seen};
-ghost use Rattle.irs_read.specs.Documents.{trade_below as trade_below_of};
+ghost use Rattle.irs_read.specs.Documents.{DocumentFault, one_object as one_object_of, one_swap as one_swap_of};
+ghost use Rattle.irs_read.specs.Documents.{swap_below as swap_below_of, the_swap as the_swap_of};
+ghost use Rattle.irs_read.specs.Documents.{trade_below as trade_below_of, way_seen};
 ghost use Rattle.irs_terms.specs.{Faults.IsFirstBroken, Faults.is_before, declared.places.Broken.Broken as BrokenRule};
 ghost use Rattle.serde_json.specs.View.{view};
 ghost use Rattle.std.specs.Prelude.{◌≡◌, IfErr, IfOk, Ok, map};
@@ -55,20 +54,6 @@ fn trade_below(v: &Value) -> Result<&Value, Broken>
     swap_below(one_object(values_at(v, "trade"))?)
 }
 
-// The swap below the `dataDocument` of an object.
-fn document_below(v: &Value) -> Result<&Value, Broken>
-    ensures { way_seen result ≡ document_below_of (view v.now) }
-{
-    trade_below(one_object(values_at(v, "dataDocument"))?)
-}
-
-// Whether the object has an element of that name.
-fn has(v: &Value, name: &str) -> bool
-    ensures { result ≡ has_of name.now (view v.now) }
-{
-    child(v, name).is_some()
-}
-
 /// The swap of a document, or the rule that ends the way to it.
 pub fn the_swap(v: &Value) -> Result<&Value, Broken>
     ensures { way_seen result ≡ the_swap_of (view v.now) }
@@ -77,11 +62,16 @@ pub fn the_swap(v: &Value) -> Result<&Value, Broken>
         return Err(outside(Rule::K3, Elem::DOCUMENT));
     }
     // Exactly one of the three roots is present.
-    match (has(v, "swap"), has(v, "trade"), has(v, "dataDocument")) {
+    let (swap, trade, document) = (
+        child(v, "swap"),
+        child(v, "trade"),
+        child(v, "dataDocument"),
+    );
+    match (swap.is_some(), trade.is_some(), document.is_some()) {
         (false, false, false) => Err(outside(Rule::K2, Elem::SWAP)),
         (true, false, false) => swap_below(v),
         (false, true, false) => trade_below(v),
-        (false, false, true) => document_below(v),
+        (false, false, true) => trade_below(one_object(values_at(v, "dataDocument"))?),
         (true, true, false) | (true, true, true) | (true, false, true) | (false, true, true) => {
             Err(outside(Rule::K7, Elem::DOCUMENT))
         }

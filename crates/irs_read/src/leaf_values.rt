@@ -1,4 +1,5 @@
-//! The values of leaves. Each is read only where the document says one, or where it is absent and may be.
+//! What is read of a member of an object, in the words of the table of elements, and the values of leaves. Each is
+//! read only where the document says one, or where it is absent and may be.
 ghost use Rattle.irs_elements.specs.{Codes.compounding_at, Codes.day_count_at, Codes.stub_kind_at, Leaves.currency_at};
 ghost use Rattle.irs_elements.specs.{Codes.roll_at, Elements.leaf_text_in, Elements.once as once_of, Elements.seen};
 ghost use Rattle.irs_read.specs.Private.Sayings.{IsSaid, Maybe, One, Or, TextSays, number_by};
@@ -46,7 +47,37 @@ macro_rules! must {
     };
 }
 
+/// One that may be absent, and then there is no value.
+macro_rules! maybe {
+    ($v:expr, $name:expr, $part:ident => $value:expr) => {
+        match once($v, $name) {
+            None => None,
+            Some($part) => Some($value),
+        }
+    };
+}
+
+/// One that may be absent, and then this is its value.
+macro_rules! or {
+    ($v:expr, $name:expr, $absent:expr, $part:ident => $value:expr) => {
+        match once($v, $name) {
+            None => $absent,
+            Some($part) => $value,
+        }
+    };
+}
+
+/// A member that occurs.
+macro_rules! one {
+    ($v:expr, $name:expr, $part:ident => $value:expr) => {
+        $crate::leaf_values::or!($v, $name, unreachable!(), $part => $value)
+    };
+}
+
+pub(crate) use maybe;
 pub(crate) use must;
+pub(crate) use one;
+pub(crate) use or;
 pub(crate) use or_else;
 
 /// What the values of a schedule are.

@@ -5,8 +5,6 @@
 mod blocks;
 mod document;
 mod leaf_values;
-mod members;
-mod parameters;
 mod reader;
 mod references;
 mod stream;
@@ -14,7 +12,7 @@ mod swap;
 mod table;
 
 pub use document::{first_in_document, the_swap};
-pub use reader::{ReadErr, meant_documents_are_stated, read_swap, swap_of_document_is_determined};
+pub use reader::{ReadErr, read_swap, swap_of_document_is_determined};
 pub use table::{
     NAMES, ROWS, SWAP_NAMES, SWAP_ROWS, lines_follow, lists_listed, rows_whole, swap_rows_whole,
     tables_listed,

@@ -1,9 +1,8 @@
 //! Reading a trade's document: the swap that it spells, or the first rule that it breaks.
 ghost use Rattle.irs_base.specs.Outcomes.{IfBroken, First, Determined, IfMemory};
-ghost use Rattle.irs_read.specs.Documents.{DocumentFault, swap_of_document, Means, EachStated};
-ghost use Rattle.irs_terms.specs.declared.{places.Broken.Broken as BrokenRule, stream_list.Swap.Swap as MeantSwap};
-ghost use Rattle.irs_terms.specs.{Faults.is_before, Lawful.IsLawfulSwap};
-ghost use Rattle.serde_json.specs.{Data.Data, View.view};
+ghost use Rattle.irs_read.specs.Documents.{DocumentFault, swap_of_document, Means};
+ghost use Rattle.irs_terms.specs.{Faults.is_before, Lawful.IsLawfulSwap, declared.places.Broken.Broken as BrokenRule};
+ghost use Rattle.serde_json.specs.View.{view};
 ghost use Rattle.std.specs.Prelude.{IfOk};
 
 use crate::document::clean_swap;
@@ -42,9 +41,3 @@ pub fn swap_of_document_is_determined(v: &Value)
     // hands the prover a right outcome
     let _outcome = clean_swap(v);
 }
-
-/// A law: in a document that means a swap nothing is missing. Required elements are present, and each leaf
-/// has a value of its kind. Each choice is kept, and each reference has its `@href`.
-pub fn meant_documents_are_stated()
-    ensures { (d : Data) (s : MeantSwap) → Means d s → EachStated d }
-{}

@@ -1,11 +1,12 @@
 //! References by `@href`: a reference names the element that has its text as `@id`. What is in the
 //! profile are references to business centres of any stream of the swap, and to dates of the stream.
 ghost use Rattle.irs_elements.specs.Elements.{member as member_of, once as once_of, seen};
-ghost use Rattle.irs_read.specs.Readings.{attribute as attribute_of, found_value, has_id as has_id_of, href_of};
+ghost use Rattle.irs_read.specs.Readings.{attribute as attribute_of, has_id as has_id_of, href_of};
 ghost use Rattle.irs_read.specs.Readings.{lists_in, lists_of, the_one};
 ghost use Rattle.irs_read.specs.{Private.Sayings.Or, StreamElements.reference as reference_by};
 ghost use Rattle.serde_json.specs.View.{view};
-ghost use Rattle.std.specs.Prelude.{◌≡◌, IfOk, Some, codes, count_by, find, map, option_map};
+ghost use Rattle.std.specs.{Option.option_flatten, Prelude.option_map};
+ghost use Rattle.std.specs.Prelude.{◌≡◌, IfOk, Some, codes, find, map};
 
 use irs_base::Memory;
 use irs_elements::{member, once};
@@ -48,16 +49,9 @@ pub fn reference(target: &Value, v: &Value, name: &str) -> RefState
     }
 }
 
-// The number of lists with the id.
-fn named_count(lists: &[Option<&Value>], id: &str) -> usize
-    ensures { result ≡ count_by (has_id_of id.now) (map seen lists.now) }
-{
-    lists.iter().filter(|list| has_id(**list, id)).count()
-}
-
 // The first list with the id.
 fn first_named<'a>(lists: &[Option<&'a Value>], id: &str) -> Option<&'a Value>
-    ensures { seen result ≡ found_value (find (has_id_of id.now) (map seen lists.now)) }
+    ensures { seen result ≡ option_flatten (find (has_id_of id.now) (map seen lists.now)) }
 {
     for list in lists {
         if has_id(*list, id) {
@@ -72,7 +66,7 @@ pub fn the_named<'a>(lists: &[Option<&'a Value>], reference: &Value) -> Option<&
     ensures { seen result ≡ the_one (href_of (view reference.now)) (map seen lists.now) }
 {
     let id = href(reference);
-    if named_count(lists, id) == 1 {
+    if lists.iter().filter(|list| has_id(**list, id)).count() == 1 {
         first_named(lists, id)
     } else {
         None

@@ -1,23 +1,23 @@
 //! The stream that a value says.
 ghost use Rattle.irs_base.specs.Lists.{Pairs};
-ghost use Rattle.irs_elements.specs.Elements.{once as once_of, seen};
-ghost use Rattle.irs_read.specs.Private.Sayings.{IsSaid, Maybe, Or, RoundingSaid, StreamParts};
+ghost use Rattle.irs_elements.specs.Elements.{seen};
+ghost use Rattle.irs_read.specs.Private.Sayings.{IsSaid, RoundingSaid, StreamParts};
 ghost use Rattle.irs_read.specs.StreamElements.{StreamSays, SwapSays, exchanges as exchanges_by, stub as stub_by};
-ghost use Rattle.irs_read.specs.StreamElements.{fixing_dates as fixing_dates_by, floating, indexed as indexed_by, rate};
+ghost use Rattle.irs_read.specs.StreamElements.{fixing_dates as fixing_dates_by, floating, indexed as indexed_by};
 ghost use Rattle.irs_read.specs.StreamElements.{leg as leg_by, payment_dates, places_by, reset_dates, rounding_read};
-ghost use Rattle.irs_read.specs.{Private.Sayings.no_exchange, StreamElements.stubs as stubs_by};
+ghost use Rattle.irs_read.specs.StreamElements.{stubs as stubs_by};
 ghost use Rattle.serde_json.specs.View.{view};
 ghost use Rattle.std.specs.Prelude.{◌≡◌, IfOk, Some, map};
 
 use crate::blocks::{
-    adjustable_date, adjusting, adjustments_or, frequency, offset, schedule, schedule_or, tenor,
+    Lists, adjustable_date, adjusting, adjustments_or, frequency, offset, parameters, schedule,
+    schedule_or, tenor,
 };
 use crate::leaf_value;
 use crate::leaf_values::{
-    Scale, compounding, currency, day_count, maybe_day, must, or_else, roll, stub_kind, word,
+    Scale, compounding, currency, day_count, maybe, maybe_day, must, one, or, or_else, roll,
+    stub_kind, word,
 };
-use crate::members::{maybe, one, or};
-use crate::parameters::parameters;
 use crate::references::{lists, reference};
 use irs_base::{Direction, Memory, Text};
 use irs_elements::{codes, leaf_text, numbers, once, values_at};
@@ -98,12 +98,7 @@ fn leg(alloc: Global, v: &Value) -> Result<Leg, Memory>
     }
 }
 
-fn pay_terms(
-    alloc: Global,
-    lists: &[Option<&Value>],
-    dates: &Value,
-    v: &Value,
-) -> Result<PayTerms, Memory>
+fn pay_terms(alloc: Global, lists: Lists, dates: &Value, v: &Value) -> Result<PayTerms, Memory>
     requires { IsSaid ((payment_dates (map seen lists.now) (Some (view dates.now))).says (view v.now)) }
     ensures { IfOk result ((payment_dates (map seen lists.now) (Some (view dates.now))).says (view v.now)) }
 {
@@ -121,7 +116,7 @@ fn pay_terms(
 // The offset and the adjustments of fixing dates, and how their reference to the resets resolves.
 fn fixing_dates(
     alloc: Global,
-    lists: &[Option<&Value>],
+    lists: Lists,
     resets: &Value,
     v: &Value,
 ) -> Result<(FixTerms, RefState), Memory>
@@ -134,12 +129,7 @@ fn fixing_dates(
     Ok((FixTerms { offset, adj }, target))
 }
 
-fn reset_terms(
-    alloc: Global,
-    lists: &[Option<&Value>],
-    dates: &Value,
-    v: &Value,
-) -> Result<ResetTerms, Memory>
+fn reset_terms(alloc: Global, lists: Lists, dates: &Value, v: &Value) -> Result<ResetTerms, Memory>
     requires { IsSaid ((reset_dates (map seen lists.now) (Some (view dates.now))).says (view v.now)) }
     ensures { IfOk result ((reset_dates (map seen lists.now) (Some (view dates.now))).says (view v.now)) }
 {
@@ -201,7 +191,7 @@ fn exchanges(v: &Value) -> ExchangeFlags
 // The stream of which these are the dates, the frequency, the calculation and the notionals.
 fn stream_of(
     alloc: Global,
-    lists: &[Option<&Value>],
+    lists: Lists,
     v: &Value,
     dates: &Value,
     freq: &Value,
@@ -237,8 +227,8 @@ fn stream_of(
     })
 }
 
-#[tactic(auto, unfolding(crate::specs::StreamElements::StreamSays))]
-fn stream(alloc: Global, lists: &[Option<&Value>], v: &Value) -> Result<Stream, Memory>
+#[tactic(auto, using(crate::proofs::StreamParts::parts_say), unfolding(crate::specs::StreamElements::StreamSays))]
+fn stream(alloc: Global, lists: Lists, v: &Value) -> Result<Stream, Memory>
     requires { IsSaid (StreamSays (map seen lists.now) (view v.now)) }
     ensures { IfOk result (StreamSays (map seen lists.now) (view v.now)) }
 {
@@ -252,11 +242,7 @@ fn stream(alloc: Global, lists: &[Option<&Value>], v: &Value) -> Result<Stream, 
 }
 
 #[tactic(auto, using(crate::proofs::EachSaid::says_more, crate::proofs::EachSaid::says_all))]
-fn each_stream(
-    alloc: Global,
-    lists: &[Option<&Value>],
-    streams: &[Value],
-) -> Result<StreamList, Memory>
+fn each_stream(alloc: Global, lists: Lists, streams: &[Value]) -> Result<StreamList, Memory>
     requires { IsSaid (Pairs (StreamSays (map seen lists.now)) (map view streams.now)) }
     ensures { IfOk result (Pairs (StreamSays (map seen lists.now)) (map view streams.now)) }
 {

@@ -25,7 +25,7 @@ const REFUSED: Kind = Kind::Refused;
 /// The rows of members, of a list of them.
 #[macro_export]
 macro_rules! rows {
-    ($([$parent:expr, $place:expr, $name:expr, $kind:expr, $count:expr, $end:expr]),*) => {
+    ($([$parent:expr, $place:expr, $name:expr, $kind:expr, $count:expr $(, $end:expr)?]),*) => {
         [$(row!($parent, $place, $kind, $count)),*]
     };
 }
@@ -33,13 +33,12 @@ macro_rules! rows {
 /// Their names.
 #[macro_export]
 macro_rules! names {
-    ($([$parent:expr, $place:expr, $name:expr, $kind:expr, $count:expr, $end:expr]),*) => {
+    ($([$parent:expr, $place:expr, $name:expr, $kind:expr, $count:expr $(, $end:expr)?]),*) => {
         [$($name),*]
     };
 }
 
-/// Where the members of each end.
-#[macro_export]
+// Where the members of each end.
 macro_rules! ends {
     ($([$parent:expr, $place:expr, $name:expr, $kind:expr, $count:expr, $end:expr]),*) => {
         [$($end),*]
@@ -244,22 +243,23 @@ pub const NAMES: [&str; 179] = stream_elements!(names);
 /// For each row of a stream, the number of the row after its last member; 0 if it has none.
 pub const ENDS: [usize; 179] = stream_elements!(ends);
 
-// The same of a swap. Its streams are skipped here: each is checked with its own number.
+// The same of a swap, which has no objects inside, so nothing says where they end. Its streams are skipped here: each is
+// checked with its own number.
 macro_rules! swap_elements {
     ($part:ident) => {
         $part![
-            [0, 1, "swap", OBJECT, Count::One, 12],
-            [0, 1, "swapStream", PASSED, Count::Maybe, 0],
-            [0, 1, "productType", PASSED, Count::Maybe, 0],
-            [0, 1, "productId", PASSED, Count::Maybe, 0],
-            [0, 1, "primaryAssetClass", PASSED, Count::Maybe, 0],
-            [0, 1, "secondaryAssetClass", PASSED, Count::Maybe, 0],
-            [0, 1, "assetClass", PASSED, Count::Maybe, 0],
-            [0, 1, "additionalPayment", REFUSED, Count::Maybe, 0],
-            [0, 1, "additionalTerms", REFUSED, Count::Maybe, 0],
-            [0, 1, "earlyTerminationProvision", REFUSED, Count::Maybe, 0],
-            [0, 1, "cancelableProvision", REFUSED, Count::Maybe, 0],
-            [0, 1, "extendibleProvision", REFUSED, Count::Maybe, 0]
+            [0, 1, "swap", OBJECT, Count::One],
+            [0, 1, "swapStream", PASSED, Count::Maybe],
+            [0, 1, "productType", PASSED, Count::Maybe],
+            [0, 1, "productId", PASSED, Count::Maybe],
+            [0, 1, "primaryAssetClass", PASSED, Count::Maybe],
+            [0, 1, "secondaryAssetClass", PASSED, Count::Maybe],
+            [0, 1, "assetClass", PASSED, Count::Maybe],
+            [0, 1, "additionalPayment", REFUSED, Count::Maybe],
+            [0, 1, "additionalTerms", REFUSED, Count::Maybe],
+            [0, 1, "earlyTerminationProvision", REFUSED, Count::Maybe],
+            [0, 1, "cancelableProvision", REFUSED, Count::Maybe],
+            [0, 1, "extendibleProvision", REFUSED, Count::Maybe]
         ]
     };
 }
@@ -269,9 +269,6 @@ pub const SWAP_ROWS: [Row; 12] = swap_elements!(rows);
 
 /// The name at each row of a swap.
 pub const SWAP_NAMES: [&str; 12] = swap_elements!(names);
-
-/// The same for the rows of a swap.
-pub const SWAP_ENDS: [usize; 12] = swap_elements!(ends);
 
 /// The rows of the tables and their names are those that the lines of the specification give.
 #[tactic(auto, using(crate::proofs::TableLaws::rows_are, crate::proofs::TableLaws::names_are, crate::proofs::TableLaws::swap_rows_are, crate::proofs::TableLaws::swap_names_are))]
@@ -283,14 +280,14 @@ pub fn tables_listed()
 {}
 
 /// The lines of a stream are its elements in the table of paths, in its order.
-#[tactic(auto, using(crate::proofs::TableLaws::lines_are))]
+#[tactic(auto, unfolding(crate::specs::Documents::stream_table, crate::specs::Documents::stream_elements, irs_terms::specs::Paths::printed_paths, irs_terms::specs::Paths::paths))]
 pub fn lines_follow()
     ensures { map (λ (l : Line). l.path) stream_table.lines ≡ stream_elements }
 {}
 
 /// The lists of centres that a reference may name are those of the table: all lists of the name
 /// `businessCenters`.
-#[tactic(auto, using(crate::proofs::TableLaws::lists_are))]
+#[tactic(auto, unfolding(crate::specs::Documents::stream_table))]
 pub fn lists_listed()
     ensures { (d : Data) → lists_in d
         ≡ map (λ (l : Line). value_on (names_on l.path) (Some d)) (list_lines stream_table.lines) }

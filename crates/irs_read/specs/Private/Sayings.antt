@@ -4,13 +4,12 @@
 use Rattle.irs_base.specs.declared.rounding.Direction.TheVariants.{Nearest}
 use Rattle.irs_elements.specs.Elements.{once}
 use Rattle.irs_read.specs.Readings.{ReadPart, Says, Value, maybe, one, or, said, ◌also◌, ◌gives◌}
-use Rattle.irs_read.specs.StreamElements.{exchanges, fixing_dates, notional, rate}
+use Rattle.irs_read.specs.StreamElements.{exchanges, notional, rate}
 use Rattle.irs_read.specs.StreamElements.{frequency_terms, notional_terms, period_terms, rate_terms, stubs, places_by}
 use Rattle.irs_read.specs.StreamElements.{payment_dates, reset_dates, rounding_read}
 use Rattle.irs_read.specs.declared.leaf_values.Scale.{Scale, TheVariants.Notionals, TheVariants.Rates}
 use Rattle.irs_terms.specs.declared.amounts.{ExchangeFlags.ExchangeFlags, Rounding.Rounding}
-use Rattle.irs_terms.specs.declared.codes.RefState.{RefState, TheVariants.Absent as NoReference}
-use Rattle.irs_terms.specs.declared.{dates.FixTerms.FixTerms, stream.Stream.Stream}
+use Rattle.irs_terms.specs.declared.stream.Stream.{Stream}
 use Rattle.serde_json.specs.Data.{Data}
 use Rattle.std.specs.Prelude.{◌≡◌, ℕ, false, List, ℤ, Option, Some, None, codes}
 
@@ -42,12 +41,6 @@ number_by Rates = rate
 -- no principal is exchanged
 abbrev pub no_exchange : ExchangeFlags
 no_exchange = record { initial = false; intermediate = false; last = false }
-
--- the fixing dates of resets, and how their reference resolves, if they are there
-abbrev pub FixingsSaid : List (Option Data) → Data → Option FixTerms × RefState → Type 0
-FixingsSaid lists d =
-    Says {B = Option FixTerms × RefState} (once (codes "fixingDates") d) (fixing_dates lists (Some d)).says
-    (λ f. (Some f.0, f.1)) (λ f. f ≡ (None, NoReference))
 
 -- how the rate of a `floatingRateCalculation` is rounded
 abbrev pub RoundingSaid : Data → Rounding → Type 0

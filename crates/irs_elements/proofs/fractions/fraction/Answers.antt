@@ -1,4 +1,4 @@
-use Rattle.irs_elements.proofs.FractionsAt.{fraction_both, one_fraction}
+use Rattle.irs_elements.proofs.DecimalsAt.{fraction_both, one_fraction}
 use Rattle.irs_elements.proofs.fractions.fraction.Goals as goal
 
 pub returns-clause-none : goal.returns-clause-none

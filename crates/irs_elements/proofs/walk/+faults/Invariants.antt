@@ -1,8 +1,8 @@
 use Rattle.std.proofs.Common.{◌+◌, ◌-◌, ◌*◌, length, map}
 use Rattle.serde_json.specs.View.{view}
-use Rattle.irs_elements.specs.Elements.{referenced_texts, index_in}
+use Rattle.irs_elements.specs.Elements.{referenced_texts}
+use Rattle.irs_elements.specs.Private.Walk.{ItemFault, RowFault}
 use Rattle.irs_elements.proofs.First.{Below}
-use Rattle.irs_elements.proofs.Steps.{RowFault, ItemFault}
 use Rattle.irs_terms.specs.Faults.{IsFirstBroken}
 use Rattle.irs_elements.proofs.walk.+faults.Given as goal
 
@@ -13,32 +13,24 @@ invariant-members_fault-loop-c l =
     l.c) l.first
 
 -- the fault kept is the first of those in the values before j
-abbrev pub invariant-fault_among-loop-j : goal.invariant-fault_among-loop-j
-invariant-fault_among-loop-j l =
+abbrev pub invariant-items_fault-loop-j : goal.invariant-items_fault-loop-j
+invariant-items_fault-loop-j l =
     IsFirstBroken (Below
-    (ItemFault l.table.rows.now (referenced_texts l.table.names.now) l.table.stream l.c l.kind (index_in l.count l.index)
-    (map view l.list)) l.j) l.first
-
--- a value leads to its members, whose rows come later
-abbrev pub decreases-value_fault : goal.decreases-value_fault
-decreases-value_fault l = 6 * (length l.table.now.rows.now - l.r) + 2
+    (ItemFault l.table.rows.now (referenced_texts l.table.names.now) l.table.stream l.c l.row l.index (map view l.list)) l.j)
+    l.first
 
 -- an object leads to its members, whose rows come later
-abbrev pub decreases-object_fault : goal.decreases-object_fault
-decreases-object_fault l = 6 * (length l.table.now.rows.now - l.r) + 1
+abbrev pub decreases-value_fault : goal.decreases-value_fault
+decreases-value_fault l = 4 * (length l.table.now.rows.now - l.r) + 1
 
 -- each member has a later row than its object
 abbrev pub decreases-members_fault : goal.decreases-members_fault
-decreases-members_fault l = 6 * (length l.table.now.rows.now - l.r)
+decreases-members_fault l = 4 * (length l.table.now.rows.now - l.r)
 
 -- a member leads to its values, at the same row
-abbrev pub decreases-fault_under : goal.decreases-fault_under
-decreases-fault_under l = 6 * (length l.table.now.rows.now - l.c) + 5
-
--- an element leads to its values, at the same row
-abbrev pub decreases-element_fault : goal.decreases-element_fault
-decreases-element_fault l = 6 * (length l.table.now.rows.now - l.c) + 4
+abbrev pub decreases-member_fault : goal.decreases-member_fault
+decreases-member_fault l = 4 * (length l.table.now.rows.now - l.c) + 3
 
 -- a list of values leads to each of them, at the same row
-abbrev pub decreases-fault_among : goal.decreases-fault_among
-decreases-fault_among l = 6 * (length l.table.now.rows.now - l.c) + 3
+abbrev pub decreases-items_fault : goal.decreases-items_fault
+decreases-items_fault l = 4 * (length l.table.now.rows.now - l.c) + 2

@@ -4,7 +4,7 @@ use Rattle.irs_flows.specs.FlowFaults.{OnceFault, flow_broken_at}
 use Rattle.irs_terms.specs.declared.places.Rule.TheVariants.{K7}
 use Rattle.irs_terms.specs.{Elements.cashflows, Faults.IsFirstBroken}
 use Rattle.serde_json.specs.{Data.Data, View.view}
-use Rattle.std.proofs.Common.{ℕ, ◌≤◌, List, ◌∷◌, length, map, Some, arith, refl}
+use Rattle.std.proofs.Common.{ℕ, ◌≤◌, List, ◌∷◌, length, Some, ap, arith, refl}
 use Rattle.std.proofs.lemmas.List.{length-map}
 
 many : (stream : ℕ) (ds : List Data) → 2 ≤ length ds
@@ -14,5 +14,6 @@ many stream _ h = absurd (omega arith)
 
 pub returns-in-len2-up : goal.returns-in-len2-up
 returns-in-len2-up c =
-    let long = length-map c.args.list.now view in
-    rw c.at-in-len2-up.ensures (many _ (map view c.args.list.now) (omega (arith, long, c.in-len2-up.len_at_least)))
+    let long = length-map c.values_at.result.now view in
+    rw c.at-in-len2-up.ensures
+    (many _ _ (omega (arith, long, ap length c.values_at.ensures, c.in-len2-up.len_at_least)))

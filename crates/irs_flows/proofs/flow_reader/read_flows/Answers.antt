@@ -1,5 +1,5 @@
 use Rattle.irs_flows.proofs.flow_reader.read_flows.Goals as goal
-use Rattle.irs_flows.proofs.{EachFlows.flows_stated, FlowRules.of_flows, FlowRules.told}
+use Rattle.irs_flows.proofs.FlowRules.{of_flows, told}
 use Rattle.irs_read.specs.Documents.{below}
 use Rattle.std.proofs.Common.{refl}
 
@@ -14,6 +14,3 @@ returns-in-Err-clause-fault c = record {
 
 pub flows_of-requires : goal.flows_of-requires
 flows_of-requires c f q = c.in-Ok.ensures.clean f (below _ f c.in-Ok.ensures.found q)
-
-pub returns-in_ok-flows_of-in-Ok-clause-stated : goal.returns-in_ok-flows_of-in-Ok-clause-stated
-returns-in_ok-flows_of-in-Ok-clause-stated c = flows_stated _ c.in-Ok.ensures.clean

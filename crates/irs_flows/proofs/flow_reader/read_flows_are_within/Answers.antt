@@ -8,8 +8,8 @@ use Rattle.irs_flows.specs.declared.flows.FlowPayment.{FlowPayment}
 use Rattle.irs_read.proofs.Ranges.{said_in}
 use Rattle.irs_read.specs.Readings.{said}
 use Rattle.serde_json.specs.Data.{Data}
-use Rattle.std.proofs.Common.{◌≡◌, List, [], ◌∷◌, length, map, Option, IfSome, arith, refl, sum_by, codes}
-use Rattle.std.proofs.lemmas.List.{Sums.sum_by-cons, length-append, length-map}
+use Rattle.std.proofs.Common.{◌+◌, ◌∙◌, List, [], ◌∷◌, map, Option, IfSome, sym, codes}
+use Rattle.std.proofs.lemmas.List.{Concat.length-flat_map, Folds.fold-map, length-map}
 
 -- the day of a leaf is in range
 day_in : (o : Option Data) → IfSome (said leaf_date_at o) IsDay
@@ -20,18 +20,11 @@ every_made : {X Y : Type 0} (P : Y → Type 0) (f : X → Y) (xs : List X) → (
 every_made P f [] h = tt
 every_made P f (x ∷ xs) h = (h x, every_made P f xs h)
 
--- the periods of payments are as many as these say
-periods_counted : (payments : List Data)
-    → length (flow_periods_of payments) ≡ sum_by (λ (y : FlowPayment). y.periods) (map payment_in payments)
-periods_counted [] = refl
-periods_counted (d ∷ ds) =
-    let more = sum_by-cons (λ (y : FlowPayment). y.periods) (payment_in d) (map payment_in ds) in
-    omega (arith, periods_counted ds, more, length-append (periods_in d) (flow_periods_of ds))
-
 -- the flows of a `cashflows` keep the bounds
 flows_within : (o : Option Data) → KeepsFlowBounds (flows_in o)
 flows_within o = record {
-  periods = omega (arith, periods_counted (payments_in o), length-map (flow_periods_of (payments_in o)) period_in);
+  periods = length-map (flow_periods_of (payments_in o)) period_in ∙ length-flat_map periods_in (payments_in o)
+      ∙ sym (fold-map (λ n (y : FlowPayment). n + y.periods) payment_in 0 (payments_in o));
   exchanges = every_made _ exchange_in _ (λ d. day_in (once (codes "adjustedPrincipalExchangeDate") d));
   payments = every_made _ payment_in _ (λ d. day_in (once (codes "adjustedPaymentDate") d));
   starts = every_made _ period_in _ (λ d. day_in (once (codes "adjustedStartDate") d));

@@ -1,5 +1,5 @@
 use Rattle.irs_elements.proofs.First.{Below}
-use Rattle.irs_read.proofs.swap.each_stream_fault.Given as goal
+use Rattle.irs_read.proofs.swap.streams_fault.Given as goal
 use Rattle.irs_read.{proofs.Each.Each, specs.Documents.StreamFault}
 use Rattle.irs_terms.specs.Faults.{IsFirstBroken}
 use Rattle.serde_json.specs.View.{view}
