@@ -1,30 +1,22 @@
 -- Lists of centres: those of clean streams say names, and no others.
 use Prim.Native.String.{String}
 use Rattle.irs_base.{proofs.EveryLemmas.every_both, specs.Limits.most_centers, specs.Lists.Every}
-use Rattle.irs_elements.specs.declared.table.Leaf.TheVariants.{CenterName, Convention}
 use Rattle.irs_elements.specs.{Elements.member, declared.table.Count.TheVariants.OneTo}
-use Rattle.irs_read.proofs.Rows.{At, AtMost, LeafRow, May, Path, RowIs, facts, is_leaf, most_of, row_of}
-use Rattle.irs_read.proofs.Tells.{Fills, Told, each_fills, fine, leaf_fills, perhaps, some, told}
+use Rattle.irs_read.proofs.Clean.{required_at}
+use Rattle.irs_read.proofs.ReadParts.{RowFacts, Whole, center_names, each, leaf, named}
+use Rattle.irs_read.proofs.Rows.{At, AtMost, Path, facts, most_of, row_of}
+use Rattle.irs_read.proofs.Tells.{Told, perhaps, told}
 use Rattle.irs_read.specs.Readings.{has_id, lists_in, lists_of, the_one}
-use Rattle.irs_read.{proofs.ReadParts.center_names, specs.StreamElements.center_list, specs.StreamElements.center_name}
+use Rattle.irs_read.specs.{StreamElements.center_list, declared.table.TheConstants.ROWS}
 use Rattle.irs_terms.specs.Lawful.{IsLawfulNames}
 use Rattle.serde_json.specs.Data.{Data}
-use Rattle.std.proofs.Common.{count_by, find, Option, Some, None, slice_get, codes, refl, arith, if◌then◌else◌, ◌≡◌, ℕ}
+use Rattle.std.proofs.Common.{count_by, find, Option, Some, None, slice_get, codes, refl, if◌then◌else◌, ◌≡◌, ℕ}
+use Rattle.std.proofs.Common.{suc, Bool, true, false, ◌==◌, List, [], ◌∷◌, ◌++◌, ap, cond, drop, get_or, map}
 use Rattle.std.specs.Option.{option_flatten}
-use Rattle.std.proofs.Common.{suc, Bool, true, false, ◌==◌, List, [], ◌∷◌, cond}
 
--- what the table says of a list of centres at the end of a path
-abbrev pub CenterRows : Path → Type 0
-CenterRows p = LeafRow p "businessCenter" CenterName × (most_of ("businessCenter" ∷ p) ≡ most_centers)
-
--- the list of centres at the end of a path
-pub list_fills : (p : Path) → CenterRows p → Fills p center_list.says IsLawfulNames
-list_fills p at =
-    each_fills p "businessCenter" (OneTo most_centers) center_name at.0
-    (λ d clean all h. let low = some p "businessCenter" at.0 d clean in
-    let high = (fine p "businessCenter" at.0 d clean).0 in
-    (omega (arith, h.many, low), omega (arith, h.many, high, at.1), h.each))
-    (leaf_fills ("businessCenter" ∷ p) center_names (is_leaf p "businessCenter" at.0))
+-- a list of centres
+abbrev pub list_reads : Whole center_list.says IsLawfulNames
+list_reads = each "businessCenter" (OneTo most_centers) (leaf center_names)
 
 -- a list of centres, if there is one, says lawful names
 abbrev pub GoodList : Option Data → Type 0
@@ -34,58 +26,53 @@ GoodList o = Told center_list.says IsLawfulNames o
 abbrev pub GoodLists : List (Option Data) → Type 0
 GoodLists = Every GoodList
 
--- what the table says of adjustments at the end of a path
-abbrev pub AdjustingRows : Path → Type 0
-AdjustingRows p =
-    LeafRow p "businessDayConvention" Convention × May p "businessCenters" × CenterRows ("businessCenters" ∷ p)
-
--- below what may be absent too
-below : {must : Bool} (p : Path) (name : String) → RowIs p name must None → (o : Option Data) → AtMost p o
-    → AtMost (name ∷ p) (member (codes name) o)
-below p name row None clean = tt
-below p name row (Some d) clean = perhaps p name row d clean
-
--- the list of business centres in adjustments
-abbrev Centers : Option Data → Option Data
-Centers o = member (codes "businessCenters") o
-
--- the list below clean adjustments
-pub good_below : (p : Path) → AdjustingRows p → (o : Option Data) → AtMost p o → GoodList (Centers o)
-good_below p at o clean =
-    told (list_fills ("businessCenters" ∷ p) at.2) (Centers o) (below p "businessCenters" at.1 o clean)
-
 -- ---- the lists of a stream
 
--- `calculationPeriodDates`
-abbrev pub dates_path : Path
-dates_path = "calculationPeriodDates" ∷ []
+-- the value at the end of a path
+abbrev end_of : Path → Data → Option Data
+end_of [] d = Some d
+end_of (name ∷ p) d = member (codes name) (end_of p d)
 
--- `resetDates`
-abbrev pub resets_path : Path
-resets_path = "resetDates" ∷ []
+-- the facts of the rows on the way to the end of a path
+abbrev on_way : (Path → String → RowFacts) → Path → List RowFacts
+on_way of [] = []
+on_way of (name ∷ p) = of p name ∷ on_way of p
 
--- the list in the adjustments with this name, below what is clean
-adjusted_good : {must : Bool} (p : Path) (name : String) → RowIs p name must None → AdjustingRows (name ∷ p)
-    → (o : Option Data) → AtMost p o → GoodList (Centers (member (codes name) o))
-adjusted_good p name row at o clean = good_below (name ∷ p) at (member (codes name) o) (below p name row o clean)
+-- what is found of the rows on the way to a list of centres and of those in it, and what is stated of them
+abbrev rows_found : Path → List RowFacts × list_reads.Facts
+rows_found p = (on_way (λ p name. facts p (row_of (name ∷ p))) p, list_reads.found p)
+
+abbrev rows_stated : Path → List RowFacts × list_reads.Facts
+rows_stated p =
+    (on_way (λ p name. named p name (required_at (slice_get ROWS (row_of (name ∷ p))))) p, list_reads.stated p)
+
+-- what is at the end of a way by members is clean
+clean_end : (p : Path) → (rows_found p).0 ≡ (rows_stated p).0 → (d : Data) → At [] d → AtMost p (end_of p d)
+clean_end [] way d clean = clean
+clean_end (name ∷ p) way d clean =
+    perhaps p name (ap (λ l. get_or l 0 (named p name false)) way) (end_of p d) (clean_end p (ap (drop 1) way) d clean)
+
+-- the lists at the ends of several paths
+good_ends : (ps : List Path) → map rows_found ps ≡ map rows_stated ps → (d : Data) → At [] d
+    → GoodLists (map (λ p. end_of p d) ps)
+good_ends [] e d clean = tt
+good_ends (p ∷ ps) e d clean =
+    let here = ap (λ l. get_or l 0 (rows_stated p)) e in
+    let way = clean_end p (ap (λ t. t.0) here) d clean in
+    (told (list_reads.tells p (ap (λ t. t.1) here)) (end_of p d) way, good_ends ps (ap (drop 1) e) d clean)
 
 lists_good : (d : Data) → At [] d → GoodLists (lists_in d)
 unfolding facts row_of most_of
 lists_good d clean =
-    let dates = perhaps [] "calculationPeriodDates" refl d clean in
-    let resets = perhaps [] "resetDates" refl d clean in
-    let pays = perhaps [] "paymentDates" refl d clean in
-    let start = adjusted_good ("effectiveDate" ∷ dates_path) "dateAdjustments" refl (refl, refl, (refl, refl)) _
-    (below dates_path "effectiveDate" refl _ dates) in
-    let end = adjusted_good ("terminationDate" ∷ dates_path) "dateAdjustments" refl (refl, refl, (refl, refl)) _
-    (below dates_path "terminationDate" refl _ dates) in
-    let own = adjusted_good dates_path "calculationPeriodDatesAdjustments" refl (refl, refl, (refl, refl)) _ dates in
-    let first = adjusted_good ("firstPeriodStartDate" ∷ dates_path) "dateAdjustments" refl (refl, refl, (refl, refl)) _
-    (below dates_path "firstPeriodStartDate" refl _ dates) in
-    let pay = adjusted_good ("paymentDates" ∷ []) "paymentDatesAdjustments" refl (refl, refl, (refl, refl)) _ pays in
-    let fix = adjusted_good resets_path "fixingDates" refl (refl, refl, (refl, refl)) _ resets in
-    let reset = adjusted_good resets_path "resetDatesAdjustments" refl (refl, refl, (refl, refl)) _ resets in
-    (start, (end, (own, (first, (pay, (fix, (reset, tt)))))))
+    let in_dates : Path → Path = λ p. "businessCenters" ∷ p ++ "calculationPeriodDates" ∷ [] in
+    let in_resets : Path → Path = λ p. "businessCenters" ∷ p ++ "resetDates" ∷ [] in
+    good_ends (in_dates ("dateAdjustments" ∷ "effectiveDate" ∷ [])
+    ∷ in_dates ("dateAdjustments" ∷ "terminationDate" ∷ [])
+    ∷ in_dates ("calculationPeriodDatesAdjustments" ∷ [])
+    ∷ in_dates ("dateAdjustments" ∷ "firstPeriodStartDate" ∷ [])
+    ∷ ("businessCenters" ∷ "paymentDatesAdjustments" ∷ "paymentDates" ∷ [])
+    ∷ in_resets ("fixingDates" ∷ [])
+    ∷ in_resets ("resetDatesAdjustments" ∷ []) ∷ []) refl d clean
 
 -- the lists of centres of clean streams
 pub all_good : (ds : List Data) → ((j : ℕ) (x : Data) → slice_get ds j ≡ Some x → At [] x) → GoodLists (lists_of ds)
