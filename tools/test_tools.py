@@ -728,7 +728,6 @@ class Rows(InRoom):
     def test_wrong_numbers(self) -> None:
         for name, old, new in (
             (self.TABLE, '[35, 45, "payRelativeTo"', '[35, 46, "payRelativeTo"'),
-            (self.TABLE, 'OBJECT, Count::One, 146]', 'OBJECT, Count::One, 145]'),
             (self.FILES[2], "FINAL_STUB: Elem = Elem { place: 130 }", "FINAL_STUB: Elem = Elem { place: 131 }"),
             (self.FILES[3], "final_stub = 130", "final_stub = 131"),
             (self.FILES[4], '[0, 152, "forecastRate"', '[0, 153, "forecastRate"'),
@@ -751,7 +750,7 @@ class Rows(InRoom):
         self.change(self.LIST, after, f'    ∷ "{self.LEAF}"\n{after}')
         line = re.search(r'^ +\[\d+, \d+, "calculationPeriodFrequency".*\n', self.text(self.TABLE), re.M)
         assert line is not None
-        new = '            ["calculationPeriodDates", _, "stubPeriodType", Kind::Leaf(Leaf::StubType), Count::Maybe, _],\n'
+        new = '            ["calculationPeriodDates", _, "stubPeriodType", Kind::Leaf(Leaf::StubType), Count::Maybe],\n'
         self.change(self.TABLE, line[0], new + line[0])
         self.assertEqual(self.run_it().returncode, 0)
         for name in self.FILES:
@@ -760,7 +759,7 @@ class Rows(InRoom):
     def test_a_line_without_a_path(self) -> None:
         line = re.search(r'^ +\[\d+, \d+, "payRelativeTo".*\n', self.text(self.TABLE), re.M)
         assert line is not None
-        self.change(self.TABLE, line[0], '            ["paymentDates", _, "payLate", OBJECT, Count::Maybe, _],\n' + line[0])
+        self.change(self.TABLE, line[0], '            ["paymentDates", _, "payLate", OBJECT, Count::Maybe],\n' + line[0])
         made = self.run_it()
         self.assertEqual((made.returncode, made.stderr),
                          (1, "tools/rows: paymentDates/payLate: the list of paths has no such element there\n"))

@@ -71,7 +71,6 @@ fn period_fault(stream: u8, number: u32, v: &Value) -> Option<Broken>
     let table = Table {
         rows: &PERIOD_ROWS,
         names: &PERIOD_NAMES,
-        ends: &[],
         stream,
     };
     let own = first_fault(&table, 0, OBJECT, number, v);
@@ -117,7 +116,6 @@ fn cashflows_fault(stream: u8, v: &Value) -> Option<Broken>
     let table = Table {
         rows: &FLOW_ROWS,
         names: &FLOW_NAMES,
-        ends: &[],
         stream,
     };
     let own = first_fault(&table, 0, OBJECT, 0, v);

@@ -22,8 +22,7 @@ const PASSED: Kind = Kind::Passed;
 const REFUSED: Kind = Kind::Refused;
 
 // The members at the rows of `cashflows`, one a line: the row of the object that it stands in, the place of its element
-// in the table of paths, its name, kind and count. Passed and refused members have the place of the whole. Where the
-// members of an object end isn't said, as it saves nothing in so short a table.
+// in the table of paths, its name, kind and count. Passed and refused members have the place of the whole.
 macro_rules! flow_elements {
     ($part:ident) => {
         $part![

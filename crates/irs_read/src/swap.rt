@@ -4,7 +4,7 @@ ghost use Rattle.serde_json.specs.View.{view};
 ghost use Rattle.std.specs.Prelude.{◌≡◌, map};
 ghost use Rattle.irs_terms.specs.Faults.{IsFirstBroken};
 
-use crate::table::{ENDS, NAMES, OBJECT, ROWS, SWAP_NAMES, SWAP_ROWS};
+use crate::table::{NAMES, OBJECT, ROWS, SWAP_NAMES, SWAP_ROWS};
 use irs_base::MOST_STREAMS;
 use irs_elements::{Table, earlier, first_fault, values_at};
 use irs_json::{Value, members};
@@ -39,7 +39,6 @@ fn streams_fault(list: &[Value]) -> Option<Broken>
         let table = Table {
             rows: &ROWS,
             names: &NAMES,
-            ends: &ENDS,
             stream: j as u8 + 1,
         };
         first = earlier(first, first_fault(&table, 0, OBJECT, 0, &list[j]));
@@ -54,7 +53,6 @@ pub fn first_in_swap(v: &Value) -> Option<Broken>
     let table = Table {
         rows: &SWAP_ROWS,
         names: &SWAP_NAMES,
-        ends: &[],
         stream: 0,
     };
     let own = first_fault(&table, 0, OBJECT, 0, v);
