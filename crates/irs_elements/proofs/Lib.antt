@@ -1,6 +1,5 @@
 pub mod First
 pub mod Steps
-pub mod Ends
 pub mod Exact
 pub mod DecimalsAt
 pub mod DatesAt

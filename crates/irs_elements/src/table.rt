@@ -72,9 +72,6 @@ pub struct Table<'t> {
     pub rows: &'t [Row],
     /// The name at each row.
     pub names: &'t [&'static str],
-    /// For each row the number of the row after its last member; 0 where it has none. They save
-    /// steps in a long table, change no answer, and may be left out: wrong ones aren't followed.
-    pub ends: &'t [usize],
     /// The number of the stream, from 1.
     pub stream: u8,
 }

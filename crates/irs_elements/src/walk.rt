@@ -2,20 +2,21 @@
 //!
 //! The walk goes down the table and not down the value: each row's members come after it. It keeps
 //! nothing on the way; each step returns the first broken rule of its part.
-ghost use Rattle.irs_elements.specs.Elements.{FaultAt, FaultUnder, ShapeFault, absent_index as absent_index_of};
+ghost use Rattle.irs_elements.specs.Elements.{FaultAt, absent_index as absent_index_of};
 ghost use Rattle.irs_elements.specs.Elements.{are_two as are_two_of, choice_unmet as choice_unmet_of, elem_at};
 ghost use Rattle.irs_elements.specs.Elements.{has_odd as has_odd_of, index_in as index_in_of};
 ghost use Rattle.irs_elements.specs.Elements.{is_known as is_known_in, is_odd as is_odd_of};
 ghost use Rattle.irs_elements.specs.Elements.{is_required as is_required_of, is_unknown, lacks_href as lacks_href_of};
-ghost use Rattle.irs_elements.specs.Elements.{most as most_of, name_at, place, referenced_texts, seen};
+ghost use Rattle.irs_elements.specs.Elements.{most as most_of, name_at, referenced_texts, seen};
 ghost use Rattle.irs_elements.specs.Elements.{stands as stands_of, unmet_place};
 ghost use Rattle.irs_elements.specs.Leaves.{leaf_rule as leaf_rule_of};
-ghost use Rattle.irs_elements.specs.Private.Walk.{Any, EndsHold, IsUnbroken, ItemsFault, RowFault, end_at, fault_if};
+ghost use Rattle.irs_elements.specs.Private.Walk.{Any, IsUnbroken, ItemsFault, MemberFault, OwnFault, RowFault, fault_if};
+ghost use Rattle.irs_elements.specs.Private.Walk.{names_in, place_in};
 ghost use Rattle.irs_json.specs.Leaves.{child_of, element_names, is_attribute_name as is_attribute_name_of, leaf_of};
 ghost use Rattle.irs_terms.specs.Faults.{IsFirstBroken, earlier_broken};
 ghost use Rattle.serde_json.specs.View.{view};
 ghost use Rattle.std.specs.List.{Contains, list_any};
-ghost use Rattle.std.specs.Prelude.{◌≡◌, ◌↔◌, ◌+◌, ◌<◌, ◌&&◌, ◌==◌, IsSome, IsTrue, List, Some, length, map, nat_lt};
+ghost use Rattle.std.specs.Prelude.{◌≡◌, ◌+◌, ◌<◌, ◌&&◌, ◌==◌, IsSome, List, Some, map, nat_lt};
 ghost use Rattle.std.specs.Prelude.{option_map, true, ℕ};
 ghost use Rattle.std.specs.Str.{bytes_eq};
 
@@ -46,7 +47,7 @@ fn element(rows: &[Row], r: usize) -> Elem
 
 // A rule that is broken at row r.
 fn broken(table: &Table<'_>, rule: Rule, r: usize, index: u32) -> Broken
-    ensures { result ≡ place table.now.rows.now table.now.stream rule r index }
+    ensures { result ≡ place_in table.now rule r index }
 {
     Broken {
         rule,
@@ -60,7 +61,7 @@ fn broken(table: &Table<'_>, rule: Rule, r: usize, index: u32) -> Broken
 
 // A rule that is broken at row r where the test holds.
 fn broken_if(test: bool, table: &Table<'_>, rule: Rule, r: usize, index: u32) -> Option<Broken>
-    ensures { result ≡ fault_if test (place table.now.rows.now table.now.stream rule r index) }
+    ensures { result ≡ fault_if test (place_in table.now rule r index) }
 {
     if test {
         Some(broken(table, rule, r, index))
@@ -71,7 +72,7 @@ fn broken_if(test: bool, table: &Table<'_>, rule: Rule, r: usize, index: u32) ->
 
 // The rule that a leaf at row r breaks.
 fn leaf_fault(table: &Table<'_>, r: usize, leaf: Leaf, index: u32, v: &Value) -> Option<Broken>
-    ensures { result ≡ option_map (λ k. place table.now.rows.now table.now.stream k r index)
+    ensures { result ≡ option_map (λ k. place_in table.now k r index)
         (leaf_rule_of leaf (leaf_of (view v.now))) }
 {
     let rule = leaf_rule(leaf, v)?;
@@ -177,7 +178,7 @@ fn choice_fault(
     v: &Value,
 ) -> Option<Broken>
     ensures { result ≡ option_map (unmet_place table.now.rows.now table.now.stream r index)
-        (choice_unmet_of (referenced_texts table.now.names.now) choice (view v.now)) }
+        (choice_unmet_of (names_in table.now) choice (view v.now)) }
 {
     match choice_unmet(table.names, choice, v) {
         None => None,
@@ -196,7 +197,7 @@ fn is_member(row: &Row, r: usize, c: usize) -> bool
 // Whether the row at c is below the object at row r and has the name.
 fn is_named(table: &Table<'_>, r: usize, c: usize, row: &Row, name: &str) -> bool
     ensures { result
-        ≡ (nat_lt r c && row.now.parent == r && bytes_eq (name_at (referenced_texts table.now.names.now) c) name.now) }
+        ≡ (nat_lt r c && row.now.parent == r && bytes_eq (name_at (names_in table.now) c) name.now) }
 {
     is_member(row, r, c) && name_of(table.names, c) == name
 }
@@ -204,7 +205,7 @@ fn is_named(table: &Table<'_>, r: usize, c: usize, row: &Row, name: &str) -> boo
 // Whether a row below the object at row r has the name; these rows come after its own.
 #[inline(never)]
 fn is_known(table: &Table<'_>, r: usize, name: &str) -> bool
-    ensures { result ≡ is_known_in table.now.rows.now (referenced_texts table.now.names.now) r name.now }
+    ensures { result ≡ is_known_in table.now.rows.now (names_in table.now) r name.now }
 {
     for c in r..table.rows.len() {
         if is_named(table, r, c, &table.rows[c], name) {
@@ -218,7 +219,7 @@ fn is_known(table: &Table<'_>, r: usize, name: &str) -> bool
 // attribute's.
 fn names_seen(table: &Table<'_>, r: usize, listed: MemberIter<'_>) -> (bool, bool)
     ensures unknown { result.0
-        ≡ list_any (is_unknown table.now.rows.now (referenced_texts table.now.names.now) r) listed.entry }
+        ≡ list_any (is_unknown table.now.rows.now (names_in table.now) r) listed.entry }
     ensures attribute { result.1 ≡ list_any is_attribute_name_of listed.entry }
 {
     let (mut unknown, mut attribute) = (false, false);
@@ -274,9 +275,9 @@ fn names_fault(
 ) -> Option<Broken>
     requires { (name : List ℕ) → IsSome (child_of name (view v.now)) → Contains listed name }
     ensures { result ≡ earlier_broken
-        (fault_if (has_odd_of (view v.now)) (place table.now.rows.now table.now.stream Rule.K3 r index))
-        (fault_if (list_any (is_unknown table.now.rows.now (referenced_texts table.now.names.now) r) listed.entry)
-        (place table.now.rows.now table.now.stream Rule.K4 r index)) }
+        (fault_if (has_odd_of (view v.now)) (place_in table.now Rule.K3 r index))
+        (fault_if (list_any (is_unknown table.now.rows.now (names_in table.now) r) listed.entry)
+        (place_in table.now Rule.K4 r index)) }
 {
     let (unknown, attribute) = names_seen(table, r, listed);
     if !unknown && !attribute {
@@ -298,7 +299,7 @@ fn shape_fault(
     requires names { element_names (view v.now) ≡ Some listed }
     requires found { (name : List ℕ) → IsSome (child_of name (view v.now)) → Contains listed name }
     ensures { IsFirstBroken
-        (ShapeFault table.now.rows.now (referenced_texts table.now.names.now) table.now.stream r choice index (view v.now))
+        (OwnFault table.now r choice index (view v.now))
         result }
 {
     let unmet = choice_fault(table, r, choice, index, v);
@@ -307,56 +308,10 @@ fn shape_fault(
     first_of(asked, names_fault(table, r, index, v, listed))
 }
 
-// The number of the row after the last member of the object at row r. Where the table doesn't say
-// it, that is the row after the last one.
-fn end_of(table: &Table<'_>, r: usize) -> usize
-    ensures { result ≡ end_at (length table.now.rows.now) table.now.ends.now r }
-{
-    table.ends.get(r).map_or(table.rows.len(), |end| *end)
-}
-
-// Whether each row is before the end of its parent's members.
-fn ends_hold(table: &Table<'_>) -> bool
-    ensures { IsTrue result ↔ EndsHold table.now.rows.now table.now.ends.now }
-{
-    for c in 0..table.rows.len() {
-        if c >= end_of(table, table.rows[c].parent) {
-            return false;
-        }
-    }
-    true
-}
-
-// The table as it is, but without its ends where they don't hold.
-fn with_sure_ends<'t>(table: &Table<'t>) -> Table<'t>
-    ensures rows { result.rows.now ≡ table.now.rows.now }
-    ensures names { result.names.now ≡ table.now.names.now }
-    ensures stream { result.stream ≡ table.now.stream }
-    ensures ends { EndsHold result.rows.now result.ends.now }
-{
-    if !table.ends.is_empty() && ends_hold(table) {
-        *table
-    } else {
-        Table {
-            ends: &[],
-            ..*table
-        }
-    }
-}
-
 /// The first rule that is broken by `v` at row `r` of the table, with this kind and index, in the
 /// stream of that number. `None` comes exactly where none is broken.
-pub fn first_fault(table: &Table<'_>, r: usize, kind: Kind, index: u32, v: &Value) -> Option<Broken>
-    ensures { IsFirstBroken
-        (FaultAt table.now.rows.now (referenced_texts table.now.names.now) table.now.stream r kind index (view v.now)) result }
-{
-    value_fault(&with_sure_ends(table), r, kind, index, v)
-}
-
-// The same, by a table whose ends hold.
 #[cycle(faults)]
-fn value_fault(table: &Table<'_>, r: usize, kind: Kind, index: u32, v: &Value) -> Option<Broken>
-    requires { EndsHold table.now.rows.now table.now.ends.now }
+pub fn first_fault(table: &Table<'_>, r: usize, kind: Kind, index: u32, v: &Value) -> Option<Broken>
     ensures { IsFirstBroken
         (FaultAt table.now.rows.now (referenced_texts table.now.names.now) table.now.stream r kind index (view v.now)) result }
 {
@@ -375,7 +330,7 @@ fn value_fault(table: &Table<'_>, r: usize, kind: Kind, index: u32, v: &Value) -
 
 // Whether the member at row c is a leaf that occurs once and breaks no rule, as most members are.
 fn is_right_leaf(table: &Table<'_>, c: usize, row: &Row, v: &Value) -> bool
-    ensures { result ≡ true → IsUnbroken table.now.rows.now (referenced_texts table.now.names.now) table.now.stream c row.now
+    ensures { result ≡ true → IsUnbroken table.now c row.now
         (view v.now) }
 {
     match row.kind {
@@ -393,14 +348,12 @@ fn is_right_leaf(table: &Table<'_>, c: usize, row: &Row, v: &Value) -> bool
 // The first rule that the members of an object at row r break.
 #[cycle(faults)]
 fn members_fault(table: &Table<'_>, r: usize, index: u32, v: &Value) -> Option<Broken>
-    requires { EndsHold table.now.rows.now table.now.ends.now }
     ensures { IsFirstBroken
-        (Any (RowFault table.now.rows.now (referenced_texts table.now.names.now) table.now.stream r index (view v.now)))
+        (Any (RowFault table.now r index (view v.now)))
         result }
 {
     let mut first = None;
-    let end = end_of(table, r).min(table.rows.len());
-    for c in r..end {
+    for c in r..table.rows.len() {
         let row = &table.rows[c];
         if is_member(row, r, c) && !is_right_leaf(table, c, row, v) {
             first = first_of(first, member_fault(table, c, row, index, v));
@@ -412,9 +365,8 @@ fn members_fault(table: &Table<'_>, r: usize, index: u32, v: &Value) -> Option<B
 // The first rule that the member at row c breaks.
 #[cycle(faults)]
 fn member_fault(table: &Table<'_>, c: usize, row: &Row, index: u32, v: &Value) -> Option<Broken>
-    requires { EndsHold table.now.rows.now table.now.ends.now }
     ensures { IsFirstBroken
-        (FaultUnder table.now.rows.now (referenced_texts table.now.names.now) table.now.stream c row.now index (view v.now))
+        (MemberFault table.now c row.now index (view v.now))
         result }
 {
     match row.kind {
@@ -441,9 +393,8 @@ fn member_fault(table: &Table<'_>, c: usize, row: &Row, index: u32, v: &Value) -
 // The first rule that the values of the member at row c break.
 #[cycle(faults)]
 fn items_fault(table: &Table<'_>, c: usize, row: &Row, index: u32, list: &[Value]) -> Option<Broken>
-    requires { EndsHold table.now.rows.now table.now.ends.now }
     ensures { IsFirstBroken
-        (ItemsFault table.now.rows.now (referenced_texts table.now.names.now) table.now.stream c row.now index
+        (ItemsFault table.now c row.now index
         (map view list.now)) result }
 {
     if list.len() > most(row.count) as usize {
@@ -452,7 +403,7 @@ fn items_fault(table: &Table<'_>, c: usize, row: &Row, index: u32, list: &[Value
     let mut first = None;
     for j in 0..list.len() {
         let at = index_in(row.count, index, j as u32);
-        first = first_of(first, value_fault(table, c, row.kind, at, &list[j]));
+        first = first_of(first, first_fault(table, c, row.kind, at, &list[j]));
     }
     first
 }

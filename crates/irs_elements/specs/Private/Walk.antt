@@ -8,8 +8,8 @@ use Rattle.irs_base.specs.Texts.{is_digit, number_after}
 use Rattle.irs_terms.specs.declared.places.Broken.{Broken}
 use Rattle.irs_terms.specs.declared.places.Rule.{Rule}
 use Rattle.irs_terms.specs.declared.places.Rule.TheVariants.{K2, K3, K4, K5, K6, K7}
-use Rattle.irs_elements.specs.Elements.{FaultAt, FaultUnder, IsMemberRow, index_in, most, place}
-use Rattle.irs_elements.specs.declared.table.Row.{Row}
+use Rattle.irs_elements.specs.Elements.{FaultAt, FaultUnder, IsMemberRow, ShapeFault, index_in, most, place, referenced_texts}
+use Rattle.irs_elements.specs.declared.table.{Choice.Choice, Kind.Kind, Row.Row, Table.Table}
 
 -- ---- the number that the text of a decimal spells, as a function of the text
 
@@ -39,43 +39,48 @@ IsOfTables K6 = Unit {0}
 IsOfTables K7 = Unit {0}
 IsOfTables k = ⊥
 
--- ---- where the members of an object end
-
--- the row after the last member, where the table says it, else the row after the last one
-abbrev pub end_in : ℕ → Option ℕ → ℕ
-end_in all None = all
-end_in all (Some end) = end
-
--- the row after the last member of the object at row r, in a table of `all` rows
-abbrev pub end_at : ℕ → List ℕ → ℕ → ℕ
-end_at all ends r = end_in all (slice_get ends r)
-
--- each row is before the end of its parent's members
-abbrev pub EndsHold : List Row → List ℕ → Type 0
-EndsHold rows ends = (c : ℕ) (row : Row) → slice_get rows c ≡ Some row → c < end_at (length rows) ends row.parent
-
 -- ---- the faults of parts
 
 -- those of any of a row of sets
 abbrev pub Any : (ℕ → Broken → Type 0) → Broken → Type 0
 Any F f = (n : ℕ) × F n f
 
-module _ (rows : List Row) (names : List (List ℕ)) (stream : ℕ) where
+module _ (t : Table) where
+  -- the names at the rows
+  abbrev pub names_in : List (List ℕ)
+  names_in = referenced_texts t.names.now
+
+  -- a rule that is broken at row r
+  abbrev pub place_in : Rule → ℕ → ℕ → Broken
+  place_in = place t.rows.now t.stream
+
+  -- those of a value at row r with index i
+  abbrev pub ValueFault : ℕ → Kind → ℕ → Data → Broken → Type 0
+  ValueFault = FaultAt t.rows.now names_in t.stream
+
+  -- those of an object beside its members'
+  abbrev pub OwnFault : ℕ → Choice → ℕ → Data → Broken → Type 0
+  OwnFault = ShapeFault t.rows.now names_in t.stream
+
+  -- those of the member at row c of the object d, which has index i
+  abbrev pub MemberFault : ℕ → Row → ℕ → Data → Broken → Type 0
+  MemberFault = FaultUnder t.rows.now names_in t.stream
+
   -- those of the row c, where it is a member's of the object d at row r
   abbrev pub RowFault : ℕ → ℕ → Data → ℕ → Broken → Type 0
-  RowFault r i d c f = (row : Row) × (IsMemberRow rows names r c row × FaultUnder rows names stream c row i d f)
+  RowFault r i d c f = (row : Row) × (IsMemberRow t.rows.now names_in r c row × MemberFault c row i d f)
 
   -- those of the j-th of the values ds of the member at row c, in an object with index i
   abbrev pub ItemFault : ℕ → Row → ℕ → List Data → ℕ → Broken → Type 0
   ItemFault c row i ds j f =
-      (x : Data) × ((slice_get ds j ≡ Some x) × FaultAt rows names stream c row.kind (index_in row.count i j) x f)
+      (x : Data) × ((slice_get ds j ≡ Some x) × ValueFault c row.kind (index_in row.count i j) x f)
 
   -- those of all these values: they are too many, or one of them breaks a rule
   abbrev pub ItemsFault : ℕ → Row → ℕ → List Data → Broken → Type 0
   ItemsFault c row i ds f =
-      ((most row.count < length ds) × (f ≡ place rows stream K7 c 0))
+      ((most row.count < length ds) × (f ≡ place_in K7 c 0))
       ⊎ ((length ds ≤ most row.count) × Any (ItemFault c row i ds) f)
 
   -- no rule is broken by the member at row c of the object d, with whatever index
   abbrev pub IsUnbroken : ℕ → Row → Data → Type 0
-  IsUnbroken c row d = (i : ℕ) (f : Broken) → FaultUnder rows names stream c row i d f → ⊥
+  IsUnbroken c row d = (i : ℕ) (f : Broken) → MemberFault c row i d f → ⊥

@@ -1,6 +1,5 @@
 use Rattle.std.proofs.Common.{◌+◌, ◌-◌, ◌*◌, length, map}
 use Rattle.serde_json.specs.View.{view}
-use Rattle.irs_elements.specs.Elements.{referenced_texts}
 use Rattle.irs_elements.specs.Private.Walk.{ItemFault, RowFault}
 use Rattle.irs_elements.proofs.First.{Below}
 use Rattle.irs_terms.specs.Faults.{IsFirstBroken}
@@ -9,19 +8,19 @@ use Rattle.irs_elements.proofs.walk.+faults.Given as goal
 -- the fault kept is the first of those at the rows before c
 abbrev pub invariant-members_fault-loop-c : goal.invariant-members_fault-loop-c
 invariant-members_fault-loop-c l =
-    IsFirstBroken (Below (RowFault l.table.rows.now (referenced_texts l.table.names.now) l.table.stream l.r l.index (view l.v))
+    IsFirstBroken (Below (RowFault l.table l.r l.index (view l.v))
     l.c) l.first
 
 -- the fault kept is the first of those in the values before j
 abbrev pub invariant-items_fault-loop-j : goal.invariant-items_fault-loop-j
 invariant-items_fault-loop-j l =
     IsFirstBroken (Below
-    (ItemFault l.table.rows.now (referenced_texts l.table.names.now) l.table.stream l.c l.row l.index (map view l.list)) l.j)
+    (ItemFault l.table l.c l.row l.index (map view l.list)) l.j)
     l.first
 
 -- an object leads to its members, whose rows come later
-abbrev pub decreases-value_fault : goal.decreases-value_fault
-decreases-value_fault l = 4 * (length l.table.now.rows.now - l.r) + 1
+abbrev pub decreases-first_fault : goal.decreases-first_fault
+decreases-first_fault l = 4 * (length l.table.now.rows.now - l.r) + 1
 
 -- each member has a later row than its object
 abbrev pub decreases-members_fault : goal.decreases-members_fault

@@ -1,5 +1,4 @@
 use Rattle.serde_json.specs.View.{view}
-use Rattle.irs_elements.specs.Elements.{referenced_texts}
 use Rattle.irs_elements.proofs.Steps.{shape_first}
 use Rattle.irs_elements.proofs.walk.shape_fault.Goals as goal
 
@@ -12,5 +11,5 @@ returns c =
       c.broken_if-no_href.ensures,
       c.lacks_href.ensures,
       c.names_fault.ensures,
-    ) (shape_first c.args.table.now.rows.now (referenced_texts c.args.table.now.names.now) c.args.table.now.stream c.args.r
+    ) (shape_first c.args.table.now c.args.r
     c.args.index c.args.choice (view c.args.v.now) c.args.listed c.requires.names)
