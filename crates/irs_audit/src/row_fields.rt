@@ -72,11 +72,11 @@ pub(crate) fn exchange_field(x: &Exchange, y: &FlowExchange) -> Option<Field>
 }
 
 // The stated number of calculation periods is not that of the payment.
-fn has_other_count(x: &PaymentEntry, stated: u32) -> bool
+fn has_other_count(x: &PaymentEntry, stated: usize) -> bool
     requires { IsComparedPayment x.now }
     ensures { IsTrue result ↔ ¬ (stated ≡ x.now.last_period + 1 - x.now.first_period) }
 {
-    stated != x.last_period + 1 - x.first_period
+    stated != (x.last_period + 1 - x.first_period) as usize
 }
 
 /// The first field of a payment that departs.

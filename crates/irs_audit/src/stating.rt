@@ -76,11 +76,11 @@ fn fraction(frac: Frac) -> StatedFraction
 }
 
 // How many calculation periods a payment has.
-fn period_count(y: &PaymentEntry) -> u32
+fn period_count(y: &PaymentEntry) -> usize
     requires { IsComparedPayment y.now }
     ensures { result ≡ y.now.last_period + 1 - y.now.first_period }
 {
-    y.last_period + 1 - y.first_period
+    (y.last_period + 1 - y.first_period) as usize
 }
 
 fn reset(r: &Reset) -> FlowReset

@@ -131,16 +131,11 @@ fn first_places(alloc: Global, flow: &FlowStream) -> Result<Vec<usize>, Memory>
 }
 
 // The place after this number of periods, at most the last one.
-fn next_place(place: usize, periods: u32, count: usize) -> usize
+fn next_place(place: usize, periods: usize, count: usize) -> usize
     requires { place ≤ count }
     ensures { result ≡ min count (place + periods) }
 {
-    let left = count - place;
-    if left < periods as usize {
-        count
-    } else {
-        place + periods as usize
-    }
+    place + periods.min(count - place)
 }
 
 // Appends the findings of the rows of the pairing of payments.

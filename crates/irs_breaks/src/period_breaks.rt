@@ -208,11 +208,11 @@ fn our_starts(
 fn their_starts(
     alloc: Global,
     periods: &[FlowPeriod],
-    count: u32,
+    count: usize,
 ) -> Result<Vec<Option<Day>>, Memory>
     ensures { IfOk result (λ dates. dates.items ≡ map (λ (y : FlowPeriod). y.adjusted_start) (take count periods.now)) }
 {
-    let few = periods.len().min(count as usize);
+    let few = periods.len().min(count);
     let mut dates = Vec::new(alloc);
     for period in &periods[..few] {
         dates.push(period.adjusted_start)?;

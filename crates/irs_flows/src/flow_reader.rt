@@ -2,8 +2,6 @@
 ghost use Rattle.irs_base.specs.Outcomes.{Determined};
 ghost use Rattle.irs_flows.specs.FlowReading.{FlowPart, FlowsAreWithin, FlowsOf, HidesNone, IsFirstFlowFault};
 ghost use Rattle.irs_flows.specs.FlowReading.{flow_parts_in, flows_of_document, shape_kind_of as kind_by};
-ghost use Rattle.irs_flows.specs.FlowFaults.{FlowSwapFault};
-ghost use Rattle.irs_terms.specs.declared.places.Broken.{Broken as BrokenRule};
 ghost use Rattle.serde_json.specs.{Data.Data, View.view};
 ghost use Rattle.std.specs.Prelude.{◌≡◌, IfErr, IfOk, List};
 
@@ -31,9 +29,8 @@ fn kind_of(rule: Rule) -> ShapeKind
     }
 }
 
-// The flows of a swap that has no fault.
+// The flows of a swap; they count where it has no fault.
 fn flows_of(alloc: Global, v: &Value) -> Result<Flows, Memory>
-    requires { (f : BrokenRule) → FlowSwapFault (view v.now) f → ⊥ }
     ensures { IfOk result (λ flows. flows ≡ flow_parts_in (view v.now)) }
 {
     let mut streams = Vec::new(alloc);

@@ -1,10 +1,9 @@
 //! The rows of cash flows: exchanges, payments with their calculation periods, and resets.
-ghost use Rattle.irs_base.specs.Limits.{most_rows};
 ghost use Rattle.irs_elements.specs.Elements.{once as once_of, seen};
-ghost use Rattle.irs_flows.specs.{FlowFaults.flow_periods_of, FlowFaults.payments_in, FlowReading.reset_at};
+ghost use Rattle.irs_flows.specs.{FlowFaults.flow_periods_of, FlowReading.reset_at};
 ghost use Rattle.irs_flows.specs.FlowReading.{exchange_in, flow_part_in, flow_reset_in, payment_in, period_in};
 ghost use Rattle.serde_json.specs.View.{view};
-ghost use Rattle.std.specs.Prelude.{◌≡◌, ◌≤◌, IfOk, codes, length, map};
+ghost use Rattle.std.specs.Prelude.{◌≡◌, IfOk, codes, map};
 
 use crate::flow_faults::payments_of;
 use crate::flow_leaves::{amount, currency, day, days, fraction};
@@ -60,7 +59,6 @@ fn exchanges(alloc: Global, found: &[Value]) -> Result<Vec<FlowExchange>, Memory
 
 // The payments, and the calculation periods of all of them.
 fn payments(alloc: Global, found: &[Value]) -> Result<(Vec<FlowPayment>, Vec<FlowPeriod>), Memory>
-    requires { length (flow_periods_of (map view found.now)) ≤ most_rows }
     ensures payments { IfOk result (λ both. both.0.items ≡ map payment_in (map view found.now)) }
     ensures periods { IfOk result (λ both. both.1.items ≡ map period_in (flow_periods_of (map view found.now))) }
 {
@@ -72,7 +70,7 @@ fn payments(alloc: Global, found: &[Value]) -> Result<(Vec<FlowPayment>, Vec<Flo
         payments.push(FlowPayment {
             unadjusted: day(once(v, "unadjustedPaymentDate")),
             adjusted: day(once(v, "adjustedPaymentDate")),
-            periods: inside.len() as u32,
+            periods: inside.len(),
             currency: currency(member(forecast, "currency")),
             amount: amount(member(forecast, "amount")),
         })?;
@@ -85,9 +83,8 @@ fn payments(alloc: Global, found: &[Value]) -> Result<(Vec<FlowPayment>, Vec<Flo
     Ok((payments, periods))
 }
 
-/// The flows of a stream, where it has no fault.
+/// The flows of a stream, of which those count that have no fault.
 pub fn stream_flows(alloc: Global, v: &Value) -> Result<FlowStream, Memory>
-    requires { length (flow_periods_of (payments_in (once_of (codes "cashflows") (view v.now)))) ≤ most_rows }
     ensures { IfOk result (λ flows. flows ≡ flow_part_in (view v.now)) }
 {
     let v = once(v, "cashflows");

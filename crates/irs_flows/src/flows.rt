@@ -27,7 +27,7 @@ pub struct FlowPayment {
     /// `adjustedPaymentDate`.
     pub adjusted: Option<Day>,
     /// The number of calculation periods in the payment.
-    pub periods: u32,
+    pub periods: usize,
     /// `forecastPaymentAmount/currency`.
     pub currency: Option<Currency>,
     /// `forecastPaymentAmount/amount`, in units of 10^-12.

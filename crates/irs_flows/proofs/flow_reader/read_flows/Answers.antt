@@ -1,6 +1,5 @@
 use Rattle.irs_flows.proofs.flow_reader.read_flows.Goals as goal
 use Rattle.irs_flows.proofs.FlowRules.{of_flows, told}
-use Rattle.irs_read.specs.Documents.{below}
 use Rattle.std.proofs.Common.{refl}
 
 pub returns-in-Err-clause-fault : goal.returns-in-Err-clause-fault
@@ -11,6 +10,3 @@ returns-in-Err-clause-fault c = record {
   place_is = refl;
   read = rw c.kind_of.ensures (told c.in-Err.fault.rule (of_flows _ _ c.in-Err.ensures.broken.0));
 }
-
-pub flows_of-requires : goal.flows_of-requires
-flows_of-requires c f q = c.in-Ok.ensures.clean f (below _ f c.in-Ok.ensures.found q)
