@@ -10,14 +10,15 @@ use Rattle.irs_json.specs.Leaves.{child_of, items_of, element_names}
 use Rattle.irs_terms.specs.Faults.{earlier_broken, IsFirstBroken}
 use Rattle.irs_terms.specs.declared.places.{Broken.Broken, Rule.Rule}
 use Rattle.irs_terms.specs.declared.places.Rule.TheVariants.{K2, K3, K4, K5}
-use Rattle.irs_elements.specs.declared.{table.Choice.Choice, table.Kind.Kind, table.Row.Row, table.Table.Table, walk.Unmet.Unmet}
+use Rattle.irs_elements.specs.declared.{table.Choice.Choice, table.Kind.Kind, table.Row.Row, table.Table.Table}
+use Rattle.irs_elements.specs.declared.walk.Unmet.{Unmet}
 use Rattle.irs_elements.specs.declared.table.Kind.TheVariants.{Object, Leaf, Passed, Refused}
-use Rattle.irs_elements.specs.Elements.{place, unmet_place, choice_unmet, own_rule, name_at, is_unknown, stands}
-use Rattle.irs_elements.specs.Elements.{is_element, is_refused, is_required, most, absent_index, index_in, IsMemberRow}
-use Rattle.irs_elements.specs.Elements.{unknown, unmet, odd, no_href, has_odd, lacks_href, own}
-use Rattle.irs_elements.specs.Elements.{shape, under, missing, refused, too_many, inside}
-use Rattle.irs_elements.specs.Private.Walk.{Any, IsUnbroken, ItemFault, ItemsFault, MemberFault, OwnFault, RowFault, ValueFault, fault_if}
-use Rattle.irs_elements.specs.Private.Walk.{names_in, place_in}
+use Rattle.irs_elements.specs.Elements.{IsMemberRow, absent_index, choice_unmet, has_odd, index_in, inside, is_element}
+use Rattle.irs_elements.specs.Elements.{is_refused, is_required, is_unknown, lacks_href, missing, most, name_at, no_href}
+use Rattle.irs_elements.specs.Elements.{odd, own, own_rule, refused, shape, stands, too_many, under, unknown, unmet}
+use Rattle.irs_elements.specs.Elements.{unmet_place}
+use Rattle.irs_elements.specs.Private.Walk.{Any, IsUnbroken, ItemFault, ItemsFault, MemberFault, OwnFault, RowFault}
+use Rattle.irs_elements.specs.Private.Walk.{ValueFault, fault_if, names_in, place_in}
 use Rattle.irs_elements.proofs.Exact.{both_true, true_both}
 use Rattle.irs_elements.proofs.First.{Below, first_all, first_or, first_same, first_one, first_is, first_more, none_later}
 
@@ -104,9 +105,8 @@ module _ (t : Table) where
 
   -- ---- a value by itself
 
-  from_own : (r i : ℕ) (kind : Kind) (d : Data) → ((ch : Choice) → kind ≡ Object ch → element_names d ≡ None) → (f : Broken)
-      → ValueFault t r kind i d f
-      → (k : Rule) × ((own_rule kind d ≡ Some k) × (f ≡ place_in t k r i))
+  from_own : (r i : ℕ) (kind : Kind) (d : Data) → ((ch : Choice) → kind ≡ Object ch → element_names d ≡ None)
+      → (f : Broken) → ValueFault t r kind i d f → (k : Rule) × ((own_rule kind d ≡ Some k) × (f ≡ place_in t k r i))
   from_own r i kind d h f (own _ _ k _ _ e) = (k, (e, refl))
   from_own r i kind d h f (shape _ _ ch _ ns _ e s) = let e' = h ch refl in cc
   from_own r i kind d h f (under _ _ c ch _ ns _ row e m u) = let e' = h ch refl in cc
@@ -201,7 +201,8 @@ module _ (t : Table) where
         (λ f u. let x = is_under None h f u in (x.1, x.2))
         (first_if (place_in t K2 c (absent_index row.count i)) (is_required row.count))
 
-    refused_at : (o : Option Data) → child_of (name_at names c) d ≡ o → is_refused row.kind ≡ true → is_element row.kind ≡ false
+    refused_at : (o : Option Data) → child_of (name_at names c) d ≡ o → is_refused row.kind ≡ true
+        → is_element row.kind ≡ false
         → IsFirstBroken (MemberFault t c row i d) (fault_if (is_some o) (place_in t K5 row.parent i))
     refused_at None h rf out = λ f u. true≢false (sym (is_under None h f u).0 ∙ out)
     refused_at (Some m) h rf out =
@@ -212,8 +213,7 @@ module _ (t : Table) where
 
     -- a member that is out of the profile breaks K5 where it stands
     pub under_refused : row.kind ≡ Refused
-        → IsFirstBroken (MemberFault t c row i d)
-        (fault_if (stands names c d) (place_in t K5 row.parent i))
+        → IsFirstBroken (MemberFault t c row i d) (fault_if (stands names c d) (place_in t K5 row.parent i))
     under_refused is = refused_at (child_of (name_at names c) d) refl (rw is refl) (rw is refl)
 
     to_items : (m : Data) → is_element row.kind ≡ true → child_of (name_at names c) d ≡ Some m → (f : Broken)
@@ -222,9 +222,9 @@ module _ (t : Table) where
     to_items m el h f (inr (le, (j, (x, (at, q))))) = inside c i j row d m x f el h le at q
 
     -- an element breaks what its values break
-    pub under_items : (m : Data) (a : Option Broken) → is_element row.kind ≡ true → child_of (name_at names c) d ≡ Some m
-        → IsFirstBroken (ItemsFault t c row i (items_of m)) a
-        → IsFirstBroken (MemberFault t c row i d) a
+    pub under_items : (m : Data) (a : Option Broken) → is_element row.kind ≡ true
+        → child_of (name_at names c) d ≡ Some m
+        → IsFirstBroken (ItemsFault t c row i (items_of m)) a → IsFirstBroken (MemberFault t c row i d) a
     under_items m a el h p =
         first_same _ _ a (to_items m el h) (λ f u. elim (is_under (Some m) h f u) [
           | inl x ↦ absurd (kept_in row.kind el x.0)

@@ -10,8 +10,8 @@ ghost use Rattle.irs_elements.specs.Elements.{is_required as is_required_of, is_
 ghost use Rattle.irs_elements.specs.Elements.{most as most_of, name_at, referenced_texts, seen};
 ghost use Rattle.irs_elements.specs.Elements.{stands as stands_of, unmet_place};
 ghost use Rattle.irs_elements.specs.Leaves.{leaf_rule as leaf_rule_of};
-ghost use Rattle.irs_elements.specs.Private.Walk.{Any, IsUnbroken, ItemsFault, MemberFault, OwnFault, RowFault, fault_if};
-ghost use Rattle.irs_elements.specs.Private.Walk.{names_in, place_in};
+ghost use Rattle.irs_elements.specs.Private.Walk.{Any, IsUnbroken, ItemsFault, MemberFault, OwnFault, RowFault};
+ghost use Rattle.irs_elements.specs.Private.Walk.{fault_if, names_in, place_in};
 ghost use Rattle.irs_json.specs.Leaves.{child_of, element_names, is_attribute_name as is_attribute_name_of, leaf_of};
 ghost use Rattle.irs_terms.specs.Faults.{IsFirstBroken, earlier_broken};
 ghost use Rattle.serde_json.specs.View.{view};

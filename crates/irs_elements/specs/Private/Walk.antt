@@ -8,7 +8,8 @@ use Rattle.irs_base.specs.Texts.{is_digit, number_after}
 use Rattle.irs_terms.specs.declared.places.Broken.{Broken}
 use Rattle.irs_terms.specs.declared.places.Rule.{Rule}
 use Rattle.irs_terms.specs.declared.places.Rule.TheVariants.{K2, K3, K4, K5, K6, K7}
-use Rattle.irs_elements.specs.Elements.{FaultAt, FaultUnder, IsMemberRow, ShapeFault, index_in, most, place, referenced_texts}
+use Rattle.irs_elements.specs.Elements.{FaultAt, FaultUnder, IsMemberRow, ShapeFault, index_in, most, place}
+use Rattle.irs_elements.specs.Elements.{referenced_texts}
 use Rattle.irs_elements.specs.declared.table.{Choice.Choice, Kind.Kind, Row.Row, Table.Table}
 
 -- ---- the number that the text of a decimal spells, as a function of the text

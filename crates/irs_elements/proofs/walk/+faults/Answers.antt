@@ -55,35 +55,30 @@ members_fault-loop-c-preserved t c =
 
 pub member_fault-returns-in-Refused : goal.member_fault-returns-in-Refused
 member_fault-returns-in-Refused t c =
-    rw (c.broken_if-in-Refused.ensures, c.stands.ensures) (under_refused c.args.table.now c.args.c c.args.index c.args.row.now
-    (view c.args.v.now) c.in-Refused.is)
+    rw (c.broken_if-in-Refused.ensures, c.stands.ensures) (under_refused c.args.table.now c.args.c c.args.index
+    c.args.row.now (view c.args.v.now) c.in-Refused.is)
 
 pub member_fault-returns-in-None : goal.member_fault-returns-in-None
 member_fault-returns-in-None t c =
-    rw (c.broken_if.ensures, c.is_required.ensures, c.absent_index-at.ensures) (under_missing c.args.table.now c.args.c c.args.index c.args.row.now
-    (view c.args.v.now) (search rules) (sym c.member_at.ensures ∙ ap seen c.in-None.is))
+    rw (c.broken_if.ensures, c.is_required.ensures, c.absent_index-at.ensures) (under_missing c.args.table.now c.args.c
+    c.args.index c.args.row.now (view c.args.v.now) (search rules) (sym c.member_at.ensures ∙ ap seen c.in-None.is))
 
 pub member_fault-returns-in-Some : goal.member_fault-returns-in-Some
 member_fault-returns-in-Some t c =
     let listed : map view c.as_slice.result.now ≡ items_of (view c.in-Some.member.now) =
     ap (map view) c.as_slice.ensures ∙ c.items.ensures in
-    under_items c.args.table.now c.args.c
-    c.args.index c.args.row.now (view c.args.v.now) _ _ (search rules)
+    under_items c.args.table.now c.args.c c.args.index c.args.row.now (view c.args.v.now) _ _ (search rules)
     (sym c.member_at.ensures ∙ ap seen c.in-Some.is) (rw listed at c.items_fault.ensures)
 
 pub items_fault-returns : goal.items_fault-returns
 items_fault-returns t c =
     let long = length-map c.args.list.now view in
     let last : c.loop-j.j ≡ length (map view c.args.list.now) = omega (arith, long) in
-    items_first c.args.table.now c.args.c
-    c.args.index c.args.row.now (map view c.args.list.now) _ (omega (arith, long, c.most.ensures, c.if-list-most.false))
-    (rw last at c.loop-j.invariant)
+    items_first c.args.table.now c.args.c c.args.index c.args.row.now (map view c.args.list.now) _
+    (omega (arith, long, c.most.ensures, c.if-list-most.false)) (rw last at c.loop-j.invariant)
 
 pub items_fault-loop-j-preserved : goal.items_fault-loop-j-preserved
 items_fault-loop-j-preserved t c =
-    let found = slice_get_read c.args.list.now (length c.args.list.now) c.loop-j.j c.index-list-j.result refl c.loop-j-test.true
-    c.index-list-j.is in
-    item_step c.args.table.now c.args.c
-    c.args.index c.args.row.now c.loop-j.j c.index_in-at.result c.args.list.now c.index-list-j.result c.loop-j.first
-    c.first_fault.result c.first_of-first.result found c.index_in-at.ensures c.first_of-first.ensures c.loop-j.invariant
-    c.first_fault.ensures
+    let found = slice_get_read _ _ c.loop-j.j c.index-list-j.result refl c.loop-j-test.true c.index-list-j.is in
+    item_step c.args.table.now c.args.c c.args.index c.args.row.now c.loop-j.j _ c.args.list.now c.index-list-j.result _ _ _
+    found c.index_in-at.ensures c.first_of-first.ensures c.loop-j.invariant c.first_fault.ensures
