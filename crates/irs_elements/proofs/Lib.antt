@@ -4,4 +4,3 @@ pub mod Exact
 pub mod DecimalsAt
 pub mod DatesAt
 pub mod TableRules
-pub mod KnownNames

@@ -12,6 +12,7 @@ use Rattle.irs_terms.specs.declared.places.{Broken.Broken, Rule.Rule}
 use Rattle.irs_terms.specs.declared.places.Rule.TheVariants.{K2, K3, K4, K5}
 use Rattle.irs_elements.specs.declared.{table.Choice.Choice, table.Kind.Kind, table.Row.Row, table.Table.Table}
 use Rattle.irs_elements.specs.declared.walk.Unmet.{Unmet}
+use Rattle.irs_elements.specs.declared.table.{Choice.TheVariants.Free, Count.TheVariants.One}
 use Rattle.irs_elements.specs.declared.table.Kind.TheVariants.{Object, Leaf, Passed, Refused}
 use Rattle.irs_elements.specs.Elements.{IsMemberRow, absent_index, choice_unmet, has_odd, index_in, inside, is_element}
 use Rattle.irs_elements.specs.Elements.{is_refused, is_required, is_unknown, lacks_href, missing, most, name_at, no_href}
@@ -21,6 +22,10 @@ use Rattle.irs_elements.specs.Private.Walk.{Any, IsUnbroken, ItemFault, ItemsFau
 use Rattle.irs_elements.specs.Private.Walk.{ValueFault, fault_if, names_in, place_in}
 use Rattle.irs_elements.proofs.Exact.{both_true, true_both}
 use Rattle.irs_elements.proofs.First.{Below, first_all, first_or, first_same, first_one, first_is, first_more, none_later}
+
+-- a row where there is none
+abbrev pub some_row : Row
+some_row = record { parent = 0; place = 0; kind = Object Free; count = One }
 
 -- the faults that an optional rule makes
 pub first_of_rule : {A : Type 0} (at : A → Broken) (o : Option A)

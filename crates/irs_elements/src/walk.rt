@@ -18,7 +18,6 @@ ghost use Rattle.serde_json.specs.View.{view};
 ghost use Rattle.std.specs.List.{Contains, list_any};
 ghost use Rattle.std.specs.Prelude.{◌≡◌, ◌+◌, ◌<◌, ◌&&◌, ◌==◌, IsSome, List, Some, map, nat_lt};
 ghost use Rattle.std.specs.Prelude.{option_map, true, ℕ};
-ghost use Rattle.std.specs.Str.{bytes_eq};
 
 use crate::leaves::leaf_rule;
 use crate::order::earlier;
@@ -194,25 +193,14 @@ fn is_member(row: &Row, r: usize, c: usize) -> bool
     row.parent == r && r < c
 }
 
-// Whether the row at c is below the object at row r and has the name.
-fn is_named(table: &Table<'_>, r: usize, c: usize, row: &Row, name: &str) -> bool
-    ensures { result
-        ≡ (nat_lt r c && row.now.parent == r && bytes_eq (name_at (names_in table.now) c) name.now) }
-{
-    is_member(row, r, c) && name_of(table.names, c) == name
-}
-
-// Whether a row below the object at row r has the name; these rows come after its own.
+/// Whether a row below the object at row `r` has the name; these rows come after its own.
 #[inline(never)]
-fn is_known(table: &Table<'_>, r: usize, name: &str) -> bool
-    ensures { result ≡ is_known_in table.now.rows.now (names_in table.now) r name.now }
+pub fn is_known(rows: &[Row], names: &[&'static str], r: usize, name: &str) -> bool
+    ensures { result ≡ is_known_in rows.now (referenced_texts names.now) r name.now }
 {
-    for c in r..table.rows.len() {
-        if is_named(table, r, c, &table.rows[c], name) {
-            return true;
-        }
-    }
-    false
+    rows.iter().enumerate().skip(r).skip(1).any(|(c, row)| {
+        row.parent == r && name_of(names, c) == name
+    })
 }
 
 // Of the names of an object at row r: whether the table doesn't know one, and whether one is an
@@ -226,7 +214,7 @@ fn names_seen(table: &Table<'_>, r: usize, listed: MemberIter<'_>) -> (bool, boo
     for name in listed {
         if is_attribute_name(name) {
             attribute = true;
-        } else if !is_known(table, r, name) {
+        } else if !is_known(table.rows, table.names, r, name) {
             unknown = true;
         }
     }

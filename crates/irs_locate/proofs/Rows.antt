@@ -1,18 +1,11 @@
--- The row of an element, and rows that are out of the profile.
-use Rattle.std.proofs.Common.{◌≡◌, ℕ, ◌+◌, ◌≤◌, Bool, true, false, ◌&&◌, ◌==◌, List, Some, length, slice_get}
+-- The row of an element.
+use Rattle.std.proofs.Common.{◌≡◌, ℕ, ◌+◌, ◌≤◌, Bool, true, false, List, Some, length, slice_get}
 use Rattle.std.proofs.Common.{refl, sym, ap, arith, ◌∙◌}
 use Rattle.std.proofs.lemmas.Bool.Decides.{nat_tests}
 use Rattle.std.proofs.lemmas.Option.{same_Some, slice_get_within}
 use Rattle.std.specs.Prelude.{nat_lt}
-use Rattle.std.specs.Str.{bytes_eq}
-use Rattle.irs_elements.proofs.KnownNames.{Test}
-use Rattle.irs_elements.specs.Elements.{is_refused, name_at}
 use Rattle.irs_elements.specs.declared.table.Row.{Row}
 use Rattle.irs_locate.specs.Ways.{IsRowOf, is_row_of}
-
--- whether a row below the object at row r has the name, and is out of the profile
-abbrev pub IsOutAt : List (List ℕ) → ℕ → List ℕ → Test
-IsOutAt names r name = λ (c, row). is_refused row.kind && (row.parent == r && bytes_eq (name_at names c) name)
 
 -- nothing is both
 true_is_false : true ≡ false → ⊥

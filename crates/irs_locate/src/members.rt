@@ -1,7 +1,7 @@
 //! The name of the member by which an object breaks K4 or K5.
 ghost use Rattle.irs_terms.specs.Faults.{rule_number};
 ghost use Rattle.irs_terms.specs.declared.places.Broken.{Broken as BrokenRule};
-ghost use Rattle.irs_elements.specs.Elements.{is_element as is_element_of, is_known as is_known_in};
+ghost use Rattle.irs_elements.specs.Elements.{is_element as is_element_of};
 ghost use Rattle.irs_elements.specs.Elements.{is_refused as is_refused_of, is_unknown, name_at, referenced_texts, seen};
 ghost use Rattle.irs_elements.specs.Elements.{values_in};
 ghost use Rattle.irs_locate.specs.Ways.{HasOneMember, IsMemberOf, IsRowOf, IsValueAt, first_odd as first_odd_of};
@@ -12,12 +12,12 @@ ghost use Rattle.irs_read.specs.Documents.{has as has_of};
 ghost use Rattle.serde_json.specs.Data.{Data};
 ghost use Rattle.serde_json.specs.View.{view};
 ghost use Rattle.std.specs.List.{find};
-ghost use Rattle.std.specs.Prelude.{◌≡◌, ◌-◌, ◌<◌, ◌==◌, ◌&&◌, IfNone, IfSome, List, None, Some, nat_lt, option_map};
+ghost use Rattle.std.specs.Prelude.{◌≡◌, ◌-◌, ◌<◌, IfNone, IfSome, List, None, Some, option_map};
 ghost use Rattle.std.specs.Prelude.{slice_get, ℕ};
-ghost use Rattle.std.specs.Str.{IsUtf8, bytes_eq};
+ghost use Rattle.std.specs.Str.{IsUtf8};
 
 use crate::ways::step_at;
-use irs_elements::{Kind, Row, values_at};
+use irs_elements::{Kind, Row, is_known, values_at};
 use irs_json::{MemberIter, Value, child, is_attribute_name, members};
 use irs_read::{NAMES, ROWS, SWAP_NAMES, SWAP_ROWS};
 use irs_terms::{Broken, Elem, Place, Rule};
@@ -108,44 +108,13 @@ fn name_of(names: &[&'static str], c: usize) -> &'static str
     }
 }
 
-// Whether the row at c is below the object at row r and has the name.
-fn is_named(table: Known, r: usize, c: usize, row: &Row, name: &str) -> bool
-    ensures { result ≡ (nat_lt r c && row.now.parent == r && bytes_eq (name_at (referenced_texts table.names.now) c) name.now) }
-{
-    r < c && row.parent == r && name_of(table.names, c) == name
-}
-
-// Whether a row below the object at row r has the name.
-fn is_known(table: Known, r: usize, name: &str) -> bool
-    ensures { result ≡ is_known_in table.rows.now (referenced_texts table.names.now) r name.now }
-{
-    for c in 0..table.rows.len() {
-        if is_named(table, r, c, &table.rows[c], name) {
-            return true;
-        }
-    }
-    false
-}
-
-// Whether the row at c is below the object at row r, has the name, and is out of the profile.
-fn is_out_at(table: Known, r: usize, c: usize, row: &Row, name: &str) -> bool
-    ensures { result
-        ≡ (is_refused_of row.now.kind
-        && (row.now.parent == r && bytes_eq (name_at (referenced_texts table.names.now) c) name.now)) }
-{
-    is_refused(row.kind) && (row.parent == r && name_of(table.names, c) == name)
-}
-
 // Whether a row below the object at row r has the name, and is out of the profile.
 fn is_out(table: Known, r: usize, name: &str) -> bool
     ensures { result ≡ is_out_of (known_seen table) r name.now }
 {
-    for c in 0..table.rows.len() {
-        if is_out_at(table, r, c, &table.rows[c], name) {
-            return true;
-        }
-    }
-    false
+    table.rows.iter().enumerate().any(|(c, row)| {
+        is_refused(row.kind) && (row.parent == r && name_of(table.names, c) == name)
+    })
 }
 
 // ---- names
@@ -154,7 +123,7 @@ fn is_out(table: Known, r: usize, name: &str) -> bool
 fn first_unknown<'a>(table: Known, r: usize, mut listed: MemberIter<'a>) -> Option<&'a str>
     ensures { option_map (λ n. n.now) result ≡ find (is_unknown table.rows.now (referenced_texts table.names.now) r) listed.entry }
 {
-    listed.find(|name| !(is_attribute_name(name) || is_known(table, r, name)))
+    listed.find(|name| !(is_attribute_name(name) || is_known(table.rows, table.names, r, name)))
 }
 
 // The first name that is out of the profile below the object at row r.

@@ -4,8 +4,8 @@ use Rattle.std.proofs.lemmas.Option.{slice_get-get_or, slice_get_read}
 use Rattle.serde_json.specs.View.{view}
 use Rattle.irs_json.specs.Leaves.{element_names, items_of}
 use Rattle.irs_elements.specs.Elements.{seen}
-use Rattle.irs_elements.proofs.KnownNames.{some_row}
-use Rattle.irs_elements.proofs.Steps.{own_first, object_first, members_first, member_step, right_step, other_step}
+use Rattle.irs_elements.proofs.Steps.{member_step, members_first, object_first, other_step, own_first, right_step}
+use Rattle.irs_elements.proofs.Steps.{some_row}
 use Rattle.irs_elements.proofs.Steps.{under_missing, under_refused, under_items, items_first, item_step}
 use Rattle.irs_elements.proofs.walk.+faults.Goals as goal
 

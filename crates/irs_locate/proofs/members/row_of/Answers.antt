@@ -1,6 +1,6 @@
 use Rattle.std.proofs.Common.{◌∙◌, get_or, sym}
 use Rattle.std.proofs.lemmas.Option.{slice_get-get_or}
-use Rattle.irs_elements.proofs.KnownNames.{some_row}
+use Rattle.irs_elements.proofs.Steps.{some_row}
 use Rattle.irs_elements.specs.declared.table.Row.{Row}
 use Rattle.irs_locate.proofs.Rows.{no_row, row_later}
 use Rattle.irs_locate.proofs.members.row_of.Goals as goal
