@@ -3,7 +3,7 @@ use Rattle.serde_json.specs.{Data.Data, View.view, declared.value.Value.Value, F
 use Rattle.std.specs.{Borrow.Bor, List.list_any, List.enumerate_from, Str.bytes_eq}
 use Rattle.std.specs.Prelude.{ℕ, List, [], Option, Some, None, option_map, option_and_then, slice_get, map, ◌≡◌, Bool}
 use Rattle.std.specs.Prelude.{true, false, not, ◌&&◌, ◌||◌, ◌==◌, ◌<◌, ◌≤◌, ◌+◌, length, is_some, is_none, codes}
-use Rattle.std.specs.Prelude.{drop, if◌then◌else◌, nat_lt}
+use Rattle.std.specs.Prelude.{if◌then◌else◌, nat_lt}
 use Rattle.irs_terms.specs.{Elements.count, Elements.name_or_empty, declared.places.Broken.Broken}
 use Rattle.irs_terms.specs.{declared.places.Rule.Rule}
 use Rattle.irs_terms.specs.declared.places.Rule.TheVariants.{K2, K3, K4, K5, K7}
@@ -167,7 +167,7 @@ module _ (rows : List Row) (names : List (List ℕ)) where
   -- whether a row below the object at row r has the name
   abbrev pub is_known : ℕ → List ℕ → Bool
   is_known r name =
-      list_any (λ (c, row). row.parent == r && bytes_eq (name_at names c) name) (drop 1 (drop r (enumerate_from 0 rows)))
+      list_any (λ (c, row). nat_lt r c && row.parent == r && bytes_eq (name_at names c) name) (enumerate_from 0 rows)
 
   -- a name that is no attribute's and that no row has
   abbrev pub is_unknown : ℕ → List ℕ → Bool

@@ -198,8 +198,8 @@ fn is_member(row: &Row, r: usize, c: usize) -> bool
 pub fn is_known(rows: &[Row], names: &[&'static str], r: usize, name: &str) -> bool
     ensures { result ≡ is_known_in rows.now (referenced_texts names.now) r name.now }
 {
-    rows.iter().enumerate().skip(r).skip(1).any(|(c, row)| {
-        row.parent == r && name_of(names, c) == name
+    rows.iter().enumerate().any(|(c, row)| {
+        r < c && row.parent == r && name_of(names, c) == name
     })
 }
 
