@@ -15,7 +15,7 @@ use Rattle.std.proofs.Common.{◌==◌, List, [], ◌∷◌, ◌++◌, length, t
 use Rattle.std.proofs.Common.{◌&&◌, IfNone, option_map, refl, sym, ap, ap₂, ◌∙◌, subst, arith, true≢false, if◌then◌else◌}
 use Rattle.std.proofs.Math.Nat.{mul-le-mul_left, mul-le-mul_right, one-le-pow, pow-succ'}
 use Rattle.std.proofs.lemmas.{Bool.false_from_ne_true, Bool.Decides.nat_tests, Int.ints, Option.same_Some, Nat.pow-add}
-use Rattle.std.proofs.lemmas.List.{length-append, take-append-drop}
+use Rattle.std.proofs.lemmas.List.{drop_all, length-append, take-append-drop}
 use Rattle.std.specs.{List.list_all, Prelude.get_or}
 
 is_number : (c k : ℕ) → (c == k) ≡ true → c ≡ k
@@ -100,43 +100,29 @@ room n k some =
     let one : 1 ≤ 10 ^ (k - 1) = one-le-pow (k - 1) 10 (omega arith) in
     omega (arith, room_left n 9 k some (omega arith), mul-le-mul_left (10 * n + 9 + 1) one)
 
--- one to nine digits spell an unsigned whole number
-few_unsigned : (s : List ℕ)
-    → few_digits_at s ≡ (if nat_le (length s) 9 && has_no_point s then unsigned_at 0 s else None)
+-- one to nine digits spell an unsigned decimal, in units of 10^-p
+few_unsigned : (p : ℕ) (s : List ℕ) → option_map (λ n. number_after n (padded p [])) (few_digits_at s)
+    ≡ (if nat_le (length s) 9 && has_no_point s then unsigned_at p s else None)
 unfolding unsigned_at
-few_unsigned s =
+few_unsigned p s =
     let digits : list_all is_digit s ≡ true → has_no_point s ≡ true = λ e. no_point s (digits_true s e) in
     let cut : has_no_point s ≡ true → (before_point s ≡ s) × (behind_point s ≡ []) =
     λ e. cut_once s _ _ s [] (cut_is s) (record { no_point = e; is = inl (refl, refl) }) in
-    grind (arith, nat_tests, digits, cut)
+    grind (arith, nat_tests, digits, cut, drop_all {X = ℕ} p [] (omega arith))
 
 -- so they spell a whole number after a sign
 pub whole_is : (s : List ℕ) → whole_at s ≡ option_map (λ n. if get_or s 0 0 == 45 then neg_ℤ (pos n) else pos n)
     (few_digits_at (digits_of s))
 unfolding dec_at
 whole_is [] = refl
-whole_is (c ∷ cs) = grind (arith, nat_tests, few_unsigned cs, few_unsigned (c ∷ cs))
-
--- ten thousand times a whole number is the number in units of 10^-4
-as_units : (s : List ℕ) (n : ℕ) → IsUnsigned s 0 n → IsUnsigned s 4 (10000 * n)
-as_units s n u = record {
-  whole = u.whole;
-  fraction = u.fraction;
-  whole_digits = u.whole_digits;
-  fraction_digits = u.fraction_digits;
-  some = u.some;
-  short = u.short;
-  is = u.is;
-  value = omega (arith, u.value);
-}
+whole_is (c ∷ cs) = grind (arith, nat_tests, few_unsigned 0 cs, few_unsigned 0 (c ∷ cs))
 
 -- a notional of a few digits and no point is 10000 times their number
 pub few_is : (s : List ℕ) (n : ℕ) → few_digits_at s ≡ Some n → n < 2 ^ 32 → Some (pos (10000 * n)) ≡ notional_at s
-few_is s n e small =
-    let whole : unsigned_at 0 s ≡ Some n = grind (arith, few_unsigned s, e) in
-    let u = subst (Exact (IsUnsigned s 0)) whole (unsigned_exact s 0) in
-    let dec : Some (pos (10000 * n)) ≡ dec_at 4 s =
-    dec_is s 4 (Some (pos (10000 * n))) (bare s 4 (10000 * n) (as_units s n u)) tt in
+unfolding dec_at
+few_is [] n e small = cc
+few_is (c ∷ cs) n e small =
+    let dec : Some (pos (10000 * n)) ≡ dec_at 4 (c ∷ cs) = grind (arith, nat_tests, few_unsigned 4 (c ∷ cs), e) in
     grind (arith, ints, dec, small)
 
 -- ---- a stated fraction

@@ -136,15 +136,10 @@ fn day_roll(text: &[u8]) -> Option<RollCode>
     ensures { result ≡ spec.day_roll_at text.now }
 {
     match text {
-        [a] if b'1' <= *a && *a <= b'9' => Some(RollCode::Dom(*a - b'0')),
-        [a, b] if b'1' <= *a && *a <= b'9' && b'0' <= *b && *b <= b'9' => {
-            let day = 10 * (*a - b'0') + (*b - b'0');
-            if day <= 30 {
-                Some(RollCode::Dom(day))
-            } else {
-                None
-            }
-        }
+        [a @ b'1'..=b'9'] => Some(RollCode::Dom(*a - b'0')),
+        [a @ b'1'..=b'9', b @ b'0'..=b'9'] => Some(10 * (*a - b'0') + (*b - b'0'))
+            .filter(|day| *day <= 30)
+            .map(RollCode::Dom),
         _ => None,
     }
 }

@@ -17,8 +17,8 @@ fn carry(digits: &[u8]) -> u128
     ensures small { result ≤ 1 }
 {
     match digits {
-        [] => 0,
-        [first, ..] => if *first >= b'5' { 1 } else { 0 },
+        [first, ..] if *first >= b'5' => 1,
+        _ => 0,
     }
 }
 
@@ -27,11 +27,7 @@ fn kept(decimals: &[u8]) -> (&[u8], &[u8])
     ensures kept { result.0.now ≡ take most_places decimals.now }
     ensures left { result.1.now ≡ drop most_places decimals.now }
 {
-    if decimals.len() <= MOST_PLACES {
-        (decimals, &[])
-    } else {
-        (&decimals[..MOST_PLACES], &decimals[MOST_PLACES..])
-    }
+    decimals.split_at(decimals.len().min(MOST_PLACES))
 }
 
 // The fraction of both parts, a half of the last kept place being carried.
@@ -44,9 +40,8 @@ fn fraction_of(whole: &[u8], decimals: &[u8]) -> Dec
 {
     let (kept, left) = kept(decimals);
     let places = kept.len() as u8;
-    let units = number_of_parts(whole, kept, places) + carry(left);
     Dec {
-        units: units as i128,
+        units: (number_of_parts(whole, kept, places) + carry(left)) as i128,
         places,
     }
 }

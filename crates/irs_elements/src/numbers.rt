@@ -1,7 +1,7 @@
 //! Dates and numbers: the value of a text. `None` comes exactly where the text is outside the
 //! grammar or the range of its kind.
 ghost use Rattle.irs_elements.specs.{Leaves.leaf_date_at, Private.Walk.digits_at, Private.Walk.few_digits_at};
-ghost use Rattle.std.specs.Prelude.{◌≡◌, ◌+◌, ◌*◌, ◌^◌, ◌<◌, ◌≤◌, ◌==◌, get_or, if◌then◌else◌, length, neg_ℤ, pos};
+ghost use Rattle.std.specs.Prelude.{◌≡◌, ◌+◌, ◌*◌, ◌^◌, ◌<◌, ◌≤◌, length};
 ghost use Rattle.irs_elements.specs.Numbers as spec;
 
 use irs_base::{Day, MOST_RATE, read_date, read_dec};
@@ -101,25 +101,17 @@ pub fn amount(text: &[u8]) -> Option<i128>
 pub fn whole(text: &[u8]) -> Option<i128>
     ensures { result ≡ spec.whole_at text.now }
 {
-    small_whole(text).map(|n| i128::from(n))
+    small_whole(text).map(i128::from)
 }
 
-// Whether the text begins with a minus, and what comes after its sign.
-fn cut_sign(text: &[u8]) -> (bool, &[u8])
-    ensures minus { result.0 ≡ (get_or text.now 0 0 == 45) }
-    ensures digits { result.1.now ≡ spec.digits_of text.now }
+// What comes after the sign of a text, if it has one.
+fn behind_sign(text: &[u8]) -> &[u8]
+    ensures { result.now ≡ spec.digits_of text.now }
 {
     match text {
-        [b'+', digits @ ..] => (false, digits),
-        [b'-', digits @ ..] => (true, digits),
-        _ => (false, text),
+        [b'+' | b'-', digits @ ..] => digits,
+        _ => text,
     }
-}
-
-fn signed(minus: bool, n: u32) -> i64
-    ensures { result ≡ (if minus then neg_ℤ (pos n) else pos n) }
-{
-    if minus { -i64::from(n) } else { i64::from(n) }
 }
 
 /// The same in 64 bits.
@@ -127,9 +119,8 @@ fn signed(minus: bool, n: u32) -> i64
 pub fn small_whole(text: &[u8]) -> Option<i64>
     ensures { result ≡ spec.whole_at text.now }
 {
-    let (minus, digits) = cut_sign(text);
-    let n = few_digits(digits)?;
-    Some(signed(minus, n))
+    let n = i64::from(few_digits(behind_sign(text))?);
+    Some(if text[0] == b'-' { -n } else { n })
 }
 
 /// `periodMultiplier` of a frequency: 1 to 999.
