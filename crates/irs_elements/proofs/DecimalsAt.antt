@@ -1,6 +1,6 @@
 -- The functions of a decimal's text give the number that the text spells, and so for a stated fraction.
 use Rattle.irs_base.proofs.DecimalLemmas.{apart, bare_none, cut_once, digits_true, minus_none, no_point, not_parts}
-use Rattle.irs_base.proofs.DecimalLemmas.{not_zeros, one_decimal, plus_none, room_left, true_digits, unsigned_is}
+use Rattle.irs_base.proofs.DecimalLemmas.{not_zeros, one_decimal, plus_none, room_left, some_room, true_digits, unsigned_is}
 use Rattle.irs_base.proofs.{RoundingLaws.nearest_once, VisibleTexts.digits_behind}
 use Rattle.irs_base.specs.Texts.{is_digit, AreDigits, AreParts, DecText, bare, plus, minus, IsCutAtPoint, IsUnsigned}
 use Rattle.irs_base.specs.Texts.{is_zero, has_no_point, most_places, number_after, number_of, padded}
@@ -14,16 +14,13 @@ use Rattle.std.proofs.Common.{◌≡◌, inl, inr, ℕ, zero, suc, ◌+◌, ◌-
 use Rattle.std.proofs.Common.{◌==◌, List, [], ◌∷◌, ◌++◌, length, take, drop, ℤ, pos, neg_ℤ, Option, Some, None, IfSome}
 use Rattle.std.proofs.Common.{◌&&◌, IfNone, option_map, refl, sym, ap, ap₂, ◌∙◌, subst, arith, true≢false, if◌then◌else◌}
 use Rattle.std.proofs.Math.Nat.{mul-le-mul_left, mul-le-mul_right, one-le-pow, pow-succ'}
-use Rattle.std.proofs.lemmas.{Bool.false_from_ne_true, Bool.Decides.nat_tests, Int.ints, Option.same_Some, Nat.pow-add}
-use Rattle.std.proofs.lemmas.List.{drop_all, length-append, take-append-drop}
+use Rattle.std.proofs.lemmas.{Bool.eqb-true, Bool.false_from_ne_true, Bool.Decides.nat_tests, Int.ints, Nat.pow-add}
+use Rattle.std.proofs.lemmas.{List.drop_all, List.length-append, List.take-append-drop, Option.same_Some}
 use Rattle.std.specs.{List.list_all, Prelude.get_or}
-
-is_number : (c k : ℕ) → (c == k) ≡ true → c ≡ k
-is_number c k e = grind (arith, nat_tests)
 
 cut_one : (c : ℕ) (cs w f : List ℕ) (b : Bool) → (c == 46) ≡ b → IsCutAtPoint cs w f
     → IsCutAtPoint (c ∷ cs) (if b then [] else c ∷ w) (if b then cs else f)
-cut_one c cs w f true e h = record { no_point = refl; is = inr (ap (λ (x : ℕ). x ∷ cs) (is_number c 46 e)) }
+cut_one c cs w f true e h = record { no_point = refl; is = inr (ap (λ (x : ℕ). x ∷ cs) (eqb-true c 46 e)) }
 cut_one c cs w f false e h = record {
   no_point = rw e h.no_point;
   is = elim h.is [
@@ -69,10 +66,10 @@ by_sign : (c : ℕ) (cs : List ℕ) (p : ℕ) (a b : Bool) → (c == 43) ≡ a �
     (if a then option_map pos (unsigned_at p cs) else
     (if b then option_map (λ n. neg_ℤ (pos n)) (unsigned_at p cs) else option_map pos (unsigned_at p (c ∷ cs))))
 by_sign c cs p true b ea eb =
-    rw (is_number c 43 ea)
+    rw (eqb-true c 43 ea)
     (exact_map _ _ _ (unsigned_at p cs) (plus cs p) (λ none v. plus_none cs p v none) (unsigned_exact cs p))
 by_sign c cs p false true ea eb =
-    rw (is_number c 45 eb)
+    rw (eqb-true c 45 eb)
     (exact_map _ _ _ (unsigned_at p cs) (minus cs p) (λ none v. minus_none cs p v none) (unsigned_exact cs p))
 by_sign c cs p false false ea eb =
     exact_map _ _ _ (unsigned_at p (c ∷ cs)) (bare (c ∷ cs) p)
@@ -96,9 +93,7 @@ dec_is s p r some none =
 
 -- there is room for one digit more
 pub room : (n k : ℕ) → 1 ≤ k → 10 * n + 10 ≤ (n + 1) * 10 ^ k
-room n k some =
-    let one : 1 ≤ 10 ^ (k - 1) = one-le-pow (k - 1) 10 (omega arith) in
-    omega (arith, room_left n 9 k some (omega arith), mul-le-mul_left (10 * n + 9 + 1) one)
+room n k some = omega (arith, some_room (10 * n + 9) (k - 1) _ (room_left n 9 k some (omega arith)))
 
 -- one to nine digits spell an unsigned decimal, in units of 10^-p
 few_unsigned : (p : ℕ) (s : List ℕ) → option_map (λ n. number_after n (padded p [])) (few_digits_at s)
