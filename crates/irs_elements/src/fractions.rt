@@ -4,7 +4,7 @@
 ghost use Rattle.irs_base.specs.Texts.{AreDigits, most_places};
 ghost use Rattle.irs_base.specs.declared.line.Dec.{Dec as DecRecord};
 ghost use Rattle.irs_elements.specs.Numbers.{IsFraction, carried, fraction_at, fraction_from_digits as fraction_by};
-ghost use Rattle.std.specs.Prelude.{◌≡◌, ◌+◌, ◌≤◌, [], IfNone, IfSome, drop, length, take};
+ghost use Rattle.std.specs.Prelude.{◌≡◌, ◌+◌, ◌≤◌, IfNone, IfSome, drop, length, take};
 
 use irs_base::{Dec, decimal_parts, number_of_parts};
 
