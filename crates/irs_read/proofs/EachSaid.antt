@@ -53,8 +53,3 @@ lists_more vs i v lt is =
 pub added : (new old more : List (Option (Bor Value))) (before all : List (Option Data)) → new ≡ old ++ more
     → map seen old ≡ before → map seen more ≡ all → map seen new ≡ before ++ all
 added new old more before all e p q = ap (map seen) e ∙ map-append seen old more ∙ rw (p, q) refl
-
--- two lists of seven values are the same where their values are
-pub seven : {A : Type 0} {a b c d e f g a' b' c' d' e' f' g' : A} → a ≡ a' → b ≡ b' → c ≡ c' → d ≡ d' → e ≡ e' → f ≡ f'
-    → g ≡ g' → (a ∷ b ∷ c ∷ d ∷ e ∷ f ∷ g ∷ []) ≡ (a' ∷ b' ∷ c' ∷ d' ∷ e' ∷ f' ∷ g' ∷ [])
-seven p q r s t u v = cc
