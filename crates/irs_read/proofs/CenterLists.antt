@@ -1,30 +1,23 @@
 -- Lists of centres: those of clean streams say names, and no others.
 use Prim.Native.String.{String}
 use Rattle.irs_base.{proofs.EveryLemmas.every_both, specs.Limits.most_centers, specs.Lists.Every}
-use Rattle.irs_elements.specs.declared.table.Leaf.TheVariants.{CenterName, Convention}
 use Rattle.irs_elements.specs.{Elements.member, declared.table.Count.TheVariants.OneTo}
-use Rattle.irs_read.proofs.Rows.{At, AtMost, LeafRow, May, Path, RowIs, facts, is_leaf, most_of, row_of}
-use Rattle.irs_read.proofs.Tells.{Fills, Told, each_fills, fine, leaf_fills, perhaps, some, told}
+use Rattle.irs_elements.specs.declared.table.Leaf.{Leaf as LeafKind}
+use Rattle.irs_read.proofs.Clean.{required_at}
+use Rattle.irs_read.proofs.ReadParts.{RowFacts, Whole, center_names, each, leaf, named}
+use Rattle.irs_read.proofs.Rows.{At, AtMost, Path, RowIs, facts, most_of, row_of}
+use Rattle.irs_read.proofs.Tells.{Told, perhaps, told}
 use Rattle.irs_read.specs.Readings.{has_id, lists_in, lists_of, the_one}
-use Rattle.irs_read.{proofs.ReadParts.center_names, specs.StreamElements.center_list, specs.StreamElements.center_name}
+use Rattle.irs_read.specs.{StreamElements.center_list, declared.table.TheConstants.ROWS}
 use Rattle.irs_terms.specs.Lawful.{IsLawfulNames}
 use Rattle.serde_json.specs.Data.{Data}
-use Rattle.std.proofs.Common.{count_by, find, Option, Some, None, slice_get, codes, refl, arith, if◌then◌else◌, ◌≡◌, ℕ}
+use Rattle.std.proofs.Common.{count_by, find, Option, Some, None, slice_get, codes, refl, if◌then◌else◌, ◌≡◌, ℕ}
+use Rattle.std.proofs.Common.{suc, Bool, true, false, ◌==◌, List, [], ◌∷◌, ◌++◌, ap, cond, drop, get_or}
 use Rattle.std.specs.Option.{option_flatten}
-use Rattle.std.proofs.Common.{suc, Bool, true, false, ◌==◌, List, [], ◌∷◌, cond}
 
--- what the table says of a list of centres at the end of a path
-abbrev pub CenterRows : Path → Type 0
-CenterRows p = LeafRow p "businessCenter" CenterName × (most_of ("businessCenter" ∷ p) ≡ most_centers)
-
--- the list of centres at the end of a path
-pub list_fills : (p : Path) → CenterRows p → Fills p center_list.says IsLawfulNames
-list_fills p at =
-    each_fills p "businessCenter" (OneTo most_centers) center_name at.0
-    (λ d clean all h. let low = some p "businessCenter" at.0 d clean in
-    let high = (fine p "businessCenter" at.0 d clean).0 in
-    (omega (arith, h.many, low), omega (arith, h.many, high, at.1), h.each))
-    (leaf_fills ("businessCenter" ∷ p) center_names (is_leaf p "businessCenter" at.0))
+-- a list of centres
+abbrev pub list_reads : Whole center_list.says IsLawfulNames
+list_reads = each "businessCenter" (OneTo most_centers) (leaf center_names)
 
 -- a list of centres, if there is one, says lawful names
 abbrev pub GoodList : Option Data → Type 0
@@ -34,58 +27,63 @@ GoodList o = Told center_list.says IsLawfulNames o
 abbrev pub GoodLists : List (Option Data) → Type 0
 GoodLists = Every GoodList
 
--- what the table says of adjustments at the end of a path
-abbrev pub AdjustingRows : Path → Type 0
-AdjustingRows p =
-    LeafRow p "businessDayConvention" Convention × May p "businessCenters" × CenterRows ("businessCenters" ∷ p)
+-- ---- the lists of a stream
 
--- below what may be absent too
-below : {must : Bool} (p : Path) (name : String) → RowIs p name must None → (o : Option Data) → AtMost p o
-    → AtMost (name ∷ p) (member (codes name) o)
+-- the value at the end of a path
+abbrev end_of : Path → Data → Option Data
+end_of [] d = Some d
+end_of (name ∷ p) d = member (codes name) (end_of p d)
+
+-- the facts of the rows on the way to the end of a path
+abbrev on_way : (Path → String → RowFacts) → Path → List RowFacts
+on_way of [] = []
+on_way of (name ∷ p) = of p name ∷ on_way of p
+
+-- each name on the way is a member's
+abbrev IsWay : Path → Type 0
+IsWay p =
+    on_way (λ p name. facts p (row_of (name ∷ p))) p
+    ≡ on_way (λ p name. named p name (required_at (slice_get ROWS (row_of (name ∷ p))))) p
+
+-- a member of what may be absent is clean too
+below : {must : Bool} {kind : Option LeafKind} (p : Path) (name : String) → RowIs p name must kind → (o : Option Data)
+    → AtMost p o → AtMost (name ∷ p) (member (codes name) o)
 below p name row None clean = tt
 below p name row (Some d) clean = perhaps p name row d clean
 
--- the list of business centres in adjustments
-abbrev Centers : Option Data → Option Data
-Centers o = member (codes "businessCenters") o
+-- what is at its end is clean
+clean_end : (p : Path) → IsWay p → (d : Data) → At [] d → AtMost p (end_of p d)
+clean_end [] way d clean = clean
+clean_end (name ∷ p) way d clean =
+    below p name (ap (λ l. get_or l 0 (named p name false)) way) (end_of p d) (clean_end p (ap (drop 1) way) d clean)
 
--- the list below clean adjustments
-pub good_below : (p : Path) → AdjustingRows p → (o : Option Data) → AtMost p o → GoodList (Centers o)
-good_below p at o clean =
-    told (list_fills ("businessCenters" ∷ p) at.2) (Centers o) (below p "businessCenters" at.1 o clean)
-
--- ---- the lists of a stream
-
--- `calculationPeriodDates`
-abbrev pub dates_path : Path
-dates_path = "calculationPeriodDates" ∷ []
-
--- `resetDates`
-abbrev pub resets_path : Path
-resets_path = "resetDates" ∷ []
-
--- the list in the adjustments with this name, below what is clean
-adjusted_good : {must : Bool} (p : Path) (name : String) → RowIs p name must None → AdjustingRows (name ∷ p)
-    → (o : Option Data) → AtMost p o → GoodList (Centers (member (codes name) o))
-adjusted_good p name row at o clean = good_below (name ∷ p) at (member (codes name) o) (below p name row o clean)
+-- a list of centres there is good
+good_end : (p : Path) → IsWay p → list_reads.found p ≡ list_reads.stated p → (d : Data) → At [] d → GoodList (end_of p d)
+good_end p way rows d clean = told (list_reads.tells p rows) (end_of p d) (clean_end p way d clean)
 
 lists_good : (d : Data) → At [] d → GoodLists (lists_in d)
 unfolding facts row_of most_of
 lists_good d clean =
-    let dates = perhaps [] "calculationPeriodDates" refl d clean in
-    let resets = perhaps [] "resetDates" refl d clean in
-    let pays = perhaps [] "paymentDates" refl d clean in
-    let start = adjusted_good ("effectiveDate" ∷ dates_path) "dateAdjustments" refl (refl, refl, (refl, refl)) _
-    (below dates_path "effectiveDate" refl _ dates) in
-    let end = adjusted_good ("terminationDate" ∷ dates_path) "dateAdjustments" refl (refl, refl, (refl, refl)) _
-    (below dates_path "terminationDate" refl _ dates) in
-    let own = adjusted_good dates_path "calculationPeriodDatesAdjustments" refl (refl, refl, (refl, refl)) _ dates in
-    let first = adjusted_good ("firstPeriodStartDate" ∷ dates_path) "dateAdjustments" refl (refl, refl, (refl, refl)) _
-    (below dates_path "firstPeriodStartDate" refl _ dates) in
-    let pay = adjusted_good ("paymentDates" ∷ []) "paymentDatesAdjustments" refl (refl, refl, (refl, refl)) _ pays in
-    let fix = adjusted_good resets_path "fixingDates" refl (refl, refl, (refl, refl)) _ resets in
-    let reset = adjusted_good resets_path "resetDatesAdjustments" refl (refl, refl, (refl, refl)) _ resets in
-    (start, (end, (own, (first, (pay, (fix, (reset, tt)))))))
+    let in_dates : Path → Path = λ p. "businessCenters" ∷ p ++ "calculationPeriodDates" ∷ [] in
+    let in_resets : Path → Path = λ p. "businessCenters" ∷ p ++ "resetDates" ∷ [] in (
+      good_end (in_dates ("dateAdjustments" ∷ "effectiveDate" ∷ [])) refl refl d clean,
+      (
+        good_end (in_dates ("dateAdjustments" ∷ "terminationDate" ∷ [])) refl refl d clean,
+        (
+          good_end (in_dates ("calculationPeriodDatesAdjustments" ∷ [])) refl refl d clean,
+          (
+            good_end (in_dates ("dateAdjustments" ∷ "firstPeriodStartDate" ∷ [])) refl refl d clean,
+            (
+              good_end ("businessCenters" ∷ "paymentDatesAdjustments" ∷ "paymentDates" ∷ []) refl refl d clean,
+              (
+                good_end (in_resets ("fixingDates" ∷ [])) refl refl d clean,
+                (good_end (in_resets ("resetDatesAdjustments" ∷ [])) refl refl d clean, tt),
+              ),
+            ),
+          ),
+        ),
+      ),
+    )
 
 -- the lists of centres of clean streams
 pub all_good : (ds : List Data) → ((j : ℕ) (x : Data) → slice_get ds j ≡ Some x → At [] x) → GoodLists (lists_of ds)

@@ -4,7 +4,8 @@ use Rattle.irs_json.specs.Leaves.{element_names}
 use Rattle.irs_read.proofs.TableLaws.{names_are, rows_are}
 use Rattle.irs_read.proofs.{CenterLists.all_good, Each.AreFree, Each.are_free, Rows.At, Rows.row_of}
 use Rattle.irs_read.proofs.Clean.{names_if, none_if}
-use Rattle.irs_read.proofs.{StreamReads.stream_tells, Tells.Tells, Tells.each_tells, Tells.shape}
+use Rattle.irs_read.proofs.ReadParts.{by_field, of_fields}
+use Rattle.irs_read.proofs.{StreamReads.stream_tells, Tells.Tells, Tells.each_tells}
 use Rattle.irs_read.specs.Documents.{DocumentFault, Means, StreamFault, SwapFault, below, the_swap}
 use Rattle.irs_read.specs.declared.table.TheConstants.{OBJECT}
 use Rattle.irs_read.specs.{Readings.lists_of, Readings.streams_in, StreamElements.StreamSays, StreamElements.SwapSays}
@@ -44,8 +45,10 @@ document_tells d at found none =
     let clean : (j : ℕ) (x : Data) → slice_get ds j ≡ Some x → At [] x =
     λ j x e. clean_stream j x (λ f. free.free j x f e) in
     let good = all_good ds clean in
-    shape (each_tells (StreamSays (lists_of ds)) ds (λ j x e. stream_tells (lists_of ds) good x (clean j x e)))
-    _ _ (λ s. refl) (λ all. refl) (λ all h. (omega (arith, free.low, h.many), omega (arith, free.high, h.many), h.each))
+    of_fields _
+    (λ s all. (refl, refl, λ h. (omega (arith, free.low, h.many), omega (arith, free.high, h.many), h.each)))
+    (by_field (λ (s : Swap). s.streams)
+    (each_tells (StreamSays (lists_of ds)) ds (λ j x e. stream_tells (lists_of ds) good x (clean j x e))))
 
 -- what its swap says is what the document means, and is lawful
 pub document_means : (d at : Data) (s : Swap) → ((f : Broken) → DocumentFault d f → ⊥) → the_swap d ≡ Ok at

@@ -25,7 +25,7 @@ pub document_determined : (d : Data) (outcome : Result (Bor Value) Broken)
     → Determined (swap_of_document d)
 document_determined d (Ok swap) found clean broken =
     let told = document_tells d (view swap.now) found clean in
-    let means = document_means d (view swap.now) told.is clean found told.says in
+    let means = document_means d (view swap.now) told.is clean found (told.says told.is refl) in
     answered told.is (record { is = means; only = λ s h. one_meaning d s told.is h means })
     (λ f first. clean f first.0)
 document_determined d (Err f) found clean broken =
@@ -36,7 +36,7 @@ document_determined d (Err f) found clean broken =
 by_way : (d : Data) (w : Way) → the_swap d ≡ w → ((f : Broken) → DocumentFault d f → ⊥) → (s : Swap) × Means d s
 by_way d (Ok at) found clean =
     let told = document_tells d at found clean in
-    (told.is, document_means d at told.is clean found told.says)
+    (told.is, document_means d at told.is clean found (told.says told.is refl))
 by_way d (Err f) found clean = absurd (clean f (ended f found))
 
 -- a document that breaks no rule means a swap

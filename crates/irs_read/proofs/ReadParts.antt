@@ -6,13 +6,12 @@ use Rattle.irs_base.specs.Limits.{most_multiplier, most_notional, most_observati
 use Rattle.irs_base.specs.Lists.{Pairs}
 use Rattle.irs_elements.proofs.DatesAt.{day_range}
 use Rattle.irs_elements.specs.Codes.{roll_at, tenor_unit_at}
-use Rattle.irs_elements.specs.Elements.{leaf_text_in, once, values_in}
+use Rattle.irs_elements.specs.Elements.{is_required, leaf_text_in, most, once, values_in}
 use Rattle.irs_elements.specs.Leaves.{currency_at, has_value, is_center_name, is_index_name, leaf_date_at}
-use Rattle.irs_elements.specs.Lines.{object}
 use Rattle.irs_elements.specs.Numbers.{dec_at, whole_at, leaf_rate_at, multiplier_at, notional_at, observation_days_at}
 use Rattle.irs_elements.specs.Numbers.{offset_at, precision_at}
 use Rattle.irs_elements.specs.declared.table.Choice.{Choice, TheVariants.ExactlyOne}
-use Rattle.irs_elements.specs.declared.table.Count.TheVariants.{UpTo}
+use Rattle.irs_elements.specs.declared.table.Count.{Count}
 use Rattle.irs_elements.specs.declared.table.Kind.{Kind, TheVariants.Object}
 use Rattle.irs_elements.specs.declared.table.Leaf.TheVariants as Leaf
 use Rattle.irs_elements.specs.declared.table.Leaf.{Leaf as LeafKind}
@@ -21,8 +20,7 @@ use Rattle.irs_read.proofs.Ranges.{count_range, currency_range, index_range, nam
 use Rattle.irs_read.proofs.Ranges.{said_in, size_range}
 use Rattle.irs_read.proofs.Ranges.{tenor_unit_range, within_range}
 use Rattle.irs_read.proofs.Rows.{At, Path, RowIs, facts, is_named, most_of, row_of}
-use Rattle.irs_read.proofs.Tells.{Any, Fills, LeafIs, Tells, each_fills, fine, just, leaf_fills, member_tells, perhaps}
-use Rattle.irs_read.proofs.Tells.{there, told}
+use Rattle.irs_read.proofs.Tells.{Any, Gives, LeafIs, Many, all_tell, just, leaf_tells, member_tells, perhaps, there, told}
 use Rattle.irs_read.proofs.TableLaws.{code_names as row_names}
 use Rattle.irs_read.specs.{Private.Sayings.TextSays, Readings.Says, Readings.said}
 use Rattle.irs_read.specs.declared.table.TheConstants.{ROWS}
@@ -30,18 +28,9 @@ use Rattle.irs_terms.specs.Lawful.{IsLawfulCurrency, IsLawfulIndex, IsLawfulName
 use Rattle.irs_terms.specs.Lawful.{IsObservationDays}
 use Rattle.irs_terms.specs.declared.frequency.Unit.TheVariants.{T as Term}
 use Rattle.serde_json.specs.Data.{Data}
-use Rattle.std.proofs.Common.{All, Bool, IfSome, List, None, Option, Some, ap, arith, codes, false}
-use Rattle.std.proofs.Common.{if◌then◌else◌, is_some}
-use Rattle.std.proofs.Common.{length, pos, refl, slice_get, subst, sym, true, unsigned_abs, ℕ, []}
-use Rattle.std.proofs.Common.{◌≡◌, ◌≤◌, ◌∙◌, ◌∷◌}
+use Rattle.std.proofs.Common.{Bool, IfSome, List, None, Option, Some, ap, codes, false, if◌then◌else◌, is_some}
+use Rattle.std.proofs.Common.{pos, refl, slice_get, subst, sym, true, unsigned_abs, ℕ, ◌≡◌, ◌≤◌, ◌∙◌, ◌∷◌}
 use Rattle.std.proofs.lemmas.Option.{IfSome_then}
-
--- one value of a field is said, and it lies in a range
-pub record Gives {S A : Type 0} (field : S → A) (P : S → Type 0) (L : A → Type 0) : Type 0 where
-  pub is : A
-  pub says : (s : S) → field s ≡ is → P s
-  pub only : (s : S) → P s → field s ≡ is
-  pub lawful : L is
 
 -- so it is of what breaks no rule at the end of a path, if what is found of the rows is what is stated
 pub record Reads {S A : Type 0} (field : S → A) (P : Data → S → Type 0) (L : A → Type 0) : Type 1 where
@@ -53,24 +42,6 @@ pub record Reads {S A : Type 0} (field : S → A) (P : Data → S → Type 0) (L
 -- the same of a whole value
 abbrev pub Whole : {A : Type 0} → (Data → A → Type 0) → (A → Type 0) → Type 1
 Whole P L = Reads (λ a. a) P L
-
--- a value that is told, as a field
-pub by_field : {S A : Type 0} {P L : A → Type 0} (field : S → A) → Tells P L → Gives field (λ s. P (field s)) L
-by_field {P = P} field t = record {
-  is = t.is;
-  says = λ s e. subst P (sym e) t.says;
-  only = λ s h. t.only (field s) h;
-  lawful = t.lawful;
-}
-
--- a whole value is told
-pub filled : {A : Type 0} {P : Data → A → Type 0} {L : A → Type 0} (part : Whole P L) (p : Path)
-    → part.found p ≡ part.stated p → Fills p P L
-filled part p e = record {
-  tells = λ d clean.
-      let h = part.tells p e d clean in
-      record { is = h.is; says = h.says h.is refl; only = h.only; lawful = h.lawful };
-}
 
 -- ---- objects
 
@@ -97,9 +68,9 @@ v also w = record {
 }
 
 -- one that a field says
-pub of_field : {S T A : Type 0} {f : S → A} {P : S → Type 0} {L : A → Type 0} (g : T → S) → Gives f P L
+pub by_field : {S T A : Type 0} {f : S → A} {P : S → Type 0} {L : A → Type 0} (g : T → S) → Gives f P L
     → Gives (λ t. f (g t)) (λ t. P (g t)) L
-of_field g h =
+by_field g h =
     record { is = h.is; says = λ t e. h.says (g t) e; only = λ t q. h.only (g t) q; lawful = h.lawful }
 
 infix 40 ◌gives◌
@@ -110,7 +81,7 @@ v gives g = record {
   Facts = v.Facts;
   found = v.found;
   stated = v.stated;
-  tells = λ p e d clean. of_field g (v.tells p e d clean);
+  tells = λ p e d clean. by_field g (v.tells p e d clean);
 }
 
 -- a struct is its fields
@@ -191,8 +162,8 @@ member {g = g} name v make lawful other = record {
   stated = λ p. (named p name false, (v.stated (name ∷ p), other.stated p));
   tells = λ p e d clean.
       by_field g (member_tells _ make _ _ lawful
-      (told (filled v (name ∷ p) (ap (λ t. t.1.0) e)) _ (perhaps p name (ap (λ t. t.0) e) d clean))
-      (λ none. (filled other p (ap (λ t. t.1.1) e)).tells d clean));
+      (told (v.tells (name ∷ p) (ap (λ t. t.1.0) e)) _ (perhaps p name (ap (λ t. t.0) e) d clean))
+      (λ none. other.tells p (ap (λ t. t.1.1) e) d clean));
 }
 
 -- this value alone
@@ -202,7 +173,7 @@ always value lawful = record {
   Facts = Unit {0};
   found = λ p. tt;
   stated = λ p. tt;
-  tells = λ p e d clean. by_field (λ a. a) (just (value d) (lawful d));
+  tells = λ p e d clean. just (value d) (lawful d);
 }
 
 -- one that may be absent, and then there is no value
@@ -215,20 +186,16 @@ abbrev pub or : {T A : Type 0} {g : T → A} {P : Data → A → Type 0} {L : A 
     → (absent : A) → L absent → Reads g (λ d t. Says (once (codes name) d) P (λ a. a) (λ a. a ≡ absent) (g t)) L
 or name v absent lawful = member name v (λ a. a) (λ a l. l) (always (λ d. absent) (λ d. lawful))
 
--- a repeated member, at most so many
-abbrev pub each : {T A : Type 0} {g : T → List A} {P : Data → A → Type 0} {L : A → Type 0} (name : String) (most : ℕ)
-    → Whole P L
-    → Reads g (λ d t. Pairs P (values_in (codes name) (Some d)) (g t)) (λ all. (length all ≤ most) × All L all)
-each {g = g} {P = P} {L = L} name most v = record {
+-- a repeated member, as often as the count allows
+abbrev pub each : {T A : Type 0} {g : T → List A} {P : Data → A → Type 0} {L : A → Type 0} (name : String)
+    (often : Count) → Whole P L → Reads g (λ d t. Pairs P (values_in (codes name) (Some d)) (g t)) (Many often L)
+each {g = g} {P = P} name often v = record {
   Facts = RowFacts × (v.Facts × ℕ);
   found = λ p. (facts p (row_of (name ∷ p)), (v.found (name ∷ p), most_of (name ∷ p)));
-  stated = λ p. (named p name false, (v.stated (name ∷ p), most));
+  stated = λ p. (named p name (is_required often), (v.stated (name ∷ p), most often));
   tells = λ p e d clean.
-      by_field g ((each_fills {M = λ all. (length all ≤ most) × All L all} p name (UpTo most)
-      (record { form = object; lines = []; says = P }) (ap (λ t. t.0) e)
-      (λ d clean all h. let few = (fine p name (ap (λ t. t.0) e) d clean).0 in
-      (omega (arith, h.many, few, ap (λ t. t.1.1) e), h.each))
-      (filled v (name ∷ p) (ap (λ t. t.1.0) e))).tells d clean);
+      by_field g (all_tell p name often P (ap (λ t. t.0) e) (ap (λ t. t.1.1) e)
+      (v.tells (name ∷ p) (ap (λ t. t.1.0) e)) d clean);
 }
 
 -- ---- choices
@@ -269,11 +236,10 @@ either first a v make lawful b w build lawful' = record {
   tells = λ p e d clean.
       let left = ap (λ t. t.0.0) e in
       let right = ap (λ t. t.1.0.0) e in
-      by_field (λ c. c) (member_tells _ make _ _ lawful
-      (told (filled v (a ∷ p) (ap (λ t. t.0.1) e)) _ (perhaps p a left d clean))
+      member_tells _ make _ _ lawful (told (v.tells (a ∷ p) (ap (λ t. t.0.1) e)) _ (perhaps p a left d clean))
       (λ none. member_tells _ build _ _ lawful'
-      (told (filled w (b ∷ p) (ap (λ t. t.1.0.1) e)) _ (perhaps p b right d clean))
-      (λ nothing. absurd (not_both first p a b left right (ap (λ t. t.1.1) e) d clean none nothing))));
+      (told (w.tells (b ∷ p) (ap (λ t. t.1.0.1) e)) _ (perhaps p b right d clean))
+      (λ nothing. absurd (not_both first p a b left right (ap (λ t. t.1.1) e) d clean none nothing)));
 }
 
 -- ---- leaves: where the text of one is in order it has a value, and that lies in its range
@@ -285,7 +251,7 @@ leaf {kind = kind} is = record {
   Facts = Option LeafKind;
   found = λ p. leaf_at (slice_get ROWS (row_of p));
   stated = λ p. Some kind;
-  tells = λ p e d clean. by_field (λ a. a) ((leaf_fills p is e).tells d clean);
+  tells = λ p e d clean. leaf_tells p is e d clean;
 }
 
 -- by the texts that have a value

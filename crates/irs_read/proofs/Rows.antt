@@ -6,7 +6,7 @@ use Rattle.irs_read.proofs.Clean.{Clean, is_child, leaf_at, most_at, required_at
 use Rattle.irs_read.{proofs.TableLaws.code_names as row_names, specs.declared.table.TheConstants.ROWS}
 use Rattle.serde_json.specs.Data.{Data}
 use Rattle.std.proofs.Common.{IfSome, slice_get, codes, ap, bytes_eq, if◌then◌else◌, ◌≡◌, ℕ, ◌+◌, nat_lt, Bool, true}
-use Rattle.std.proofs.Common.{false, ◌&&◌, ◌==◌, List, [], ◌∷◌, Option, Some, None}
+use Rattle.std.proofs.Common.{◌&&◌, ◌==◌, List, [], ◌∷◌, Option}
 
 -- the names on the way to a row, the last one first
 abbrev pub Path : Type 0
@@ -36,14 +36,6 @@ facts p c = (
 abbrev pub RowIs : Path → String → Bool → Option LeafKind → Type 0
 RowIs p name must kind = facts p (row_of (name ∷ p)) ≡ (true, (must, (kind, codes name)))
 
--- an object that may be absent
-abbrev pub May : Path → String → Type 0
-May p name = RowIs p name false None
-
--- a leaf that must occur
-abbrev pub LeafRow : Path → String → LeafKind → Type 0
-LeafRow p name kind = RowIs p name true (Some kind)
-
 -- the most values of the member at the end of a path
 unfoldable pub most_of : Path → ℕ
 most_of p = most_at (slice_get ROWS (row_of p))
@@ -59,12 +51,6 @@ pub is_needed : (p : Path) (name : String) {must : Bool} {kind : Option LeafKind
     → required_at (slice_get ROWS (row_of (name ∷ p))) ≡ must
 unfolding facts
 is_needed p name e = ap (λ t. t.1.0) e
-
--- it is a leaf of this kind
-pub is_leaf : (p : Path) (name : String) {must : Bool} {kind : Option LeafKind} → RowIs p name must kind
-    → leaf_at (slice_get ROWS (row_of (name ∷ p))) ≡ kind
-unfolding facts
-is_leaf p name e = ap (λ t. t.1.1.0) e
 
 -- it has this name
 pub is_named : (p : Path) (name : String) {must : Bool} {kind : Option LeafKind} → RowIs p name must kind

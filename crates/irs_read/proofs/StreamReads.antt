@@ -1,11 +1,11 @@
 -- A stream that breaks no rule says one stream, and that one is lawful: each part reads as the table does.
-use Rattle.irs_base.specs.{Days.IsDay, Limits.most_centers, Limits.most_steps}
+use Rattle.irs_base.specs.{Days.IsDay, Limits.most_steps}
 use Rattle.irs_base.specs.declared.rounding.Direction.TheVariants.{Nearest}
 use Rattle.irs_elements.specs.Elements.{once}
+use Rattle.irs_elements.specs.declared.table.{Count.TheVariants.UpTo}
 use Rattle.irs_elements.specs.declared.table.Leaf.TheVariants as Leaf
-use Rattle.irs_read.proofs.CenterLists.{GoodLists, list_fills, one_good}
-use Rattle.irs_read.proofs.ReadParts.{Reads, RowFacts, Whole, always, any, by_field, currencies, dates, each}
-use Rattle.irs_read.proofs.ReadParts.{either, filled}
+use Rattle.irs_read.proofs.CenterLists.{GoodLists, list_reads, one_good}
+use Rattle.irs_read.proofs.ReadParts.{Reads, RowFacts, Whole, always, any, by_field, currencies, dates, each, either}
 use Rattle.irs_read.proofs.ReadParts.{indices, leaf, maybe, member, multipliers, named, notionals, observations}
 use Rattle.irs_read.proofs.ReadParts.{offsets, one}
 use Rattle.irs_read.proofs.ReadParts.{or, precisions, rates, rolls, tenor_units, unread, whole, ◌also◌, ◌gives◌}
@@ -20,7 +20,7 @@ use Rattle.irs_read.specs.StreamElements.{rounding_read as rounding, schedule, s
 use Rattle.irs_read.specs.StreamElements.{always as constant, unadjusted}
 use Rattle.irs_terms.specs.Lawful.{IsLawfulAdjustableDate, IsLawfulCenters, IsLawfulFix, IsLawfulFloat, IsLawfulValues}
 use Rattle.irs_terms.specs.Lawful.{IsLawfulFrequency, IsLawfulIndex, IsLawfulLeg, IsLawfulObservationOffset}
-use Rattle.irs_terms.specs.Lawful.{IsLawfulNames, IsLawfulOffset, IsLawfulParameters, IsLawfulPay}
+use Rattle.irs_terms.specs.Lawful.{IsLawfulOffset, IsLawfulParameters, IsLawfulPay}
 use Rattle.irs_terms.specs.Lawful.{IsRate, IsLawfulReset}
 use Rattle.irs_terms.specs.Lawful.{IsLawfulStream, IsLawfulStubRate, IsLawfulStubs, IsLawfulTenor}
 use Rattle.irs_terms.specs.declared.adjustments.Adjustments.{Adjustments}
@@ -63,15 +63,6 @@ offset_reads =
 
 -- ---- adjustments
 
--- a list of centres
-abbrev list_reads : Whole center_list.says IsLawfulNames
-list_reads = record {
-  Facts = RowFacts × ℕ;
-  found = λ p. (facts p (row_of ("businessCenter" ∷ p)), most_of ("businessCenter" ∷ p));
-  stated = λ p. ((true, (true, (Some Leaf.CenterName, codes "businessCenter"))), most_centers);
-  tells = λ p e d clean. by_field (λ a. a) ((list_fills p (ap (λ t. t.0) e, ap (λ t. t.1) e)).tells d clean);
-}
-
 -- the centres that a reference to one of these lists names
 named_told : (lists : List (Option Data)) → GoodLists lists → (ref : Option Data)
     → Told (λ r. Says (the_one (href_of r) lists) center_list.says Listed (λ c. c ≡ Dangling)) IsLawfulCenters ref
@@ -91,8 +82,8 @@ centers_reads lists g = record {
   found = listed_reads.found;
   stated = listed_reads.stated;
   tells = λ p e d clean.
-      by_field (λ c. c) (member_tells _ _ _ (once (codes "businessCentersReference") d) (λ a l. l)
-      (named_told lists g _) (λ none. (filled listed_reads p e).tells d clean));
+      member_tells _ _ _ (once (codes "businessCentersReference") d) (λ a l. l) (named_told lists g _)
+      (λ none. listed_reads.tells p e d clean);
 }
 
 -- adjustments with lawful centres
@@ -146,7 +137,7 @@ fixings_reads lists g = record {
   tells = λ p e d clean.
       by_field {A = Option FixTerms × RefState} (λ (r : ResetTerms). (r.fixing, r.fixing_ref))
       (member_tells _ _ _ _ (λ a l. l)
-      (told (filled (fixing_reads lists g (Some d)) ("fixingDates" ∷ p) (ap (λ t. t.1) e)) _
+      (told ((fixing_reads lists g (Some d)).tells ("fixingDates" ∷ p) (ap (λ t. t.1) e)) _
       (perhaps p "fixingDates" (ap (λ t. t.0) e) d clean))
       (λ none. just (None, NoReference) tt));
 }
@@ -174,7 +165,7 @@ abbrev schedule_reads : {L : ℤ → Type 0} (number : Value ℤ) → Whole numb
     → Whole (schedule number).says (IsLawfulValues L)
 schedule_reads number values =
     whole (one "initialValue" values
-    also each "step" most_steps (step_reads number values)) _ (λ s t. (refl, refl, λ l. assumption))
+    also each "step" (UpTo most_steps) (step_reads number values)) _ (λ s t. (refl, refl, λ l. assumption))
 
 -- one rate is lawful
 constant_lawful : (z : ℤ) → IsRate z → IsLawfulValues IsRate (constant z)
@@ -291,4 +282,4 @@ pub stream_tells : (lists : List (Option Data)) → GoodLists lists → (d : Dat
     → Tells (StreamSays lists d) IsLawfulStream
 unfolding StreamSays facts row_of most_of
 stream_tells lists g d clean =
-    (filled (stream_reads lists g (once (codes "calculationPeriodDates") d)) [] refl).tells d clean
+    (stream_reads lists g (once (codes "calculationPeriodDates") d)).tells [] refl d clean

@@ -1,61 +1,49 @@
 -- A clean value says one value, and that one lies in its range: for leaves, members and lists.
 use Prim.Native.String.{String}
 use Rattle.irs_base.{proofs.EveryLemmas.one_partners, specs.Lists.Pairs}
-use Rattle.irs_elements.specs.{Elements.once, Elements.values_in, Leaves.has_value}
+use Rattle.irs_elements.specs.{Elements.is_required, Elements.most, Elements.once, Elements.values_in, Leaves.has_value}
 use Rattle.irs_elements.specs.{Leaves.text_of_leaf, declared.table.Count.Count, declared.table.Leaf.Leaf as LeafKind}
 use Rattle.irs_json.specs.Leaves.{child_of}
 use Rattle.irs_read.proofs.Clean.{Fine, clean_leaf, clean_once, clean_there, fine_values, first_value, leaf_at}
 use Rattle.irs_read.proofs.Rows.{At, AtMost, Path, RowIs, is_member, is_named, is_needed}
 use Rattle.irs_read.proofs.{Rows.most_of, Rows.row_of, TableLaws.code_names as row_names}
-use Rattle.irs_read.specs.Readings.{Says, Value, each, said, text}
+use Rattle.irs_read.specs.Readings.{Says, said}
 use Rattle.irs_read.specs.declared.table.TheConstants.{ROWS}
 use Rattle.serde_json.specs.Data.{Data}
 use Rattle.std.proofs.Common.{None, IfSome, is_some, slice_get, All, codes, refl, sym, ap, subst, ◌∙◌, arith, ◌≡◌, ℕ}
-use Rattle.std.proofs.Common.{suc, ◌<◌, ◌≤◌, Bool, true, false, true≢false, List, [], ◌∷◌, length, Option, Some}
+use Rattle.std.proofs.Common.{suc, if◌then◌else◌, ◌≤◌, Bool, true, false, true≢false, List, [], ◌∷◌, length, Option, Some}
 use Rattle.std.proofs.lemmas.List.Elements.{All-cons, All-nil}
 use Rattle.std.proofs.lemmas.Option.{IfSome_then, same_Some, slice_get_within}
 
--- one value is said, and it lies in a range
-pub record Tells {A : Type 0} (P L : A → Type 0) : Type 0 where
+-- one value of a field is said, and it lies in a range
+pub record Gives {S A : Type 0} (field : S → A) (P : S → Type 0) (L : A → Type 0) : Type 0 where
   pub is : A
-  pub says : P is
-  pub only : (b : A) → P b → b ≡ is
+  pub says : (s : S) → field s ≡ is → P s
+  pub only : (s : S) → P s → field s ≡ is
   pub lawful : L is
 
--- so it is of what breaks no rule at the end of a path
-pub record Fills {A : Type 0} (p : Path) (P : Data → A → Type 0) (L : A → Type 0) : Type 0 where
-  pub tells : (d : Data) → At p d → Tells (P d) L
+-- the same of a whole value
+abbrev pub Tells : {A : Type 0} → (P L : A → Type 0) → Type 0
+Tells P L = Gives (λ a. a) P L
 
 -- every value
 abbrev pub Any : {A : Type 0} → A → Type 0
 Any a = Unit {0}
 
--- ---- one value
-
--- a value that is told, as another that has the same parts
-pub shape : {S T : Type 0} {P L : T → Type 0} {M : S → Type 0} → Tells P L → (to : S → T) (from : T → S)
-    → ((s : S) → from (to s) ≡ s) → ((t : T) → to (from t) ≡ t) → ((t : T) → L t → M (from t)) → Tells (λ s. P (to s)) M
-shape {P = P} h to from whole back lawful = record {
-  is = from h.is;
-  says = subst P (sym (back h.is)) h.says;
-  only = λ s p. sym (whole s) ∙ ap from (h.only (to s) p);
-  lawful = lawful h.is h.lawful;
-}
-
 -- ---- what may be absent
 
 -- this value alone
 pub just : {A : Type 0} {L : A → Type 0} (a : A) → L a → Tells (λ b. b ≡ a) L
-just a lawful = record { is = a; says = refl; only = λ b e. e; lawful = lawful }
+just a lawful = record { is = a; says = λ b e. e; only = λ b e. e; lawful = lawful }
 
 -- something is told of what is there, if it is
 abbrev pub Told : {A : Type 0} → (Data → A → Type 0) → (A → Type 0) → Option Data → Type 0
 Told P L o = IfSome o (λ x. Tells (P x) L)
 
--- of what is clean
-pub told : {A : Type 0} {p : Path} {P : Data → A → Type 0} {L : A → Type 0} → Fills p P L → (o : Option Data)
-    → AtMost p o → Told P L o
-told f o clean = IfSome_then o clean f.tells
+-- of what is clean at the end of a path
+pub told : {A : Type 0} {p : Path} {P : Data → A → Type 0} {L : A → Type 0} → ((d : Data) → At p d → Tells (P d) L)
+    → (o : Option Data) → AtMost p o → Told P L o
+told tells o clean = IfSome_then o clean tells
 
 -- of a member: what its value says, or another thing where it is absent
 pub member_tells : {A B : Type 0} {L : A → Type 0} {M : B → Type 0} (says : Data → A → Type 0) (make : A → B)
@@ -64,7 +52,7 @@ pub member_tells : {A B : Type 0} {L : A → Type 0} {M : B → Type 0} (says : 
 member_tells says make other None lawful t absent = absent refl
 member_tells says make other (Some x) lawful t absent = record {
   is = make t.is;
-  says = (t.is, (refl, t.says));
+  says = λ b e. (t.is, (e, t.says t.is refl));
   only = λ b (a, (e, h)). e ∙ ap make (t.only a h);
   lawful = lawful t.is t.lawful;
 }
@@ -99,22 +87,20 @@ pub record LeafIs {A : Type 0} (kind : LeafKind) (at : List ℕ → Option A) (L
   pub agree : (s : List ℕ) → has_value kind s ≡ is_some (at s)
   pub range : (d : Data) → IfSome (said at (Some d)) L
 
--- a leaf
-pub leaf_fills : {A : Type 0} {L : A → Type 0} {kind : LeafKind} {at : List ℕ → Option A} (p : Path)
-    → LeafIs kind at L → leaf_at (slice_get ROWS (row_of p)) ≡ Some kind → Fills p (text kind at).says L
-leaf_fills {A = A} {L = L} {kind = kind} {at = at} p leaf is = record {
-  tells = λ d clean.
-      let s = clean_leaf ROWS row_names (row_of p) kind d is clean.clean in
-      let valued : is_some (said at (Some d)) ≡ true =
-      rw s.found (sym (leaf.agree (text_of_leaf s.says)) ∙ s.valued) in
-      let (a, e) = some_is (said at (Some d)) valued in
-      record {
-        is = a;
-        says = e;
-        only = λ b h. same_Some b a (sym h ∙ e);
-        lawful = subst (λ (q : Option A). IfSome q L) e (leaf.range d);
-      };
-}
+-- what a leaf says
+pub leaf_tells : {A : Type 0} {L : A → Type 0} {kind : LeafKind} {at : List ℕ → Option A} (p : Path)
+    → LeafIs kind at L → leaf_at (slice_get ROWS (row_of p)) ≡ Some kind → (d : Data) → At p d
+    → Tells (λ a. said at (Some d) ≡ Some a) L
+leaf_tells {A = A} {L = L} {kind = kind} {at = at} p leaf is d clean =
+    let s = clean_leaf ROWS row_names (row_of p) kind d is clean.clean in
+    let valued : is_some (said at (Some d)) ≡ true = rw s.found (sym (leaf.agree (text_of_leaf s.says)) ∙ s.valued) in
+    let (a, e) = some_is (said at (Some d)) valued in
+    record {
+      is = a;
+      says = λ b i. e ∙ ap Some (sym i);
+      only = λ b h. same_Some b a (sym h ∙ e);
+      lawful = subst (λ (q : Option A). IfSome q L) e (leaf.range d);
+    }
 
 -- ---- lists
 
@@ -133,14 +119,15 @@ pub each_tells : {A : Type 0} {L : A → Type 0} (says : Data → A → Type 0) 
     → ((j : ℕ) (x : Data) → slice_get xs j ≡ Some x → Tells (says x) L) → Tells (Pairs says xs) (ListIs L (length xs))
 each_tells {L = L} says [] t =
     let lawful : ListIs L 0 [] = record { many = refl; each = All-nil L } in
-    record { is = []; says = tt; only = λ b h. one_said says [] t b [] h tt; lawful = lawful }
+    record { is = []; says = λ b e. rw e tt; only = λ b h. one_said says [] t b [] h tt; lawful = lawful }
 each_tells {L = L} says (x ∷ xs) t =
     let first : Tells (says x) L = t 0 x refl in
     let more : Tells (Pairs says xs) (ListIs L (length xs)) = each_tells says xs (λ j y e. t (suc j) y e) in
+    let both : Pairs says (x ∷ xs) (first.is ∷ more.is) = (first.says first.is refl, more.says more.is refl) in
     record {
       is = first.is ∷ more.is;
-      says = (first.says, more.says);
-      only = λ b h. one_said says (x ∷ xs) t b (first.is ∷ more.is) h (first.says, more.says);
+      says = λ b e. subst (Pairs says (x ∷ xs)) (sym e) both;
+      only = λ b h. one_said says (x ∷ xs) t b (first.is ∷ more.is) h both;
       lawful = record {
         many = omega (arith, more.lawful.many);
         each = All-cons L first.is more.is first.lawful more.lawful.each;
@@ -148,7 +135,7 @@ each_tells {L = L} says (x ∷ xs) t =
     }
 
 -- no more than the table allows, and each of them clean
-pub fine : {must : Bool} {kind : Option LeafKind} (p : Path) (name : String) → RowIs p name must kind → (d : Data)
+fine : {must : Bool} {kind : Option LeafKind} (p : Path) (name : String) → RowIs p name must kind → (d : Data)
     → At p d → (length (values_in (codes name) (Some d)) ≤ most_of (name ∷ p))
     × ((j : ℕ) (x : Data) → slice_get (values_in (codes name) (Some d)) j ≡ Some x → At (name ∷ p) x)
 unfolding most_of
@@ -159,21 +146,30 @@ fine p name row d clean =
     (fine_values ROWS row_names (row_of p) c d (is_member p name row) clean.clean) in
     (few, λ j x e. record { clean = each j x e })
 
--- and some where one is required
-pub some : {kind : Option LeafKind} (p : Path) (name : String) → RowIs p name true kind → (d : Data) → At p d
-    → 0 < length (values_in (codes name) (Some d))
-some p name row d clean =
+-- and one at least where one is required
+least : {kind : Option LeafKind} (must : Bool) (p : Path) (name : String) → RowIs p name must kind → (d : Data) → At p d
+    → (if must then 1 else 0) ≤ length (values_in (codes name) (Some d))
+least false p name row d clean = omega arith
+least true p name row d clean =
     let (x, (e, inner)) = there p name row d clean in
     slice_get_within (values_in (codes name) (Some d)) 0 x (first_value (child_of (codes name) d) x e)
 
--- a repeated member, and what holds of all its values
-pub each_fills : {A : Type 0} {L : A → Type 0} {M : List A → Type 0} {must : Bool} {kind : Option LeafKind} (p : Path)
-    (name : String) (often : Count) (v : Value A) → RowIs p name must kind
-    → ((d : Data) → At p d → (all : List A) → ListIs L (length (values_in (codes name) (Some d))) all → M all)
-    → Fills (name ∷ p) v.says L → Fills p (each name often v).says M
-each_fills p name often v row lawful f = record {
-  tells = λ d clean.
-      let each = (fine p name row d clean).1 in
-      let t = each_tells v.says (values_in (codes name) (Some d)) (λ j x e. f.tells x (each j x e)) in
-      record { is = t.is; says = t.says; only = t.only; lawful = lawful d clean t.is t.lawful };
-}
+-- as many values as the count allows, each in the range
+abbrev pub Many : {A : Type 0} → Count → (A → Type 0) → List A → Type 0
+Many often L all = ((if is_required often then 1 else 0) ≤ length all) × (length all ≤ most often) × All L all
+
+-- all values of a repeated member
+pub all_tell : {A : Type 0} {L : A → Type 0} {kind : Option LeafKind} (p : Path) (name : String) (often : Count)
+    (says : Data → A → Type 0) → RowIs p name (is_required often) kind → most_of (name ∷ p) ≡ most often
+    → ((x : Data) → At (name ∷ p) x → Tells (says x) L) → (d : Data) → At p d
+    → Tells (Pairs says (values_in (codes name) (Some d))) (Many often L)
+all_tell p name often says row top tells d clean =
+    let (few, each) = fine p name row d clean in
+    let some = least (is_required often) p name row d clean in
+    let t = each_tells says (values_in (codes name) (Some d)) (λ j x e. tells x (each j x e)) in
+    record {
+      is = t.is;
+      says = t.says;
+      only = t.only;
+      lawful = (omega (arith, some, t.lawful.many), omega (arith, few, top, t.lawful.many), t.lawful.each);
+    }
