@@ -2,17 +2,16 @@
 use Prim.Native.String.{String}
 use Rattle.irs_base.{proofs.EveryLemmas.every_both, specs.Limits.most_centers, specs.Lists.Every}
 use Rattle.irs_elements.specs.{Elements.member, declared.table.Count.TheVariants.OneTo}
-use Rattle.irs_elements.specs.declared.table.Leaf.{Leaf as LeafKind}
 use Rattle.irs_read.proofs.Clean.{required_at}
 use Rattle.irs_read.proofs.ReadParts.{RowFacts, Whole, center_names, each, leaf, named}
-use Rattle.irs_read.proofs.Rows.{At, AtMost, Path, RowIs, facts, most_of, row_of}
+use Rattle.irs_read.proofs.Rows.{At, AtMost, Path, facts, most_of, row_of}
 use Rattle.irs_read.proofs.Tells.{Told, perhaps, told}
 use Rattle.irs_read.specs.Readings.{has_id, lists_in, lists_of, the_one}
 use Rattle.irs_read.specs.{StreamElements.center_list, declared.table.TheConstants.ROWS}
 use Rattle.irs_terms.specs.Lawful.{IsLawfulNames}
 use Rattle.serde_json.specs.Data.{Data}
 use Rattle.std.proofs.Common.{count_by, find, Option, Some, None, slice_get, codes, refl, if◌then◌else◌, ◌≡◌, ℕ}
-use Rattle.std.proofs.Common.{suc, Bool, true, false, ◌==◌, List, [], ◌∷◌, ◌++◌, ap, cond, drop, get_or}
+use Rattle.std.proofs.Common.{suc, Bool, true, false, ◌==◌, List, [], ◌∷◌, ◌++◌, ap, cond, drop, get_or, map}
 use Rattle.std.specs.Option.{option_flatten}
 
 -- a list of centres
@@ -39,51 +38,41 @@ abbrev on_way : (Path → String → RowFacts) → Path → List RowFacts
 on_way of [] = []
 on_way of (name ∷ p) = of p name ∷ on_way of p
 
--- each name on the way is a member's
-abbrev IsWay : Path → Type 0
-IsWay p =
-    on_way (λ p name. facts p (row_of (name ∷ p))) p
-    ≡ on_way (λ p name. named p name (required_at (slice_get ROWS (row_of (name ∷ p))))) p
+-- what is found of the rows on the way to a list of centres and of those in it, and what is stated of them
+abbrev rows_found : Path → List RowFacts × list_reads.Facts
+rows_found p = (on_way (λ p name. facts p (row_of (name ∷ p))) p, list_reads.found p)
 
--- a member of what may be absent is clean too
-below : {must : Bool} {kind : Option LeafKind} (p : Path) (name : String) → RowIs p name must kind → (o : Option Data)
-    → AtMost p o → AtMost (name ∷ p) (member (codes name) o)
-below p name row None clean = tt
-below p name row (Some d) clean = perhaps p name row d clean
+abbrev rows_stated : Path → List RowFacts × list_reads.Facts
+rows_stated p =
+    (on_way (λ p name. named p name (required_at (slice_get ROWS (row_of (name ∷ p))))) p, list_reads.stated p)
 
--- what is at its end is clean
-clean_end : (p : Path) → IsWay p → (d : Data) → At [] d → AtMost p (end_of p d)
+-- what is at the end of a way by members is clean
+clean_end : (p : Path) → (rows_found p).0 ≡ (rows_stated p).0 → (d : Data) → At [] d → AtMost p (end_of p d)
 clean_end [] way d clean = clean
 clean_end (name ∷ p) way d clean =
-    below p name (ap (λ l. get_or l 0 (named p name false)) way) (end_of p d) (clean_end p (ap (drop 1) way) d clean)
+    perhaps p name (ap (λ l. get_or l 0 (named p name false)) way) (end_of p d) (clean_end p (ap (drop 1) way) d clean)
 
--- a list of centres there is good
-good_end : (p : Path) → IsWay p → list_reads.found p ≡ list_reads.stated p → (d : Data) → At [] d → GoodList (end_of p d)
-good_end p way rows d clean = told (list_reads.tells p rows) (end_of p d) (clean_end p way d clean)
+-- the lists at the ends of several paths
+good_ends : (ps : List Path) → map rows_found ps ≡ map rows_stated ps → (d : Data) → At [] d
+    → GoodLists (map (λ p. end_of p d) ps)
+good_ends [] e d clean = tt
+good_ends (p ∷ ps) e d clean =
+    let here = ap (λ l. get_or l 0 (rows_stated p)) e in
+    let way = clean_end p (ap (λ t. t.0) here) d clean in
+    (told (list_reads.tells p (ap (λ t. t.1) here)) (end_of p d) way, good_ends ps (ap (drop 1) e) d clean)
 
 lists_good : (d : Data) → At [] d → GoodLists (lists_in d)
 unfolding facts row_of most_of
 lists_good d clean =
     let in_dates : Path → Path = λ p. "businessCenters" ∷ p ++ "calculationPeriodDates" ∷ [] in
-    let in_resets : Path → Path = λ p. "businessCenters" ∷ p ++ "resetDates" ∷ [] in (
-      good_end (in_dates ("dateAdjustments" ∷ "effectiveDate" ∷ [])) refl refl d clean,
-      (
-        good_end (in_dates ("dateAdjustments" ∷ "terminationDate" ∷ [])) refl refl d clean,
-        (
-          good_end (in_dates ("calculationPeriodDatesAdjustments" ∷ [])) refl refl d clean,
-          (
-            good_end (in_dates ("dateAdjustments" ∷ "firstPeriodStartDate" ∷ [])) refl refl d clean,
-            (
-              good_end ("businessCenters" ∷ "paymentDatesAdjustments" ∷ "paymentDates" ∷ []) refl refl d clean,
-              (
-                good_end (in_resets ("fixingDates" ∷ [])) refl refl d clean,
-                (good_end (in_resets ("resetDatesAdjustments" ∷ [])) refl refl d clean, tt),
-              ),
-            ),
-          ),
-        ),
-      ),
-    )
+    let in_resets : Path → Path = λ p. "businessCenters" ∷ p ++ "resetDates" ∷ [] in
+    good_ends (in_dates ("dateAdjustments" ∷ "effectiveDate" ∷ [])
+    ∷ in_dates ("dateAdjustments" ∷ "terminationDate" ∷ [])
+    ∷ in_dates ("calculationPeriodDatesAdjustments" ∷ [])
+    ∷ in_dates ("dateAdjustments" ∷ "firstPeriodStartDate" ∷ [])
+    ∷ ("businessCenters" ∷ "paymentDatesAdjustments" ∷ "paymentDates" ∷ [])
+    ∷ in_resets ("fixingDates" ∷ [])
+    ∷ in_resets ("resetDatesAdjustments" ∷ []) ∷ []) refl d clean
 
 -- the lists of centres of clean streams
 pub all_good : (ds : List Data) → ((j : ℕ) (x : Data) → slice_get ds j ≡ Some x → At [] x) → GoodLists (lists_of ds)

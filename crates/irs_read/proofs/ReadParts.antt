@@ -162,7 +162,7 @@ member {g = g} name v make lawful other = record {
   stated = λ p. (named p name false, (v.stated (name ∷ p), other.stated p));
   tells = λ p e d clean.
       by_field g (member_tells _ make _ _ lawful
-      (told (v.tells (name ∷ p) (ap (λ t. t.1.0) e)) _ (perhaps p name (ap (λ t. t.0) e) d clean))
+      (told (v.tells (name ∷ p) (ap (λ t. t.1.0) e)) _ (perhaps p name (ap (λ t. t.0) e) (Some d) clean))
       (λ none. other.tells p (ap (λ t. t.1.1) e) d clean));
 }
 
@@ -236,9 +236,9 @@ either first a v make lawful b w build lawful' = record {
   tells = λ p e d clean.
       let left = ap (λ t. t.0.0) e in
       let right = ap (λ t. t.1.0.0) e in
-      member_tells _ make _ _ lawful (told (v.tells (a ∷ p) (ap (λ t. t.0.1) e)) _ (perhaps p a left d clean))
+      member_tells _ make _ _ lawful (told (v.tells (a ∷ p) (ap (λ t. t.0.1) e)) _ (perhaps p a left (Some d) clean))
       (λ none. member_tells _ build _ _ lawful'
-      (told (w.tells (b ∷ p) (ap (λ t. t.1.0.1) e)) _ (perhaps p b right d clean))
+      (told (w.tells (b ∷ p) (ap (λ t. t.1.0.1) e)) _ (perhaps p b right (Some d) clean))
       (λ nothing. absurd (not_both first p a b left right (ap (λ t. t.1.1) e) d clean none nothing)));
 }
 

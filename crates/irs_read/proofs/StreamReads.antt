@@ -138,7 +138,7 @@ fixings_reads lists g = record {
       by_field {A = Option FixTerms × RefState} (λ (r : ResetTerms). (r.fixing, r.fixing_ref))
       (member_tells _ _ _ _ (λ a l. l)
       (told ((fixing_reads lists g (Some d)).tells ("fixingDates" ∷ p) (ap (λ t. t.1) e)) _
-      (perhaps p "fixingDates" (ap (λ t. t.0) e) d clean))
+      (perhaps p "fixingDates" (ap (λ t. t.0) e) (Some d) clean))
       (λ none. just (None, NoReference) tt));
 }
 

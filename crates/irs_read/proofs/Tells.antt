@@ -1,7 +1,8 @@
 -- A clean value says one value, and that one lies in its range: for leaves, members and lists.
 use Prim.Native.String.{String}
 use Rattle.irs_base.{proofs.EveryLemmas.one_partners, specs.Lists.Pairs}
-use Rattle.irs_elements.specs.{Elements.is_required, Elements.most, Elements.once, Elements.values_in, Leaves.has_value}
+use Rattle.irs_elements.specs.Elements.{is_required, member, most, once, values_in}
+use Rattle.irs_elements.specs.Leaves.{has_value}
 use Rattle.irs_elements.specs.{Leaves.text_of_leaf, declared.table.Count.Count, declared.table.Leaf.Leaf as LeafKind}
 use Rattle.irs_json.specs.Leaves.{child_of}
 use Rattle.irs_read.proofs.Clean.{Fine, clean_leaf, clean_once, clean_there, fine_values, first_value, leaf_at}
@@ -68,10 +69,11 @@ there p name row d clean =
     clean.clean in
     (x, (subst (λ (n : List ℕ). once n d ≡ Some x) (is_named p name row) e, record { clean = inner }))
 
--- a member that may be absent is clean
-pub perhaps : {must : Bool} {kind : Option LeafKind} (p : Path) (name : String) → RowIs p name must kind → (d : Data)
-    → At p d → AtMost (name ∷ p) (once (codes name) d)
-perhaps p name row d clean =
+-- a member that may be absent is clean, also below what may be
+pub perhaps : {must : Bool} {kind : Option LeafKind} (p : Path) (name : String) → RowIs p name must kind
+    → (o : Option Data) → AtMost p o → AtMost (name ∷ p) (member (codes name) o)
+perhaps p name row None clean = tt
+perhaps p name row (Some d) clean =
     subst (λ (n : List ℕ). AtMost (name ∷ p) (once n d)) (is_named p name row) (IfSome_then _ {Q = At (name ∷ p)}
     (clean_once ROWS row_names (row_of p) (row_of (name ∷ p)) d (is_member p name row) clean.clean)
     (λ x inner. record { clean = inner }))
