@@ -7,7 +7,7 @@ use Rattle.irs_base.specs.Lists.{Pairs}
 use Rattle.irs_elements.proofs.DatesAt.{day_range}
 use Rattle.irs_elements.specs.Codes.{roll_at, tenor_unit_at}
 use Rattle.irs_elements.specs.Elements.{is_required, leaf_text_in, most, once, values_in}
-use Rattle.irs_elements.specs.Leaves.{currency_at, has_value, is_center_name, is_index_name, leaf_date_at}
+use Rattle.irs_elements.specs.Leaves.{currency_at, has_value, is_center_name, is_index_name, leaf_date_at, text_of_leaf}
 use Rattle.irs_elements.specs.Numbers.{dec_at, whole_at, leaf_rate_at, multiplier_at, notional_at, observation_days_at}
 use Rattle.irs_elements.specs.Numbers.{offset_at, precision_at}
 use Rattle.irs_elements.specs.declared.table.Choice.{Choice, TheVariants.ExactlyOne}
@@ -15,12 +15,12 @@ use Rattle.irs_elements.specs.declared.table.Count.{Count}
 use Rattle.irs_elements.specs.declared.table.Kind.{Kind, TheVariants.Object}
 use Rattle.irs_elements.specs.declared.table.Leaf.TheVariants as Leaf
 use Rattle.irs_elements.specs.declared.table.Leaf.{Leaf as LeafKind}
-use Rattle.irs_read.proofs.Clean.{either_there, if_there, kind_at, leaf_at}
+use Rattle.irs_read.proofs.Clean.{clean_leaf, either_there, if_there, kind_at, leaf_at}
 use Rattle.irs_read.proofs.Ranges.{count_range, currency_range, index_range, name_range, roll_range}
 use Rattle.irs_read.proofs.Ranges.{said_in, size_range}
 use Rattle.irs_read.proofs.Ranges.{tenor_unit_range, within_range}
 use Rattle.irs_read.proofs.Rows.{At, Path, RowIs, facts, is_named, most_of, row_of}
-use Rattle.irs_read.proofs.Tells.{Any, Gives, LeafIs, Many, all_tell, just, leaf_tells, member_tells, perhaps, there, told}
+use Rattle.irs_read.proofs.Tells.{Any, Gives, Many, all_tell, just, member_tells, perhaps, there, told}
 use Rattle.irs_read.proofs.TableLaws.{code_names as row_names}
 use Rattle.irs_read.specs.{Private.Sayings.TextSays, Readings.Says, Readings.said}
 use Rattle.irs_read.specs.declared.table.TheConstants.{ROWS}
@@ -29,8 +29,8 @@ use Rattle.irs_terms.specs.Lawful.{IsObservationDays}
 use Rattle.irs_terms.specs.declared.frequency.Unit.TheVariants.{T as Term}
 use Rattle.serde_json.specs.Data.{Data}
 use Rattle.std.proofs.Common.{Bool, IfSome, List, None, Option, Some, ap, codes, false, if◌then◌else◌, is_some}
-use Rattle.std.proofs.Common.{pos, refl, slice_get, subst, sym, true, unsigned_abs, ℕ, ◌≡◌, ◌≤◌, ◌∙◌, ◌∷◌}
-use Rattle.std.proofs.lemmas.Option.{IfSome_then}
+use Rattle.std.proofs.Common.{pos, refl, slice_get, subst, sym, true, true≢false, unsigned_abs, ℕ, ◌≡◌, ◌≤◌, ◌∙◌, ◌∷◌}
+use Rattle.std.proofs.lemmas.Option.{IfSome_then, same_Some}
 
 -- so it is of what breaks no rule at the end of a path, if what is found of the rows is what is stated
 pub record Reads {S A : Type 0} (field : S → A) (P : Data → S → Type 0) (L : A → Type 0) : Type 1 where
@@ -45,16 +45,6 @@ Whole P L = Reads (λ a. a) P L
 
 -- ---- objects
 
--- two that an object says
-pub both : {S A B : Type 0} {f : S → A} {g : S → B} {P Q : S → Type 0} {L : A → Type 0} {M : B → Type 0} → Gives f P L
-    → Gives g Q M → Gives {A = A × B} (λ s. (f s, g s)) (λ s. P s × Q s) (λ (t : A × B). L t.0 × M t.1)
-both h k = record {
-  is = (h.is, k.is);
-  says = λ s e. (h.says s (ap (λ t. t.0) e), k.says s (ap (λ t. t.1) e));
-  only = λ s q. λ i. (h.only s q.0 i, k.only s q.1 i);
-  lawful = (h.lawful, k.lawful);
-}
-
 infixr 30 ◌also◌
 -- these members, and more of the same object
 abbrev pub ◌also◌ : {S A B : Type 0} {f : S → A} {g : S → B} {P Q : Data → S → Type 0} {L : A → Type 0}
@@ -64,7 +54,15 @@ v also w = record {
   Facts = v.Facts × w.Facts;
   found = λ p. (v.found p, w.found p);
   stated = λ p. (v.stated p, w.stated p);
-  tells = λ p e d clean. both (v.tells p (ap (λ t. t.0) e) d clean) (w.tells p (ap (λ t. t.1) e) d clean);
+  tells = λ p e d clean.
+      let h = v.tells p (ap (λ t. t.0) e) d clean in
+      let k = w.tells p (ap (λ t. t.1) e) d clean in
+      record {
+        is = (h.is, k.is);
+        says = λ s i. (h.says s (ap (λ t. t.0) i), k.says s (ap (λ t. t.1) i));
+        only = λ s q. λ i. (h.only s q.0 i, k.only s q.1 i);
+        lawful = (h.lawful, k.lawful);
+      };
 }
 
 -- one that a field says
@@ -244,14 +242,33 @@ either first a v make lawful b w build lawful' = record {
 
 -- ---- leaves: where the text of one is in order it has a value, and that lies in its range
 
+-- what is there has a value
+pub some_is : {A : Type 0} (o : Option A) → is_some o ≡ true → (x : A) × (o ≡ Some x)
+some_is None e = absurd (true≢false (sym e))
+some_is (Some x) e = (x, refl)
+
+-- a kind of leaf: where its text is in order it has a value, and that lies in its range
+pub record LeafIs {A : Type 0} (kind : LeafKind) (at : List ℕ → Option A) (L : A → Type 0) : Type 0 where
+  pub agree : (s : List ℕ) → has_value kind s ≡ is_some (at s)
+  pub range : (d : Data) → IfSome (said at (Some d)) L
+
 -- a leaf of a kind
 abbrev pub leaf : {A : Type 0} {L : A → Type 0} {kind : LeafKind} {at : List ℕ → Option A} → LeafIs kind at L
     → Whole (TextSays at) L
-leaf {kind = kind} is = record {
+leaf {A = A} {L = L} {kind = kind} {at = at} is = record {
   Facts = Option LeafKind;
   found = λ p. leaf_at (slice_get ROWS (row_of p));
   stated = λ p. Some kind;
-  tells = λ p e d clean. leaf_tells p is e d clean;
+  tells = λ p e d clean.
+      let s = clean_leaf ROWS row_names (row_of p) kind d e clean.clean in
+      let valued : is_some (said at (Some d)) ≡ true = rw s.found (sym (is.agree (text_of_leaf s.says)) ∙ s.valued) in
+      let (a, found) = some_is (said at (Some d)) valued in
+      record {
+        is = a;
+        says = λ b i. found ∙ ap Some (sym i);
+        only = λ b h. same_Some b a (sym h ∙ found);
+        lawful = subst (λ (q : Option A). IfSome q L) found (is.range d);
+      };
 }
 
 -- by the texts that have a value

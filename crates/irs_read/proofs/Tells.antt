@@ -2,19 +2,17 @@
 use Prim.Native.String.{String}
 use Rattle.irs_base.{proofs.EveryLemmas.one_partners, specs.Lists.Pairs}
 use Rattle.irs_elements.specs.Elements.{is_required, member, most, once, values_in}
-use Rattle.irs_elements.specs.Leaves.{has_value}
-use Rattle.irs_elements.specs.{Leaves.text_of_leaf, declared.table.Count.Count, declared.table.Leaf.Leaf as LeafKind}
+use Rattle.irs_elements.specs.declared.table.{Count.Count, Leaf.Leaf as LeafKind}
 use Rattle.irs_json.specs.Leaves.{child_of}
-use Rattle.irs_read.proofs.Clean.{Fine, clean_leaf, clean_once, clean_there, fine_values, first_value, leaf_at}
+use Rattle.irs_read.proofs.Clean.{Fine, clean_once, clean_there, fine_values, first_value}
 use Rattle.irs_read.proofs.Rows.{At, AtMost, Path, RowIs, is_member, is_named, is_needed}
 use Rattle.irs_read.proofs.{Rows.most_of, Rows.row_of, TableLaws.code_names as row_names}
-use Rattle.irs_read.specs.Readings.{Says, said}
-use Rattle.irs_read.specs.declared.table.TheConstants.{ROWS}
+use Rattle.irs_read.specs.{Readings.Says, declared.table.TheConstants.ROWS}
 use Rattle.serde_json.specs.Data.{Data}
-use Rattle.std.proofs.Common.{None, IfSome, is_some, slice_get, All, codes, refl, sym, ap, subst, ◌∙◌, arith, ◌≡◌, ℕ}
-use Rattle.std.proofs.Common.{suc, if◌then◌else◌, ◌≤◌, Bool, true, false, true≢false, List, [], ◌∷◌, length, Option, Some}
+use Rattle.std.proofs.Common.{None, IfSome, slice_get, All, codes, refl, sym, ap, subst, ◌∙◌, arith, ◌≡◌, ℕ}
+use Rattle.std.proofs.Common.{suc, if◌then◌else◌, ◌≤◌, Bool, true, false, List, [], ◌∷◌, length, Option, Some}
 use Rattle.std.proofs.lemmas.List.Elements.{All-cons, All-nil}
-use Rattle.std.proofs.lemmas.Option.{IfSome_then, same_Some, slice_get_within}
+use Rattle.std.proofs.lemmas.Option.{IfSome_then, slice_get_within}
 
 -- one value of a field is said, and it lies in a range
 pub record Gives {S A : Type 0} (field : S → A) (P : S → Type 0) (L : A → Type 0) : Type 0 where
@@ -77,32 +75,6 @@ perhaps p name row (Some d) clean =
     subst (λ (n : List ℕ). AtMost (name ∷ p) (once n d)) (is_named p name row) (IfSome_then _ {Q = At (name ∷ p)}
     (clean_once ROWS row_names (row_of p) (row_of (name ∷ p)) d (is_member p name row) clean.clean)
     (λ x inner. record { clean = inner }))
-
--- ---- leaves
-
-some_is : {A : Type 0} (o : Option A) → is_some o ≡ true → (x : A) × (o ≡ Some x)
-some_is None e = absurd (true≢false (sym e))
-some_is (Some x) e = (x, refl)
-
--- a kind of leaf: where its text is in order it has a value, and that lies in its range
-pub record LeafIs {A : Type 0} (kind : LeafKind) (at : List ℕ → Option A) (L : A → Type 0) : Type 0 where
-  pub agree : (s : List ℕ) → has_value kind s ≡ is_some (at s)
-  pub range : (d : Data) → IfSome (said at (Some d)) L
-
--- what a leaf says
-pub leaf_tells : {A : Type 0} {L : A → Type 0} {kind : LeafKind} {at : List ℕ → Option A} (p : Path)
-    → LeafIs kind at L → leaf_at (slice_get ROWS (row_of p)) ≡ Some kind → (d : Data) → At p d
-    → Tells (λ a. said at (Some d) ≡ Some a) L
-leaf_tells {A = A} {L = L} {kind = kind} {at = at} p leaf is d clean =
-    let s = clean_leaf ROWS row_names (row_of p) kind d is clean.clean in
-    let valued : is_some (said at (Some d)) ≡ true = rw s.found (sym (leaf.agree (text_of_leaf s.says)) ∙ s.valued) in
-    let (a, e) = some_is (said at (Some d)) valued in
-    record {
-      is = a;
-      says = λ b i. e ∙ ap Some (sym i);
-      only = λ b h. same_Some b a (sym h ∙ e);
-      lawful = subst (λ (q : Option A). IfSome q L) e (leaf.range d);
-    }
 
 -- ---- lists
 
