@@ -20,10 +20,14 @@ pub said_at : {A : Type 0} {xs : List Data} (says : Data → A → Type 0) (vs :
     → IsSaid (Pairs says xs) → (i : ℕ) (v : Value) → i < length vs → v ≡ get_or vs i v → IsSaid (says (view v))
 said_at {A = A} says vs e h = at_place says vs h.0 (subst (λ (xs : List Data). Pairs says xs h.0) (sym e) h.1)
 
+-- the list so far has what the first i values say
+abbrev pub SoFar : {A : Type 0} → (Data → A → Type 0) → List Value → ℕ → List A → Type 0
+SoFar says vs i all = Pairs says (map view (take i vs)) all
+
 -- one value more
 pub says_more : {A : Type 0} (says : Data → A → Type 0) (vs : List Value) (i : ℕ) (v : Value) (old new : List A) (a : A)
-    → i < length vs → v ≡ get_or vs i v → Pairs says (map view (take i vs)) old → says (view v) a
-    → new ≡ old ++ a ∷ [] → Pairs says (map view (take (i + 1) vs)) new
+    → i < length vs → v ≡ get_or vs i v → SoFar says vs i old → says (view v) a → new ≡ old ++ a ∷ []
+    → SoFar says vs (i + 1) new
 says_more {A = A} says vs i v old new a lt is h p e =
     let more : map view (take (i + 1) vs) ≡ map view (take i vs) ++ view v ∷ [] =
     ap (map view) (take_more vs i v lt ∙ ap (λ (x : Value). take i vs ++ x ∷ []) (sym is))
@@ -34,7 +38,7 @@ says_more {A = A} says vs i v old new a lt is h p e =
 
 -- all values
 pub says_all : {A : Type 0} {xs : List Data} (says : Data → A → Type 0) (vs : List Value) (i : ℕ) (all : List A)
-    → map view vs ≡ xs → length vs ≤ i → Pairs says (map view (take i vs)) all → Pairs says xs all
+    → map view vs ≡ xs → length vs ≤ i → SoFar says vs i all → Pairs says xs all
 says_all says vs i all e le h = subst (λ (xs : List Data). Pairs says xs all) (ap (map view) (take_all i vs le) ∙ e) h
 
 -- ---- lists of centres

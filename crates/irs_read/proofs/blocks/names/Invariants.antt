@@ -1,9 +1,6 @@
-use Rattle.irs_base.specs.Lists.{Pairs}
 use Rattle.irs_read.proofs.blocks.names.Given as goal
-use Rattle.irs_read.specs.StreamElements.{center_name}
-use Rattle.serde_json.specs.View.{view}
-use Rattle.std.proofs.Common.{map, take}
+use Rattle.irs_read.{proofs.EachSaid.SoFar, specs.StreamElements.center_name}
 
 -- the names so far are those that the items so far say
 abbrev pub invariant-loop-name : goal.invariant-loop-name
-invariant-loop-name l = Pairs center_name.says (map view (take l.name-index l.name-items)) l.names
+invariant-loop-name l = SoFar center_name.says l.name-items l.name-index l.names
