@@ -46,7 +46,7 @@ document_tells d at found none =
     λ j x e. clean_stream j x (λ f. free.free j x f e) in
     let good = all_good ds clean in
     of_fields _
-    (λ s all. (refl, refl, λ h. (omega (arith, free.low, h.many), omega (arith, free.high, h.many), h.each)))
+    (λ s all. (refl, refl, λ h. (omega (arith, free.low, h.0), omega (arith, free.high, h.0), h.1)))
     (by_field (λ (s : Swap). s.streams)
     (each_tells (StreamSays (lists_of ds)) ds (λ j x e. stream_tells (lists_of ds) good x (clean j x e))))
 

@@ -1,6 +1,7 @@
 -- A clean value says one value, and that one lies in its range: for leaves, members and lists.
 use Prim.Native.String.{String}
-use Rattle.irs_base.{proofs.EveryLemmas.one_partners, specs.Lists.Pairs}
+use Rattle.irs_base.proofs.{EveryLemmas.one_partners, EveryLemmas.pairs_length, MemberLemmas.pairs_there}
+use Rattle.irs_base.specs.Lists.{Pairs}
 use Rattle.irs_elements.specs.Elements.{is_required, member, most, once, values_in}
 use Rattle.irs_elements.specs.declared.table.{Count.Count, Leaf.Leaf as LeafKind}
 use Rattle.irs_json.specs.Leaves.{child_of}
@@ -78,34 +79,28 @@ perhaps p name row (Some d) clean =
 
 -- ---- lists
 
--- as many values as there are, each in the range
-pub record ListIs {A : Type 0} (L : A → Type 0) (n : ℕ) (all : List A) : Type 0 where
-  pub many : length all ≡ n
-  pub each : All L all
+-- what values say of which each says one value, and that one in the range, is in the range
+lawful_each : {A : Type 0} {L : A → Type 0} (says : Data → A → Type 0) (xs : List Data)
+    → ((j : ℕ) (x : Data) → slice_get xs j ≡ Some x → Tells (says x) L) → (all : List A) → Pairs says xs all → All L all
+lawful_each {L = L} says [] t [] h = All-nil L
+lawful_each says [] t (a ∷ all) h = absurd h
+lawful_each says (x ∷ xs) t [] h = absurd h
+lawful_each {L = L} says (x ∷ xs) t (a ∷ all) h =
+    let first = t 0 x refl in
+    All-cons L a all (subst L (sym (first.only a h.0)) first.lawful)
+    (lawful_each says xs (λ j y e. t (suc j) y e) all h.1)
 
-one_said : {A : Type 0} {L : A → Type 0} (says : Data → A → Type 0) (xs : List Data)
-    → ((j : ℕ) (x : Data) → slice_get xs j ≡ Some x → Tells (says x) L)
-    → (all bs : List A) → Pairs says xs all → Pairs says xs bs → all ≡ bs
-one_said says xs t = one_partners says xs (λ j x e a b p q. (t j x e).only a p ∙ sym ((t j x e).only b q))
-
--- each value of a list
+-- each value of a list: as many values as there are, each in the range
 pub each_tells : {A : Type 0} {L : A → Type 0} (says : Data → A → Type 0) (xs : List Data)
-    → ((j : ℕ) (x : Data) → slice_get xs j ≡ Some x → Tells (says x) L) → Tells (Pairs says xs) (ListIs L (length xs))
-each_tells {L = L} says [] t =
-    let lawful : ListIs L 0 [] = record { many = refl; each = All-nil L } in
-    record { is = []; says = λ b e. rw e tt; only = λ b h. one_said says [] t b [] h tt; lawful = lawful }
-each_tells {L = L} says (x ∷ xs) t =
-    let first : Tells (says x) L = t 0 x refl in
-    let more : Tells (Pairs says xs) (ListIs L (length xs)) = each_tells says xs (λ j y e. t (suc j) y e) in
-    let both : Pairs says (x ∷ xs) (first.is ∷ more.is) = (first.says first.is refl, more.says more.is refl) in
+    → ((j : ℕ) (x : Data) → slice_get xs j ≡ Some x → Tells (says x) L)
+    → Tells (Pairs says xs) (λ (all : List A). (length all ≡ length xs) × All L all)
+each_tells says xs t =
+    let (all, both) = pairs_there says xs (λ j x e. ((t j x e).is, (t j x e).says (t j x e).is refl)) in
     record {
-      is = first.is ∷ more.is;
-      says = λ b e. subst (Pairs says (x ∷ xs)) (sym e) both;
-      only = λ b h. one_said says (x ∷ xs) t b (first.is ∷ more.is) h both;
-      lawful = record {
-        many = omega (arith, more.lawful.many);
-        each = All-cons L first.is more.is first.lawful more.lawful.each;
-      };
+      is = all;
+      says = λ b e. subst (Pairs says xs) (sym e) both;
+      only = λ b h. one_partners says xs (λ j x e a c p q. (t j x e).only a p ∙ sym ((t j x e).only c q)) b all h both;
+      lawful = (pairs_length says xs all both, lawful_each says xs t all both);
     }
 
 -- no more than the table allows, and each of them clean
@@ -145,5 +140,5 @@ all_tell p name often says row top tells d clean =
       is = t.is;
       says = t.says;
       only = t.only;
-      lawful = (omega (arith, some, t.lawful.many), omega (arith, few, top, t.lawful.many), t.lawful.each);
+      lawful = (omega (arith, some, t.lawful.0), omega (arith, few, top, t.lawful.0), t.lawful.1);
     }
