@@ -41,8 +41,7 @@ within_range low high (Some z) =
     (λ e. (grind (arith, ints, nat_tests), grind (arith, ints, nat_tests)))
 
 size : (m : ℕ) (z : ℤ) → Between (neg_ℤ (pos m)) (pos m) z → unsigned_abs z ≤ m
-size m (pos n) h = omega (arith, ints, h)
-size m (negsuc n) h = omega (arith, ints, h)
+size m z h = omega (arith, ints, h)
 
 -- a number from -m to m
 pub size_range : (m : ℕ) (o : Option ℤ) → IfSome (within (neg_ℤ (pos m)) (pos m) o) (λ z. unsigned_abs z ≤ m)
