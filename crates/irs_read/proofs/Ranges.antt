@@ -9,7 +9,7 @@ use Rattle.irs_terms.specs.declared.codes.RollCode.TheVariants.{Dom, Eom, Imm, N
 use Rattle.irs_terms.specs.declared.frequency.Unit.TheVariants.{D, W, M, Y, T as Term}
 use Rattle.irs_terms.specs.Lawful.{IsLawfulCurrency, IsLawfulIndex, IsLawfulName, IsLawfulRoll}
 use Rattle.irs_terms.specs.declared.frequency.Unit.{Unit as PeriodUnit}
-use Rattle.std.proofs.Common.{negsuc, neg_ℤ, ◌≤ℤ◌, int_le, unsigned_abs, Option, Some, None, IfSome, option_map, ◌≡◌, ℕ}
+use Rattle.std.proofs.Common.{neg_ℤ, ◌≤ℤ◌, int_le, unsigned_abs, Option, Some, None, IfSome, option_map, ◌≡◌, ℕ}
 use Rattle.std.proofs.Common.{option_and_then, refl, arith, if◌then◌else◌, bytes_eq, codes, ℤ, pos, ◌+◌, ◌-◌, ◌*◌}
 use Rattle.std.proofs.Common.{◌≤◌, nat_le, nat_lt, Bool, true, false, ◌&&◌, ◌==◌, not, List, [], ◌∷◌, length, get_or}
 use Rattle.std.proofs.lemmas.{Bool.Decides.nat_tests, Int.ints, List.Sums.AllPass-from_list_all, Option.IfSome_then}
@@ -40,16 +40,13 @@ within_range low high (Some z) =
     guarded (Between low high) (int_le low z && int_le z high) (Some z)
     (λ e. (grind (arith, ints, nat_tests), grind (arith, ints, nat_tests)))
 
-size : (m : ℕ) (z : ℤ) → Between (neg_ℤ (pos m)) (pos m) z → unsigned_abs z ≤ m
-size m z h = omega (arith, ints, h)
-
 -- a number from -m to m
 pub size_range : (m : ℕ) (o : Option ℤ) → IfSome (within (neg_ℤ (pos m)) (pos m) o) (λ z. unsigned_abs z ≤ m)
-size_range m o = IfSome_then _ (within_range (neg_ℤ (pos m)) (pos m) o) (size m)
+size_range m o =
+    IfSome_then _ {Q = λ z. unsigned_abs z ≤ m} (within_range (neg_ℤ (pos m)) (pos m) o) (λ z h. omega (arith, ints, h))
 
 up : (l m : ℕ) (z : ℤ) → Between (pos l) (pos m) z → (l ≤ unsigned_abs z) × (unsigned_abs z ≤ m)
-up l m (pos n) h = (omega (arith, ints, h), omega (arith, ints, h))
-up l m (negsuc n) h = absurd (omega (arith, ints, h))
+up l m z h = (omega (arith, ints, h), omega (arith, ints, h))
 
 -- a number from l to m, without a sign
 pub count_range : (l m : ℕ) (s : List ℕ)
