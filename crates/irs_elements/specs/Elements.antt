@@ -167,7 +167,7 @@ module _ (rows : List Row) (names : List (List ℕ)) where
   -- whether a row below the object at row r has the name
   abbrev pub is_known : ℕ → List ℕ → Bool
   is_known r name =
-      list_any (λ (c, row). nat_lt r c && row.parent == r && bytes_eq (name_at names c) name) (enumerate_from 0 rows)
+      list_any (λ (c, row). bytes_eq (name_at names c) name && nat_lt r c && row.parent == r) (enumerate_from 0 rows)
 
   -- a name that is no attribute's and that no row has
   abbrev pub is_unknown : ℕ → List ℕ → Bool

@@ -199,7 +199,7 @@ pub fn is_known(rows: &[Row], names: &[&'static str], r: usize, name: &str) -> b
     ensures { result ≡ is_known_in rows.now (referenced_texts names.now) r name.now }
 {
     rows.iter().enumerate().any(|(c, row)| {
-        r < c && row.parent == r && name_of(names, c) == name
+        name_of(names, c) == name && r < c && row.parent == r
     })
 }
 
