@@ -1,6 +1,6 @@
 -- A table of elements, the values in it, and the rules that a value breaks by it.
 use Rattle.serde_json.specs.{Data.Data, View.view, declared.value.Value.Value, Find.as_str}
-use Rattle.std.specs.{Borrow.Bor, List.list_any, List.enumerate_from, Str.bytes_eq}
+use Rattle.std.specs.{Borrow.Bor, List.list_any, List.enumerate_from, List.find, Str.bytes_eq}
 use Rattle.std.specs.Prelude.{ℕ, List, [], Option, Some, None, option_map, option_and_then, slice_get, map, ◌≡◌, Bool}
 use Rattle.std.specs.Prelude.{true, false, not, ◌&&◌, ◌||◌, ◌==◌, ◌<◌, ◌≤◌, ◌+◌, length, is_some, is_none, codes}
 use Rattle.std.specs.Prelude.{if◌then◌else◌, nat_lt}
@@ -163,11 +163,18 @@ module _ (names : List (List ℕ)) where
   choice_unmet (ExactlyOne a b) d =
       if stands a d && stands b d then Some Both else (if stands a d || stands b d then None else Some Neither)
 
+-- whether the row with that number is below the object at row r, and has the name
+abbrev pub is_named : List (List ℕ) → ℕ → List ℕ → ℕ × Row → Bool
+is_named names r name (c, row) = bytes_eq (name_at names c) name && nat_lt r c && row.parent == r
+
 module _ (rows : List Row) (names : List (List ℕ)) where
+  -- the row of the member with this name of the object at row r: the first below it that has the name
+  abbrev pub row_of : ℕ → List ℕ → Option ℕ
+  row_of r name = option_map (λ (c, row). c) (find (is_named names r name) (enumerate_from 0 rows))
+
   -- whether a row below the object at row r has the name
   abbrev pub is_known : ℕ → List ℕ → Bool
-  is_known r name =
-      list_any (λ (c, row). bytes_eq (name_at names c) name && nat_lt r c && row.parent == r) (enumerate_from 0 rows)
+  is_known r name = is_some (row_of r name)
 
   -- a name that is no attribute's and that no row has
   abbrev pub is_unknown : ℕ → List ℕ → Bool
@@ -176,8 +183,7 @@ module _ (rows : List Row) (names : List (List ℕ)) where
   -- c is the row of a member of the object at row r
   pub record IsMemberRow (r c : ℕ) (row : Row) : Type 0 where
     pub found : slice_get rows c ≡ Some row
-    pub parent : row.parent ≡ r
-    pub later : r < c
+    pub own : row_of r (name_at names c) ≡ Some c
 
 module _ (rows : List Row) (names : List (List ℕ)) (stream : ℕ) where
   -- the rules that an object breaks beside those of its members

@@ -20,4 +20,4 @@ pub use find::{leaf_text, member, once, values, values_at};
 pub use leaves::leaf_rule;
 pub use order::{comes_before, earlier};
 pub use table::{Choice, Count, Kind, Leaf, Row, Table};
-pub use walk::{first_fault, has_odd, is_known};
+pub use walk::{first_fault, has_odd, row_of};

@@ -5,19 +5,19 @@
 ghost use Rattle.irs_elements.specs.Elements.{FaultAt, absent_index as absent_index_of};
 ghost use Rattle.irs_elements.specs.Elements.{are_two as are_two_of, choice_unmet as choice_unmet_of, elem_at};
 ghost use Rattle.irs_elements.specs.Elements.{has_odd as has_odd_of, index_in as index_in_of};
-ghost use Rattle.irs_elements.specs.Elements.{is_known as is_known_in, is_odd as is_odd_of};
-ghost use Rattle.irs_elements.specs.Elements.{is_required as is_required_of, is_unknown, lacks_href as lacks_href_of};
-ghost use Rattle.irs_elements.specs.Elements.{most as most_of, name_at, referenced_texts, seen};
+ghost use Rattle.irs_elements.specs.Elements.{is_element as is_element_of, is_named, is_odd as is_odd_of};
+ghost use Rattle.irs_elements.specs.Elements.{is_required as is_required_of, lacks_href as lacks_href_of};
+ghost use Rattle.irs_elements.specs.Elements.{most as most_of, name_at, referenced_texts, row_of as row_of_in, seen};
 ghost use Rattle.irs_elements.specs.Elements.{stands as stands_of, unmet_place};
 ghost use Rattle.irs_elements.specs.Leaves.{leaf_rule as leaf_rule_of};
-ghost use Rattle.irs_elements.specs.Private.Walk.{Any, IsUnbroken, ItemsFault, MemberFault, OwnFault, RowFault};
-ghost use Rattle.irs_elements.specs.Private.Walk.{fault_if, names_in, place_in};
-ghost use Rattle.irs_json.specs.Leaves.{child_of, element_names, is_attribute_name as is_attribute_name_of, leaf_of};
+ghost use Rattle.irs_elements.specs.Private.Walk.{AbsentFault, Any, ElementFault, ElementsFault, ItemsFault, JointFault};
+ghost use Rattle.irs_elements.specs.Private.Walk.{NamedFault, PresentFault, fault_if, is_absent as is_absent_in};
+ghost use Rattle.irs_elements.specs.Private.Walk.{is_odd_element as is_odd_element_of, names_in, place_in};
+ghost use Rattle.irs_json.specs.Leaves.{child_of, elements_left, leaf_of};
 ghost use Rattle.irs_terms.specs.Faults.{IsFirstBroken, earlier_broken};
 ghost use Rattle.serde_json.specs.View.{view};
-ghost use Rattle.std.specs.List.{Contains, list_any};
-ghost use Rattle.std.specs.Prelude.{◌≡◌, ◌+◌, ◌<◌, ◌&&◌, ◌==◌, IsSome, List, Some, map, nat_lt};
-ghost use Rattle.std.specs.Prelude.{option_map, true, ℕ};
+ghost use Rattle.std.specs.List.{enumerate_from, find};
+ghost use Rattle.std.specs.Prelude.{◌≡◌, ◌<◌, ◌&&◌, ◌==◌, IfSome, List, Some, length, map, nat_lt, option_map, ℕ};
 
 use crate::leaves::leaf_rule;
 use crate::order::earlier;
@@ -76,6 +76,15 @@ fn leaf_fault(table: &Table<'_>, r: usize, leaf: Leaf, index: u32, v: &Value) ->
 {
     let rule = leaf_rule(leaf, v)?;
     Some(broken(table, rule, r, index))
+}
+
+fn is_element(kind: Kind) -> bool
+    ensures { result ≡ is_element_of kind }
+{
+    match kind {
+        Kind::Object(_) | Kind::Leaf(_) => true,
+        Kind::Passed | Kind::Refused => false,
+    }
 }
 
 fn is_required(count: Count) -> bool
@@ -193,32 +202,28 @@ fn is_member(row: &Row, r: usize, c: usize) -> bool
     row.parent == r && r < c
 }
 
-/// Whether a row below the object at row `r` has the name; these rows come after its own.
+/// The row of the member with this name of the object at row `r`, with its number: the first row below it that has the
+/// name. These rows come after the object's.
 #[inline(never)]
-pub fn is_known(rows: &[Row], names: &[&'static str], r: usize, name: &str) -> bool
-    ensures { result ≡ is_known_in rows.now (referenced_texts names.now) r name.now }
+pub fn row_of<'a>(
+    rows: &'a [Row],
+    names: &[&'static str],
+    r: usize,
+    name: &str,
+) -> Option<(usize, &'a Row)>
+    ensures { option_map (λ p. (p.0, p.1.now)) result
+        ≡ find (is_named (referenced_texts names.now) r name.now) (enumerate_from 0 rows.now) }
 {
-    rows.iter().enumerate().any(|(c, row)| {
-        name_of(names, c) == name && r < c && row.parent == r
+    rows.iter().enumerate().find(|(c, row)| {
+        name_of(names, *c) == name && r < *c && row.parent == r
     })
 }
 
-// Of the names of an object at row r: whether the table doesn't know one, and whether one is an
-// attribute's.
-fn names_seen(table: &Table<'_>, r: usize, listed: MemberIter<'_>) -> (bool, bool)
-    ensures unknown { result.0
-        ≡ list_any (is_unknown table.now.rows.now (names_in table.now) r) listed.entry }
-    ensures attribute { result.1 ≡ list_any is_attribute_name_of listed.entry }
+// Whether an element is `@id` or `@href`, and no text.
+fn is_odd_element(name: &str, m: &Value) -> bool
+    ensures { result ≡ is_odd_element_of name.now (view m.now) }
 {
-    let (mut unknown, mut attribute) = (false, false);
-    for name in listed {
-        if is_attribute_name(name) {
-            attribute = true;
-        } else if !is_known(table.rows, table.names, r, name) {
-            unknown = true;
-        }
-    }
-    (unknown, attribute)
+    (name == "@id" || name == "@href") && m.as_str().is_none()
 }
 
 // Whether an attribute is there and is no text.
@@ -252,48 +257,12 @@ fn first_of(first: Option<Broken>, found: Option<Broken>) -> Option<Broken>
     }
 }
 
-// The first rule that the names of an object break: an attribute is odd, or the table doesn't know a
-// name. Mostly there is neither.
-fn names_fault(
-    table: &Table<'_>,
-    r: usize,
-    index: u32,
-    v: &Value,
-    listed: MemberIter<'_>,
-) -> Option<Broken>
-    requires { (name : List ℕ) → IsSome (child_of name (view v.now)) → Contains listed name }
-    ensures { result ≡ earlier_broken
-        (fault_if (has_odd_of (view v.now)) (place_in table.now Rule.K3 r index))
-        (fault_if (list_any (is_unknown table.now.rows.now (names_in table.now) r) listed.entry)
-        (place_in table.now Rule.K4 r index)) }
+// The first rule that an object breaks by what its members must be together.
+fn joint_fault(table: &Table<'_>, r: usize, choice: Choice, index: u32, v: &Value) -> Option<Broken>
+    ensures { IsFirstBroken (JointFault table.now r choice index (view v.now)) result }
 {
-    let (unknown, attribute) = names_seen(table, r, listed);
-    if !unknown && !attribute {
-        return None;
-    }
-    let odd = broken_if(attribute && has_odd(v), table, Rule::K3, r, index);
-    first_of(odd, broken_if(unknown, table, Rule::K4, r, index))
-}
-
-// The first rule that an object with these names breaks beside those of its members.
-fn shape_fault(
-    table: &Table<'_>,
-    r: usize,
-    choice: Choice,
-    index: u32,
-    v: &Value,
-    listed: MemberIter<'_>,
-) -> Option<Broken>
-    requires names { element_names (view v.now) ≡ Some listed }
-    requires found { (name : List ℕ) → IsSome (child_of name (view v.now)) → Contains listed name }
-    ensures { IsFirstBroken
-        (OwnFault table.now r choice index (view v.now))
-        result }
-{
-    let unmet = choice_fault(table, r, choice, index, v);
     let no_href = broken_if(lacks_href(choice, v), table, Rule::K2, r, index);
-    let asked = first_of(unmet, no_href);
-    first_of(asked, names_fault(table, r, index, v, listed))
+    first_of(choice_fault(table, r, choice, index, v), no_href)
 }
 
 /// The first rule that is broken by `v` at row `r` of the table, with this kind and index, in the
@@ -307,8 +276,9 @@ pub fn first_fault(table: &Table<'_>, r: usize, kind: Kind, index: u32, v: &Valu
         Kind::Object(choice) => match members(v) {
             None => Some(broken(table, Rule::K3, r, index)),
             Some(listed) => {
-                let shape = shape_fault(table, r, choice, index, v, listed);
-                first_of(shape, members_fault(table, r, index, v))
+                let joint = joint_fault(table, r, choice, index, v);
+                let present = first_of(joint, elements_fault(table, r, index, listed));
+                first_of(present, absent_fault(table, r, index, v))
             },
         },
         Kind::Leaf(leaf) => leaf_fault(table, r, leaf, index, v),
@@ -316,66 +286,78 @@ pub fn first_fault(table: &Table<'_>, r: usize, kind: Kind, index: u32, v: &Valu
     }
 }
 
-// Whether the member at row c is a leaf that occurs once and breaks no rule, as most members are.
-fn is_right_leaf(table: &Table<'_>, c: usize, row: &Row, v: &Value) -> bool
-    ensures { result ≡ true → IsUnbroken table.now c row.now
-        (view v.now) }
-{
-    match row.kind {
-        Kind::Leaf(leaf) => match member_at(table.names, c, v) {
-            None => false,
-            Some(member) => match items(member).as_slice() {
-                [one] => 0 < most(row.count) && leaf_rule(leaf, one).is_none(),
-                [] | [_, _, ..] => false,
-            },
-        },
-        Kind::Object(_) | Kind::Passed | Kind::Refused => false,
-    }
-}
-
-// The first rule that the members of an object at row r break.
+// The first rule that the elements of an object at row r break.
 #[cycle(faults)]
-fn members_fault(table: &Table<'_>, r: usize, index: u32, v: &Value) -> Option<Broken>
-    ensures { IsFirstBroken
-        (Any (RowFault table.now r index (view v.now)))
-        result }
+fn elements_fault(table: &Table<'_>, r: usize, index: u32, listed: MemberIter<'_>) -> Option<Broken>
+    ensures { IsFirstBroken (ElementsFault table.now r index (elements_left listed.entry)) result }
 {
     let mut first = None;
-    for c in r..table.rows.len() {
-        let row = &table.rows[c];
-        if is_member(row, r, c) && !is_right_leaf(table, c, row, v) {
-            first = first_of(first, member_fault(table, c, row, index, v));
-        }
+    for item in listed {
+        first = first_of(first, element_fault(table, r, index, item.0, item.1));
     }
     first
 }
 
-// The first rule that the member at row c breaks.
+// The first rule that the element `m` of an object at row r breaks, or its name.
 #[cycle(faults)]
-fn member_fault(table: &Table<'_>, c: usize, row: &Row, index: u32, v: &Value) -> Option<Broken>
-    ensures { IsFirstBroken
-        (MemberFault table.now c row.now index (view v.now))
-        result }
+fn element_fault(table: &Table<'_>, r: usize, index: u32, name: &str, m: &Value) -> Option<Broken>
+    ensures { IsFirstBroken (ElementFault table.now r index (name.now, view m.now)) result }
+{
+    let odd = broken_if(is_odd_element(name, m), table, Rule::K3, r, index);
+    first_of(named_fault(table, r, index, name, m), odd)
+}
+
+// The same but for attributes that are no text.
+#[cycle(faults)]
+fn named_fault(table: &Table<'_>, r: usize, index: u32, name: &str, m: &Value) -> Option<Broken>
+    ensures { IsFirstBroken (NamedFault table.now r index name.now (view m.now)
+        (row_of_in table.now.rows.now (names_in table.now) r name.now)) result }
+{
+    match row_of(table.rows, table.names, r, name) {
+        None => broken_if(!is_attribute_name(name), table, Rule::K4, r, index),
+        Some((c, row)) => present_fault(table, c, row, index, m),
+    }
+}
+
+// The first rule that the member at row c breaks, which occurs as `m`.
+#[cycle(faults)]
+fn present_fault(table: &Table<'_>, c: usize, row: &Row, index: u32, m: &Value) -> Option<Broken>
+    ensures { IsFirstBroken (PresentFault table.now c row.now index (view m.now)) result }
 {
     match row.kind {
-        Kind::Object(_) | Kind::Leaf(_) => match member_at(table.names, c, v) {
-            None => {
-                let at = absent_index(row.count, index);
-                broken_if(is_required(row.count), table, Rule::K2, c, at)
-            },
-            Some(member) => items_fault(table, c, row, index, items(member).as_slice()),
+        Kind::Object(_) | Kind::Leaf(_) => {
+            items_fault(table, c, row, index, items(m).as_slice())
         },
         Kind::Passed => None,
-        Kind::Refused => {
-            broken_if(
-                stands(table.names, c, v),
-                table,
-                Rule::K5,
-                row.parent,
-                index,
-            )
-        },
+        Kind::Refused => Some(broken(table, Rule::K5, row.parent, index)),
     }
+}
+
+// Whether the row at c is that of a member of the object at row r that must occur and is absent.
+fn is_absent(table: &Table<'_>, r: usize, c: usize, row: &Row, v: &Value) -> bool
+    ensures { result ≡ is_absent_in table.now r c row.now (view v.now) }
+{
+    is_member(row, r, c)
+        && is_element(row.kind)
+        && is_required(row.count)
+        && !stands(table.names, c, v)
+        && row_of(table.rows, table.names, r, name_of(table.names, c)).is_some_and(|(k, _)| k == c)
+}
+
+// The first absence among the members of an object at row r.
+fn absent_fault(table: &Table<'_>, r: usize, index: u32, v: &Value) -> Option<Broken>
+    ensures { IsFirstBroken (Any (AbsentFault table.now r index (view v.now))) result }
+{
+    let mut first = None;
+    for c in r..table.rows.len() {
+        let row = &table.rows[c];
+        let at = absent_index(row.count, index);
+        first = first_of(
+            first,
+            broken_if(is_absent(table, r, c, row, v), table, Rule::K2, c, at),
+        );
+    }
+    first
 }
 
 // The first rule that the values of the member at row c break.

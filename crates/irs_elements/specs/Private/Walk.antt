@@ -8,8 +8,14 @@ use Rattle.irs_base.specs.Texts.{is_digit, number_after}
 use Rattle.irs_terms.specs.declared.places.Broken.{Broken}
 use Rattle.irs_terms.specs.declared.places.Rule.{Rule}
 use Rattle.irs_terms.specs.declared.places.Rule.TheVariants.{K2, K3, K4, K5, K6, K7}
-use Rattle.irs_elements.specs.Elements.{FaultAt, FaultUnder, IsMemberRow, ShapeFault, index_in, most, place}
-use Rattle.irs_elements.specs.Elements.{referenced_texts}
+use Rattle.irs_elements.specs.Elements.{FaultAt, FaultUnder, absent_index, choice_unmet, index_in, is_element}
+use Rattle.irs_elements.specs.Elements.{is_refused, is_required, lacks_href, most, name_at, place, referenced_texts, row_of, stands}
+use Rattle.irs_elements.specs.Elements.{unmet_place}
+use Rattle.irs_elements.specs.declared.walk.Unmet.{Unmet}
+use Rattle.irs_json.specs.Leaves.{child_of, is_attribute_name, items_of}
+use Rattle.serde_json.specs.Find.{as_str}
+use Rattle.std.specs.Str.{bytes_eq}
+use Rattle.std.specs.Prelude.{[], ◌∷◌, ◌||◌, ◌==◌, codes, false, is_none, not, true}
 use Rattle.irs_elements.specs.declared.table.{Choice.Choice, Kind.Kind, Row.Row, Table.Table}
 
 -- ---- the number that the text of a decimal spells, as a function of the text
@@ -46,6 +52,15 @@ IsOfTables k = ⊥
 abbrev pub Any : (ℕ → Broken → Type 0) → Broken → Type 0
 Any F f = (n : ℕ) × F n f
 
+-- `@id` or `@href`, and no text
+abbrev pub is_odd_element : List ℕ → Data → Bool
+is_odd_element name m = (bytes_eq name (codes "@id") || bytes_eq name (codes "@href")) && is_none (as_str m)
+
+-- the row is this one
+abbrev pub is_row : ℕ → Option ℕ → Bool
+is_row c None = false
+is_row c (Some k) = k == c
+
 module _ (t : Table) where
   -- the names at the rows
   abbrev pub names_in : List (List ℕ)
@@ -59,17 +74,9 @@ module _ (t : Table) where
   abbrev pub ValueFault : ℕ → Kind → ℕ → Data → Broken → Type 0
   ValueFault = FaultAt t.rows.now names_in t.stream
 
-  -- those of an object beside its members'
-  abbrev pub OwnFault : ℕ → Choice → ℕ → Data → Broken → Type 0
-  OwnFault = ShapeFault t.rows.now names_in t.stream
-
   -- those of the member at row c of the object d, which has index i
   abbrev pub MemberFault : ℕ → Row → ℕ → Data → Broken → Type 0
   MemberFault = FaultUnder t.rows.now names_in t.stream
-
-  -- those of the row c, where it is a member's of the object d at row r
-  abbrev pub RowFault : ℕ → ℕ → Data → ℕ → Broken → Type 0
-  RowFault r i d c f = (row : Row) × (IsMemberRow t.rows.now names_in r c row × MemberFault c row i d f)
 
   -- those of the j-th of the values ds of the member at row c, in an object with index i
   abbrev pub ItemFault : ℕ → Row → ℕ → List Data → ℕ → Broken → Type 0
@@ -82,6 +89,42 @@ module _ (t : Table) where
       ((most row.count < length ds) × (f ≡ place_in K7 c 0))
       ⊎ ((length ds ≤ most row.count) × Any (ItemFault c row i ds) f)
 
-  -- no rule is broken by the member at row c of the object d, with whatever index
-  abbrev pub IsUnbroken : ℕ → Row → Data → Type 0
-  IsUnbroken c row d = (i : ℕ) (f : Broken) → MemberFault c row i d f → ⊥
+  -- those of the member at row c that occurs as m
+  abbrev pub PresentFault : ℕ → Row → ℕ → Data → Broken → Type 0
+  PresentFault c row i m f =
+      ((is_refused row.kind ≡ true) × (f ≡ place_in K5 row.parent i))
+      ⊎ ((is_element row.kind ≡ true) × ItemsFault c row i (items_of m) f)
+
+  -- those of the element m of the object at row r, whose name has this row, if any
+  abbrev pub NamedFault : ℕ → ℕ → List ℕ → Data → Option ℕ → Broken → Type 0
+  NamedFault r i name m None f = (is_attribute_name name ≡ false) × (f ≡ place_in K4 r i)
+  NamedFault r i name m (Some c) f = (row : Row) × ((slice_get t.rows.now c ≡ Some row) × PresentFault c row i m f)
+
+  -- those of an element with its name: by its row, or as an attribute that is no text
+  abbrev pub ElementFault : ℕ → ℕ → List ℕ × Data → Broken → Type 0
+  ElementFault r i (name, m) f =
+      NamedFault r i name m (row_of t.rows.now names_in r name) f
+      ⊎ ((is_odd_element name m ≡ true) × (f ≡ place_in K3 r i))
+
+  -- those of each of these elements
+  abbrev pub ElementsFault : ℕ → ℕ → List (List ℕ × Data) → Broken → Type 0
+  ElementsFault r i [] f = ⊥
+  ElementsFault r i (e ∷ es) f = ElementFault r i e f ⊎ ElementsFault r i es f
+
+  -- whether the row c is that of a member of the object d at row r that must occur, and is absent
+  abbrev pub is_absent : ℕ → ℕ → Row → Data → Bool
+  is_absent r c row d =
+      nat_lt r c && row.parent == r && is_element row.kind && is_required row.count && not (stands names_in c d)
+      && is_row c (row_of t.rows.now names_in r (name_at names_in c))
+
+  -- the fault of such an absence at row c
+  abbrev pub AbsentFault : ℕ → ℕ → Data → ℕ → Broken → Type 0
+  AbsentFault r i d c f =
+      (row : Row) × ((slice_get t.rows.now c ≡ Some row) × ((is_absent r c row d ≡ true)
+      × (f ≡ place_in K2 c (absent_index row.count i))))
+
+  -- those of an object by what its members must be together
+  abbrev pub JointFault : ℕ → Choice → ℕ → Data → Broken → Type 0
+  JointFault r choice i d f =
+      ((u : Unmet) × ((choice_unmet names_in choice d ≡ Some u) × (f ≡ unmet_place t.rows.now t.stream r i u)))
+      ⊎ ((lacks_href choice d ≡ true) × (f ≡ place_in K2 r i))

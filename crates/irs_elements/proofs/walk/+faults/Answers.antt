@@ -1,12 +1,17 @@
 use Rattle.std.proofs.Common.{rules, ◌≡◌, ◌<◌, None, Some, get_or, length, map, refl, sym, ap, ◌∙◌, arith}
 use Rattle.std.proofs.lemmas.List.{length-map}
-use Rattle.std.proofs.lemmas.Option.{slice_get-get_or, slice_get_read}
+use Rattle.std.proofs.lemmas.Option.{slice_get-get_or, slice_get_read, slice_get_within}
 use Rattle.serde_json.specs.View.{view}
 use Rattle.irs_json.specs.Leaves.{element_names, items_of}
 use Rattle.irs_elements.specs.Elements.{seen}
-use Rattle.irs_elements.proofs.Steps.{member_step, members_first, object_first, other_step, own_first, right_step}
-use Rattle.irs_elements.proofs.Steps.{some_row}
-use Rattle.irs_elements.proofs.Steps.{under_missing, under_refused, under_items, items_first, item_step}
+use Rattle.irs_elements.proofs.First.{first_or}
+use Rattle.irs_elements.specs.Private.Walk.{is_odd_element, names_in, place_in}
+use Rattle.irs_json.specs.Leaves.{elements_left}
+use Rattle.irs_terms.specs.declared.places.Rule.TheVariants.{K3}
+use Rattle.std.proofs.Common.{[], find, option_map}
+use Rattle.std.specs.List.{enumerate_from}
+use Rattle.irs_elements.specs.Elements.{is_named}
+use Rattle.irs_elements.proofs.Steps.{first_if, found_row, inner_first, known_first, left_less, object_first, item_step, items_first, own_first}
 use Rattle.irs_elements.proofs.walk.+faults.Goals as goal
 
 pub first_fault-returns-in-None : goal.first_fault-returns-in-None
@@ -16,59 +21,10 @@ first_fault-returns-in-None t c =
     c.args.index c.args.kind (view c.args.v.now) (Some c.broken.result)
     (rw (c.in-Object.is, absent) (ap Some c.broken.ensures)) (λ ch e. absent)
 
-pub first_fault-returns-in-Some : goal.first_fault-returns-in-Some
-first_fault-returns-in-Some t c =
-    rw (c.first_of.ensures, c.in-Object.is) (object_first c.args.table.now c.args.r c.args.index c.in-Object.choice
-    (view c.args.v.now) c.in-Some.listed (sym c.in-Some.ensures.names) _ _ c.shape_fault-shape.ensures
-    c.members_fault.ensures)
-
 pub first_fault-returns-in-Leaf : goal.first_fault-returns-in-Leaf
 first_fault-returns-in-Leaf t c =
     own_first c.args.table.now c.args.r
     c.args.index c.args.kind (view c.args.v.now) _ (rw c.in-Leaf.is c.leaf_fault.ensures) (λ ch e. cc (c.in-Leaf.is))
-
-pub members_fault-returns : goal.members_fault-returns
-members_fault-returns t c =
-    members_first c.args.table.now c.args.r c.args.index _ (view c.args.v.now) _ (omega arith) c.loop-c.invariant
-
-pub members_fault-loop-c-preserved : goal.members_fault-loop-c-preserved
-members_fault-loop-c-preserved t c =
-    let rows = c.args.table.now.rows.now in
-    let d = view c.args.v.now in
-    let inside : c.loop-c.c < length rows = grind (arith, c.loop-c-test.true) in
-    let found = slice_get-get_or rows c.loop-c.c some_row inside in
-    let row = get_or rows c.loop-c.c some_row in
-    elim c.if-is_member.branch [
-      | goal.members_fault-then-is_member+then-not-is_right_leaf w ↦
-          member_step c.args.table.now c.args.r c.args.index c.loop-c.c d row c.loop-c.first _ _ found
-          (sym c.is_member.ensures ∙ w.if-is_member.true) (w.first-is ∙ w.first_of-first.ensures) c.loop-c.invariant
-          w.member_fault.ensures
-      | goal.members_fault-else-is_member w ↦ elim w.else-is_member.branch [
-        | goal.members_fault-else-is_member-via-then-is_member+else-not-is_right_leaf w' ↦
-            right_step c.args.table.now c.args.r c.args.index c.loop-c.c d row c.loop-c.first _ found
-            (w'.is_right_leaf.ensures w'.if-not-is_right_leaf.false) w.first-is c.loop-c.invariant
-        | goal.members_fault-else-is_member-via-else-is_member w' ↦
-            other_step c.args.table.now c.args.r c.args.index c.loop-c.c d row c.loop-c.first _ found
-            (sym c.is_member.ensures ∙ w'.if-is_member.false) w.first-is c.loop-c.invariant
-      ]
-    ]
-
-pub member_fault-returns-in-Refused : goal.member_fault-returns-in-Refused
-member_fault-returns-in-Refused t c =
-    rw (c.broken_if-in-Refused.ensures, c.stands.ensures) (under_refused c.args.table.now c.args.c c.args.index
-    c.args.row.now (view c.args.v.now) c.in-Refused.is)
-
-pub member_fault-returns-in-None : goal.member_fault-returns-in-None
-member_fault-returns-in-None t c =
-    rw (c.broken_if.ensures, c.is_required.ensures, c.absent_index-at.ensures) (under_missing c.args.table.now c.args.c
-    c.args.index c.args.row.now (view c.args.v.now) (search rules) (sym c.member_at.ensures ∙ ap seen c.in-None.is))
-
-pub member_fault-returns-in-Some : goal.member_fault-returns-in-Some
-member_fault-returns-in-Some t c =
-    let listed : map view c.as_slice.result.now ≡ items_of (view c.in-Some.member.now) =
-    ap (map view) c.as_slice.ensures ∙ c.items.ensures in
-    under_items c.args.table.now c.args.c c.args.index c.args.row.now (view c.args.v.now) _ _ (search rules)
-    (sym c.member_at.ensures ∙ ap seen c.in-Some.is) (rw listed at c.items_fault.ensures)
 
 pub items_fault-returns : goal.items_fault-returns
 items_fault-returns t c =
@@ -82,3 +38,50 @@ items_fault-loop-j-preserved t c =
     let found = slice_get_read _ _ c.loop-j.j c.index-list-j.result refl c.loop-j-test.true c.index-list-j.is in
     item_step c.args.table.now c.args.c c.args.index c.args.row.now c.loop-j.j _ c.args.list.now c.index-list-j.result _ _ _
     found c.index_in-at.ensures c.first_of-first.ensures c.loop-j.invariant c.first_fault.ensures
+
+pub element_fault-returns : goal.element_fault-returns
+element_fault-returns t c =
+    rw (c.first_of.ensures, c.broken_if-odd.ensures, c.is_odd_element.ensures) (first_or _ _ _ _ c.named_fault.ensures
+    (first_if (place_in c.args.table.now K3 c.args.r c.args.index) (is_odd_element c.args.name.now (view c.args.m.now))))
+
+pub elements_fault-loop-item-init : goal.elements_fault-loop-item-init
+elements_fault-loop-item-init t c = ([], (ap elements_left (sym c.into_iter-item-iterator.ensures.into_iter_gives), λ f u. u))
+
+pub elements_fault-loop-item-preserved : goal.elements_fault-loop-item-preserved
+elements_fault-loop-item-preserved t c =
+    left_less c.args.table.now c.args.r c.args.index _ _ (c.in-Some.item.0.now, view c.in-Some.item.1.now) _ _ _
+    (rw c.in-Some.ensures.steps at c.loop-item.invariant) c.element_fault.ensures c.first_of-first.ensures
+
+pub first_fault-returns-in-Some : goal.first_fault-returns-in-Some
+first_fault-returns-in-Some t c =
+    rw (c.first_of.ensures, c.first_of-present.ensures, c.in-Object.is) (object_first c.args.table.now c.args.r c.args.index
+    c.in-Object.choice (view c.args.v.now) (elements_left c.in-Some.listed) (sym c.in-Some.ensures.names)
+    (λ name m h. (c.in-Some.ensures.found name m).0 h) (λ name m h. (c.in-Some.ensures.found name m).1 h) _ _ _
+    c.joint_fault-joint.ensures c.elements_fault.ensures c.absent_fault.ensures)
+
+pub present_fault-returns-in-Object : goal.present_fault-returns-in-Object
+present_fault-returns-in-Object t c =
+    let listed : map view c.as_slice.result.now ≡ items_of (view c.args.m.now) =
+    ap (map view) c.as_slice.ensures ∙ c.items.ensures in
+    inner_first c.args.table.now c.args.c c.args.index c.args.row.now (view c.args.m.now) _ (search rules)
+    (rw listed at c.items_fault.ensures)
+
+pub named_fault-returns-in-Some : goal.named_fault-returns-in-Some
+named_fault-returns-in-Some t c =
+    let table = c.args.table.now in
+    let found : find (is_named (names_in table) c.args.r c.args.name.now) (enumerate_from 0 table.rows.now)
+    ≡ Some (c.in-Some.c, c.in-Some.row.now) =
+    sym c.row_of.ensures ∙ ap (option_map (λ p. (p.0, p.1.now))) c.in-Some.is in
+    known_first table c.args.r c.args.index c.in-Some.c c.args.name.now (view c.args.m.now) c.in-Some.row.now _ _
+    (ap (option_map (λ e. e.0)) found) (found_row table c.args.r c.args.name.now _ found).1.1.1 c.present_fault.ensures
+
+pub named_fault-present_fault-requires : goal.named_fault-present_fault-requires
+named_fault-present_fault-requires t c =
+    let table = c.args.table.now in
+    let found : find (is_named (names_in table) c.args.r c.args.name.now) (enumerate_from 0 table.rows.now)
+    ≡ Some (c.in-Some.c, c.in-Some.row.now) =
+    sym c.row_of.ensures ∙ ap (option_map (λ p. (p.0, p.1.now))) c.in-Some.is in
+    let is = found_row table c.args.r c.args.name.now _ found in
+    let later : c.args.r < c.in-Some.c = is.1.0 in
+    let within : c.in-Some.c < length table.rows.now = slice_get_within table.rows.now c.in-Some.c c.in-Some.row.now is.1.1.1 in
+    omega (arith, later, within)
