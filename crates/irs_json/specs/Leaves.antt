@@ -1,14 +1,17 @@
 -- Elements in JSON: how an object carries them, and what a leaf says.
 use Rattle.std.specs.Prelude.{ℕ, Bool, ◌||◌, ◌==◌, List, [], ◌∷◌, reverse, if◌then◌else◌, Option, Some, None}
-use Rattle.std.specs.Prelude.{option_and_then, ℤ, pos, false, codes}
+use Rattle.std.specs.Prelude.{option_and_then, option_map, ℤ, pos, false, codes}
 use Rattle.serde_json.specs.Data.{Data, null, boolean, number, string, array, object, no_items, item, Members}
 use Rattle.serde_json.specs.Data.{no_members, member, Items, Num, unsigned, negative, float}
 use Rattle.serde_json.specs.Find.{get}
-use Rattle.std.specs.List.{list_all}
+use Rattle.serde_json.specs.View.{members_view}
+use Rattle.std.specs.List.{list_all, cons_option}
+use Rattle.std.specs.Map.{keys_of}
 use Rattle.std.specs.Str.{bytes_eq}
 use Rattle.serde_json.specs.declared.value.Value.{Value}
 use Rattle.irs_json.specs.declared.leaves.LeafValue.{LeafValue}
 use Rattle.irs_json.specs.declared.leaves.LeafValue.TheVariants.{Word, Whole, Truth}
+use Rattle.irs_json.specs.declared.names.MemberIter.{MemberIter}
 use Rattle.irs_json.specs.declared.values.ItemIter.{ItemIter}
 
 -- ---- text without the white space at its ends: space, tab, LF, CR
@@ -30,21 +33,7 @@ trim_back xs = reverse (trim_front (reverse xs))
 abbrev pub trim : List ℕ → List ℕ
 trim xs = trim_back (trim_front xs)
 
--- ---- the names of the elements that an object holds
-
--- the names of the members that don't count as absent, in their order in the object
-abbrev pub member_names : Members → List (List ℕ)
-member_names no_members = []
-member_names (member k null ms) = member_names ms
-member_names (member k (array no_items) ms) = member_names ms
-member_names (member k d ms) = k ∷ member_names ms
-
--- the names of an object's elements; no other value has elements
-abbrev pub element_names : Data → Option (List (List ℕ))
-element_names (object ms) = Some (member_names ms)
-element_names _ = None
-
--- ---- an element as it appears in a JSON object
+-- ---- the elements that an object holds
 
 -- null and the empty array count as absent, and every other value is itself
 abbrev pub present : Data → Option Data
@@ -55,6 +44,24 @@ present d = Some d
 -- the element of that name: the member, unless it counts as absent; only an object has any
 abbrev pub child_of : List ℕ → Data → Option Data
 child_of name d = option_and_then present (get name d)
+
+-- the members that don't count as absent, with their names, in their order in the object
+abbrev pub element_members : Members → List (List ℕ × Data)
+element_members no_members = []
+element_members (member k d ms) = cons_option (option_map (λ e. (k, e)) (present d)) (element_members ms)
+
+-- the names of the members that don't count as absent, in their order in the object
+abbrev pub member_names : Members → List (List ℕ)
+member_names ms = keys_of (element_members ms)
+
+-- an object's elements with their names; no other value has elements
+abbrev pub elements_of : Data → Option (List (List ℕ × Data))
+elements_of (object ms) = Some (element_members ms)
+elements_of _ = None
+
+-- the names of an object's elements
+abbrev pub element_names : Data → Option (List (List ℕ))
+element_names d = option_map keys_of (elements_of d)
 
 -- ---- the values of a repeated element
 
@@ -120,3 +127,11 @@ leaf_seen (Truth b) = truth b
 -- the remaining values of an `ItemIter`
 abbrev pub items_left : ItemIter → List Value
 items_left s = s.left.now
+
+-- the remaining elements of a `MemberIter`, with their names
+abbrev pub elements_left : MemberIter → List (List ℕ × Data)
+elements_left s = element_members (members_view s.left)
+
+-- the names of the remaining elements
+abbrev pub names_left : MemberIter → List (List ℕ)
+names_left s = keys_of (elements_left s)

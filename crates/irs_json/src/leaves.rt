@@ -1,7 +1,7 @@
 //! A leaf is a string, a whole number or a truth value. An object whose member `#text` is one of
 //! these, and whose other members are attributes, is a leaf too. White space at both ends of a leaf
 //! is dropped.
-ghost use Rattle.irs_json.specs.Leaves.{bare_leaf, is_attribute_name, is_beside, leaf_of, leaf_seen};
+ghost use Rattle.irs_json.specs.Leaves.{bare_leaf, is_attribute_name, is_beside, leaf_of, leaf_seen, names_left};
 ghost use Rattle.serde_json.specs.View.{view};
 ghost use Rattle.std.specs.List.{list_all};
 ghost use Rattle.std.specs.Prelude.{◌≡◌, option_map};
@@ -30,7 +30,7 @@ pub fn leaf<'a>(v: &'a Value) -> Option<LeafValue<'a>>
 {
     match members(v) {
         None => bare(v),
-        Some(names) => if are_beside(names) {
+        Some(elements) => if are_beside(elements) {
             match child(v, "#text") {
                 None => None,
                 Some(text) => bare(text),
@@ -62,10 +62,10 @@ fn bare(v: &Value) -> Option<LeafValue<'_>>
 }
 
 // Whether each name is `#text` or an attribute's.
-fn are_beside(mut names: MemberIter<'_>) -> bool
-    ensures { result ≡ list_all is_beside names.entry }
+fn are_beside(mut elements: MemberIter<'_>) -> bool
+    ensures { result ≡ list_all is_beside (names_left elements.entry) }
 {
-    names.all(|name| name == "#text" || is_attribute_name(name))
+    elements.all(|(name, _)| name == "#text" || is_attribute_name(name))
 }
 
 /// Whether the name is that of an attribute: it begins with `@`.
